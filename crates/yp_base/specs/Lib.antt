@@ -1,0 +1,4 @@
+pub mod Coding
+pub mod Order
+pub mod OrderLaws
+pub mod Rows

@@ -1,0 +1,19 @@
+//! The values, paths, rows and notices that every crate of the publisher speaks of.
+//!
+//! Contracts see each list type as the list of its items, a text as the list of its bytes, a JSON
+//! payload as its data, a counter of steps as a number, and all else as plain fields and variants.
+//! Paths are ordered segment by segment, a prefix first (`specs/Order.antt`).
+//! Values and their texts follow RFC 7950 section 9 and RFC 7951 section 6; paths RFC 8040 section
+//! 3.5.3; notices RFC 8641 and RFC 8639.
+#![tactic(auto)]
+
+pub mod atom;
+pub mod leaf_type;
+pub mod memory;
+pub mod notice;
+pub mod path;
+pub mod payload;
+pub mod row;
+pub mod series;
+pub mod steps;
+pub mod txt;
