@@ -2,3 +2,4 @@ pub mod Coding
 pub mod Order
 pub mod OrderLaws
 pub mod Rows
+pub mod Types

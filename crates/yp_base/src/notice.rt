@@ -60,7 +60,10 @@ pub type Changes = Series<Change>;
 #[derive(Drop)]
 pub enum Notice {
     /// `push-update`
-    Full { id: u32, rows: Rows },
+    Full {
+        id: u32,
+        rows: Rows,
+    },
     /// `push-change-update`
     Changes {
         id: u32,
@@ -69,15 +72,25 @@ pub enum Notice {
         incomplete: bool,
     },
     /// `subscription-started`
-    Started { id: u32 },
+    Started {
+        id: u32,
+    },
     /// `subscription-modified`
-    Modified { id: u32 },
+    Modified {
+        id: u32,
+    },
     /// `subscription-suspended`
-    Suspended { id: u32 },
+    Suspended {
+        id: u32,
+    },
     /// `subscription-resumed`
-    Resumed { id: u32 },
+    Resumed {
+        id: u32,
+    },
     /// `subscription-terminated`
-    Terminated { id: u32 },
+    Terminated {
+        id: u32,
+    },
 }
 
 impl Duplicate for Change {

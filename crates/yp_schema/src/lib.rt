@@ -1,0 +1,8 @@
+//! The compiled schema: the nodes of YANG modules, numbered in pre-order (RFC 7950).
+//!
+//! Contracts see a `Schema` as the list of its nodes, whose places are the nodes' numbers
+//! (`specs/Nodes.antt`). A member form is `module:name` at the top and where the module changes, and
+//! `name` elsewhere (RFC 7951 section 4).
+#![tactic(auto)]
+
+pub mod schema;
