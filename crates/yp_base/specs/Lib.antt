@@ -1,5 +1,7 @@
 pub mod Coding
+pub mod Json
 pub mod Order
 pub mod OrderLaws
 pub mod Rows
+pub mod Texts
 pub mod Types

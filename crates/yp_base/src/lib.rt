@@ -8,12 +8,15 @@
 #![tactic(auto)]
 
 pub mod atom;
+pub mod json;
 pub mod leaf_type;
 pub mod memory;
 pub mod notice;
+mod number;
 pub mod path;
 pub mod payload;
 pub mod row;
 pub mod series;
 pub mod steps;
+pub mod text;
 pub mod txt;
