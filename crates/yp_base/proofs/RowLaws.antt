@@ -1,7 +1,8 @@
 -- What putting, keeping and leaving out do to rows in order.
-use Rattle.std.proofs.Common.{◌≡◌, List, [], ◌∷◌, ◌++◌, map, refl, sym, ap, subst, ◌∙◌, cond, Bool, true, false, not, Some, None, Less, Equal, Greater}
+use Rattle.std.proofs.Common.{◌≡◌, List, [], ◌∷◌, ◌++◌, map, refl, sym, ap, subst, ◌∙◌, cond, Bool, true, false, not, Some, None, Less, Equal, Greater, append-nil, append_assoc}
 use Rattle.std.specs.Prelude.{filter}
 use Rattle.std.specs.Ordering.{is_eq, match_ordering, ordering_reverse}
+use Rattle.std.specs.declared.cmp.Ordering.{Ordering}
 use Rattle.std.specs.List.{AllByRecursion}
 use Rattle.std.specs.List.Sorted.{IsStrictlySortedBy}
 use Rattle.std.proofs.lemmas.List.Kept.{IsStrictlySortedBy-filter}
@@ -12,44 +13,69 @@ use Rattle.yp_base.specs.declared.row.Row.{Row}
 use Rattle.yp_base.specs.Order.{path_cmp, is_within}
 use Rattle.yp_base.specs.OrderLaws.{paths_total}
 use Rattle.yp_base.proofs.Exact.{paths_exact}
-use Rattle.yp_base.specs.Rows.{put_row, value_at, path_of, rows_within, rows_without, AreInOrder}
+use Rattle.yp_base.specs.Rows.{put_row, put_rows, value_at, path_of, rows_within, rows_without, AreInOrder}
 
-below_middle : (first : Row) (es : List Row) (e : Row) (more : List Row) → AllByRecursion (λ y. path_cmp first.path y ≡ Less) (map path_of (es ++ e ∷ more)) → path_cmp first.path e.path ≡ Less
+-- a path is before each of these rows
+abbrev pub AllPast : List Seg → List Row → Type 0
+AllPast path rows = AllByRecursion (λ other. path_cmp path other ≡ Less) (map path_of rows)
+
+-- a path that is before another is before all that the other is before
+pub all_past : (one two : List Seg) (rows : List Row) → path_cmp one two ≡ Less → AllPast two rows → AllPast one rows
+all_past one two [] less h = tt
+all_past one two (row ∷ rows) less h = (paths_total.trans one two row.path less h.0, all_past one two rows less h.1)
+
+above : (one two : List Seg) → path_cmp one two ≡ Less → path_cmp two one ≡ Greater
+above one two h = paths_total.antisymm two one ∙ ap ordering_reverse h
+
+pub below : (one two : List Seg) → path_cmp one two ≡ Greater → path_cmp two one ≡ Less
+below one two h = paths_total.antisymm two one ∙ ap ordering_reverse h
+
+pub none_order : AreInOrder []
+unfolding IsStrictlySortedBy
+none_order = tt
+
+pub first_order : (row : Row) (rows : List Row) → AreInOrder (row ∷ rows) → AllPast row.path rows
+unfolding IsStrictlySortedBy
+first_order row rows order = order.0
+
+pub rest_order : (row : Row) (rows : List Row) → AreInOrder (row ∷ rows) → AreInOrder rows
+unfolding IsStrictlySortedBy
+rest_order row rows order = order.1
+
+pub join_order : (row : Row) (rows : List Row) → AllPast row.path rows → AreInOrder rows → AreInOrder (row ∷ rows)
+unfolding IsStrictlySortedBy
+join_order row rows past order = (past, order)
+
+below_middle : (first : Row) (done : List Row) (e : Row) (more : List Row) → AllPast first.path (done ++ e ∷ more) → path_cmp first.path e.path ≡ Less
 below_middle first [] e more h = h.0
-below_middle first (x ∷ es) e more h = below_middle first es e more h.1
-
-above : (first e : Row) → path_cmp first.path e.path ≡ Less → path_cmp e.path first.path ≡ Greater
-above first e h = paths_total.antisymm e.path first.path ∙ ap ordering_reverse h
-
-below : (first e : Row) → path_cmp e.path first.path ≡ Greater → path_cmp first.path e.path ≡ Less
-below first e h = paths_total.antisymm first.path e.path ∙ ap ordering_reverse h
+below_middle first (row ∷ done) e more h = below_middle first done e more h.1
 
 -- a row that is past those before it goes last
 pub put_last_row : (done : List Row) (e : Row) (more : List Row) → AreInOrder (done ++ e ∷ more) → put_row e done ≡ done ++ e ∷ []
 unfolding IsStrictlySortedBy
 put_last_row [] e more h = refl
-put_last_row (first ∷ done) e more h = rw (above first e (below_middle first done e more h.0)) (ap (λ rows. first ∷ rows) (put_last_row done e more h.1))
+put_last_row (first ∷ done) e more h = rw (above first.path e.path (below_middle first done e more h.0)) (ap (λ rows. first ∷ rows) (put_last_row done e more h.1))
 
 -- and isn't among them
 pub not_there_yet : (done : List Row) (e : Row) (more : List Row) → AreInOrder (done ++ e ∷ more) → value_at e.path done ≡ None
 unfolding IsStrictlySortedBy
 not_there_yet [] e more h = refl
-not_there_yet (first ∷ done) e more h = rw (above first e (below_middle first done e more h.0)) (not_there_yet done e more h.1)
+not_there_yet (first ∷ done) e more h = rw (above first.path e.path (below_middle first done e more h.0)) (not_there_yet done e more h.1)
 
--- a path is below the rows and the new one
-put_above : (path : List Seg) (new : Row) (rows : List Row) → path_cmp path new.path ≡ Less → AllByRecursion (λ y. path_cmp path y ≡ Less) (map path_of rows) → AllByRecursion (λ y. path_cmp path y ≡ Less) (map path_of (put_row new rows))
+-- a row that is before the others goes first
+pub put_first : (new : Row) (rows : List Row) → AllPast new.path rows → put_row new rows ≡ new ∷ rows
+put_first new [] h = refl
+put_first new (row ∷ rows) h = ap (λ o. match_ordering o (new ∷ row ∷ rows) (record row { value = new.value } ∷ rows) (row ∷ put_row new rows)) h.0
+
+-- a path that is before the rows and before the new one is before all of them
+pub put_above : (path : List Seg) (new : Row) (rows : List Row) → path_cmp path new.path ≡ Less → AllPast path rows → AllPast path (put_row new rows)
 put_above path new [] less h = (less, tt)
 put_above path new (row ∷ rows) less h =
-    elim (path_cmp new.path row.path) as (λ r. AllByRecursion (λ y. path_cmp path y ≡ Less) (map path_of (match_ordering r (new ∷ row ∷ rows) (record row { value = new.value } ∷ rows) (row ∷ put_row new rows)))) [
+    elim (path_cmp new.path row.path) as (λ r. AllPast path (match_ordering r (new ∷ row ∷ rows) (record row { value = new.value } ∷ rows) (row ∷ put_row new rows))) [
       | Less ↦ (less, h)
       | Equal ↦ h
       | Greater ↦ (h.0, put_above path new rows less h.1)
     ]
-
--- a path that is below another is below all that the other is below
-all_past : (one two : List Seg) (paths : List (List Seg)) → path_cmp one two ≡ Less → AllByRecursion (λ y. path_cmp two y ≡ Less) paths → AllByRecursion (λ y. path_cmp one y ≡ Less) paths
-all_past one two [] less h = tt
-all_past one two (path ∷ paths) less h = (paths_total.trans one two path less h.0, all_past one two paths less h.1)
 
 -- rows in order are so with one more
 pub put_keeps_order : (new : Row) (rows : List Row) → AreInOrder rows → AreInOrder (put_row new rows)
@@ -57,24 +83,95 @@ unfolding IsStrictlySortedBy
 put_keeps_order new [] h = (tt, tt)
 put_keeps_order new (row ∷ rows) h =
     elim (path_cmp new.path row.path) as (λ r. path_cmp new.path row.path ≡ r → IsStrictlySortedBy path_cmp (map path_of (match_ordering r (new ∷ row ∷ rows) (record row { value = new.value } ∷ rows) (row ∷ put_row new rows)))) [
-      | Less ↦ λ e. ((e, all_past new.path row.path (map path_of rows) e h.0), h)
+      | Less ↦ λ e. ((e, all_past new.path row.path rows e h.0), h)
       | Equal ↦ λ e. h
-      | Greater ↦ λ e. (put_above row.path new rows (below row new e) h.0, put_keeps_order new rows h.1)
+      | Greater ↦ λ e. (put_above row.path new rows (below new.path row.path e) h.0, put_keeps_order new rows h.1)
     ] refl
 
+-- and with more
+pub puts_order : (news rows : List Row) → AreInOrder rows → AreInOrder (put_rows news rows)
+puts_order [] rows h = h
+puts_order (new ∷ news) rows h = puts_order news (put_row new rows) (put_keeps_order new rows h)
+
+put_all_past : (done news : List Row) → AreInOrder (done ++ news) → put_rows news done ≡ done ++ news
+put_all_past done [] h = sym (append-nil done)
+put_all_past done (new ∷ news) h =
+    ap (put_rows news) (put_last_row done new news h)
+    ∙ put_all_past (done ++ new ∷ []) news (subst AreInOrder (sym (append_assoc done (new ∷ []) news)) h)
+    ∙ append_assoc done (new ∷ []) news
+
+-- rows in order that are put to none are those rows
+pub put_to_none : (news : List Row) → AreInOrder news → put_rows news [] ≡ news
+put_to_none news h = put_all_past [] news h
+
 module _ (p : List Seg → Bool) where
+  -- the rows whose paths pass a test
+  abbrev pub picked : List Row → List Row
+  picked rows = filter (λ row. p row.path) rows
+
   -- the paths of some rows are some of the paths
-  pub paths_of_some : (rows : List Row) → map path_of (filter (λ row. p row.path) rows) ≡ filter p (map path_of rows)
+  pub paths_of_some : (rows : List Row) → map path_of (picked rows) ≡ filter p (map path_of rows)
   paths_of_some [] = refl
   paths_of_some (row ∷ rows) =
-      elim (p row.path) as (λ b. map path_of (cond b (row ∷ filter (λ row. p row.path) rows) (filter (λ row. p row.path) rows)) ≡ cond b (row.path ∷ filter p (map path_of rows)) (filter p (map path_of rows))) [
+      elim (p row.path) as (λ b. map path_of (cond b (row ∷ picked rows) (picked rows)) ≡ cond b (row.path ∷ filter p (map path_of rows)) (filter p (map path_of rows))) [
         | true ↦ ap (λ paths. row.path ∷ paths) (paths_of_some rows)
         | false ↦ paths_of_some rows
       ]
 
   -- some rows of rows in order are in order
-  pub some_keep_order : (rows : List Row) → AreInOrder rows → AreInOrder (filter (λ row. p row.path) rows)
+  pub some_keep_order : (rows : List Row) → AreInOrder rows → AreInOrder (picked rows)
   some_keep_order rows h = subst (λ (paths : List (List Seg)). IsStrictlySortedBy path_cmp paths) (sym (paths_of_some rows)) (IsStrictlySortedBy-filter path_cmp p (map path_of rows) h)
+
+  -- a path that is before the rows is before some of them
+  pub past_picked : (path : List Seg) (rows : List Row) → AllPast path rows → AllPast path (picked rows)
+  past_picked path [] h = tt
+  past_picked path (row ∷ rows) h =
+      elim (p row.path) as (λ b. AllPast path (cond b (row ∷ picked rows) (picked rows))) [
+        | true ↦ (h.0, past_picked path rows h.1)
+        | false ↦ past_picked path rows h.1
+      ]
+
+  less_case : (b : Bool) (new : Row) (rows : List Row) → put_row new rows ≡ new ∷ rows → cond b (new ∷ rows) rows ≡ cond b (put_row new rows) rows
+  less_case true new rows first = sym first
+  less_case false new rows first = refl
+
+  equal_case : (b : Bool) (new row : Row) (rows : List Row) → path_cmp new.path row.path ≡ Equal
+      → cond b (record row { value = new.value } ∷ rows) rows ≡ cond b (put_row new (cond b (row ∷ rows) rows)) (cond b (row ∷ rows) rows)
+  equal_case true new row rows is = sym (ap (λ o. match_ordering o (new ∷ row ∷ rows) (record row { value = new.value } ∷ rows) (row ∷ put_row new rows)) is)
+  equal_case false new row rows is = refl
+
+  greater_case : (b c : Bool) (new row : Row) (rows : List Row) → path_cmp new.path row.path ≡ Greater
+      → cond b (row ∷ cond c (put_row new rows) rows) (cond c (put_row new rows) rows) ≡ cond c (put_row new (cond b (row ∷ rows) rows)) (cond b (row ∷ rows) rows)
+  greater_case true true new row rows is = sym (ap (λ o. match_ordering o (new ∷ row ∷ rows) (record row { value = new.value } ∷ rows) (row ∷ put_row new rows)) is)
+  greater_case true false new row rows is = refl
+  greater_case false true new row rows is = refl
+  greater_case false false new row rows is = refl
+
+  put_at : (o : Ordering) (new row : Row) (rows : List Row) → path_cmp new.path row.path ≡ o → AllPast row.path rows
+      → picked (put_row new rows) ≡ cond (p new.path) (put_row new (picked rows)) (picked rows)
+      → picked (match_ordering o (new ∷ row ∷ rows) (record row { value = new.value } ∷ rows) (row ∷ put_row new rows)) ≡ cond (p new.path) (put_row new (picked (row ∷ rows))) (picked (row ∷ rows))
+  put_at Less new row rows is past later =
+      less_case (p new.path) new (picked (row ∷ rows)) (put_first new (picked (row ∷ rows)) (past_picked new.path (row ∷ rows) (is, all_past new.path row.path rows is past)))
+  put_at Equal new row rows is past later =
+      let same = ap p (paths_exact new.path row.path is) in
+      equal_case (p row.path) new row (picked rows) is ∙ ap (λ b. cond b (put_row new (picked (row ∷ rows))) (picked (row ∷ rows))) (sym same)
+  put_at Greater new row rows is past later =
+      ap (λ xs. cond (p row.path) (row ∷ xs) xs) later ∙ greater_case (p row.path) (p new.path) new row (picked rows) is
+
+  -- what is kept after a row is put is the row put to what is kept, or what was kept
+  pub picked-put : (new : Row) (rows : List Row) → AreInOrder rows → picked (put_row new rows) ≡ cond (p new.path) (put_row new (picked rows)) (picked rows)
+  picked-put new [] h = refl
+  picked-put new (row ∷ rows) h = put_at (path_cmp new.path row.path) new row rows refl (first_order row rows h) (picked-put new rows (rest_order row rows h))
+
+  puts_at : (b : Bool) (new : Row) (news rows : List Row) → put_rows (picked news) (cond b (put_row new rows) rows) ≡ put_rows (cond b (new ∷ picked news) (picked news)) rows
+  puts_at true new news rows = refl
+  puts_at false new news rows = refl
+
+  -- the same of rows that are put one after another
+  pub picked-puts : (news rows : List Row) → AreInOrder rows → picked (put_rows news rows) ≡ put_rows (picked news) (picked rows)
+  picked-puts [] rows h = refl
+  picked-puts (new ∷ news) rows h =
+      picked-puts news (put_row new rows) (put_keeps_order new rows h) ∙ ap (put_rows (picked news)) (picked-put new rows h) ∙ puts_at (p new.path) new news (picked rows)
 
 pub within_keeps_order : (path : List Seg) (rows : List Row) → AreInOrder rows → AreInOrder (rows_within path rows)
 within_keeps_order path rows h = some_keep_order (is_within path) rows h
@@ -94,7 +191,7 @@ value_at_put path new (row ∷ rows) =
           elim (is_eq (path_cmp path row.path)) as (λ b. is_eq (path_cmp path row.path) ≡ b → cond b (Some row.value) (value_at path (put_row new rows)) ≡ cond (is_eq (path_cmp path new.path)) (Some new.value) (cond b (Some row.value) (value_at path rows))) [
             | true ↦ λ h.
                 let same = tells_apart paths_exact path row.path h in
-                let apart : path_cmp path new.path ≡ Less = ap (λ p. path_cmp p new.path) same ∙ below row new e in
+                let apart : path_cmp path new.path ≡ Less = ap (λ p. path_cmp p new.path) same ∙ below new.path row.path e in
                 rw apart refl
             | false ↦ λ h. value_at_put path new rows
           ] refl
