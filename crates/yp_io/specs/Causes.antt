@@ -1,0 +1,7 @@
+-- When a fault may be answered.
+use Rattle.std.specs.Prelude.{ℕ, ◌+◌, ◌-◌, ◌^◌, ◌≤◌, min}
+
+-- the count rose, or it stands at its last value
+pub record Rose (before now : ℕ) : Type 0 where
+  pub later : before ≤ now
+  pub more : min (before + 1) (2 ^ 64 - 1) ≤ now

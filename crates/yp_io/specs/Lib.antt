@@ -1,0 +1,5 @@
+pub mod Causes
+pub mod Faults
+pub mod Memory
+pub mod Moves
+pub mod Whole

@@ -1,0 +1,20 @@
+//! Where bytes come from and where they go, with faults that are counted.
+//!
+//! A `Source` and a `Sink` each have a count of faults that never falls. A call fails only where the
+//! count rose, and no other answer raises it. A count that has reached its last value stands still, so
+//! "rose" means everywhere "rose, or stands at its last value" (`specs/Causes.antt`). Some sources tell
+//! contracts the bytes that are left, and some sinks the bytes that were written.
+//!
+//! `read_whole` reads a source to its end or one byte past a limit, and `write_whole` writes a list of
+//! bytes. `MemSource` and `MemSink` stand in memory and fail at chosen calls; `SafeSource` and
+//! `SafeSink` never fail; `StdSource` and `StdSink` wrap std's readers and writers and tell nothing of
+//! their bytes.
+#![tactic(auto)]
+
+pub mod memory;
+pub mod sink;
+pub mod source;
+pub mod streams;
+#[cfg(test)]
+mod tests;
+pub mod whole;
