@@ -1,0 +1,4 @@
+pub mod DayNumbers
+pub mod DaysInOrder
+pub mod Multiples
+pub mod Written

@@ -1,0 +1,4 @@
+pub mod Days
+pub mod Due
+pub mod Forms
+pub mod Instants
