@@ -59,18 +59,18 @@ abbrev pub has_none : {X : Type 0} → Option X → Bool
 has_none None = true
 has_none (Some x) = false
 
+abbrev pub is_leaf : Kind → Bool
+is_leaf Leaf = true
+is_leaf Container = false
+is_leaf Presence = false
+is_leaf Listing = false
+is_leaf LeafList = false
+
 -- a key is a leaf of the list and of its module, and isn't empty (RFC 7950 section 7.8.2)
 abbrev pub is_key_leaf : ℕ → List SchemaNode → ℕ → Bool
 is_key_leaf n nodes k =
     nat_lt k (length nodes) && same_number (node_at k nodes).parent (Some n) && is_leaf (node_at k nodes).kind && has_atom_type (node_at k nodes).ty
     && same_text (node_at k nodes).home (node_at n nodes).home
-  where
-    is_leaf : Kind → Bool
-    is_leaf Leaf = true
-    is_leaf Container = false
-    is_leaf Presence = false
-    is_leaf Listing = false
-    is_leaf LeafList = false
 
 abbrev pub are_key_leaves : ℕ → List SchemaNode → List ℕ → Bool
 are_key_leaves n nodes [] = true

@@ -5,4 +5,11 @@
 //! `name` elsewhere (RFC 7951 section 4).
 #![tactic(auto)]
 
+pub mod fault;
+pub mod index;
+pub mod listing;
+pub mod names;
+pub mod numbers;
+pub mod rule_path;
 pub mod schema;
+pub mod stated;

@@ -1,8 +1,16 @@
 //! The schema and its accessors.
-ghost use Rattle.std.specs.Prelude.{◌≡◌, ◌<◌, ℕ, length, IfSome, option_copied};
-ghost use Rattle.yp_schema.specs.WellFormed.{IsSchema};
+ghost use Rattle.std.specs.Prelude.{◌≡◌, ◌<◌, ℕ, length, map, IfSome, option_copied};
+ghost use Rattle.serde_json.specs.View.{view};
 ghost use Rattle.yp_schema.specs.Nodes.{node_at, child_of, is_key, is_in};
+ghost use Rattle.yp_schema.specs.Reading.{Reads, schema_of};
+ghost use Rattle.yp_schema.specs.WellFormed.{IsSchema};
 
+use crate::fault::SchemaFault;
+use crate::index::{Children, index_nodes, look_up, slot_of};
+use crate::listing::read_parts;
+use crate::numbers::number_nodes;
+use serde_json::Value as Json;
+use std::alloc::Global;
 use std::marker::Model;
 use yp_base::leaf_type::LeafType;
 use yp_base::series::Series;
@@ -37,21 +45,36 @@ pub struct SchemaNode {
 #[derive(Drop)]
 pub struct Schema {
     nodes: Vec<SchemaNode>,
+    index: Vec<Children>,
 }
 
 impl Model for Schema {
     ghost use Rattle.std.specs.Prelude.{List};
     ghost use Rattle.yp_schema.specs.declared.schema.SchemaNode.{SchemaNode};
+    ghost use Rattle.yp_schema.specs.Index.{IsIndex};
     ghost use Rattle.yp_schema.specs.WellFormed.{IsSchema};
 
     ghost Value = { List SchemaNode };
 
     ghost view = { λ s. s.nodes.items };
 
-    ghost invariant = { λ s. IsSchema s.nodes.items };
+    ghost invariant = { λ s. IsSchema s.nodes.items × IsIndex s.index.items s.nodes.items };
 }
 
 impl Schema {
+    /// The schema of some parts, each an array of nodes. Parts are taken in order, and each in two rounds:
+    /// in the first each node in order is tested for `Member`, `Duplicate`, `UnknownType`, `TooDeep` and
+    /// `TooMany`, in this order; in the second each list in order for `NoKey`, and then for `KeyNotLeaf`.
+    /// The first fault is answered, exactly where there is one.
+    pub fn read(alloc: Global, parts: &[Json]) -> Result<Schema, SchemaFault>
+        ensures read { Reads result (schema_of (map view parts.now)) }
+    {
+        let listing = read_parts(alloc, parts)?;
+        let nodes = number_nodes(alloc, listing)?;
+        let index = index_nodes(alloc, nodes.as_slice())?;
+        Ok(Schema { nodes, index })
+    }
+
     /// How many nodes there are. Each number below it is a node's.
     pub fn count(&self) -> u32
         ensures count { result ≡ length self.now }
@@ -142,19 +165,18 @@ impl Schema {
         }
     }
 
+    fn find(&self, parent: Option<u32>, member: &str) -> Option<u32>
+        ensures { result ≡ child_of parent member.now self.now }
+    {
+        look_up(self.index.as_slice(), slot_of(parent), member)
+    }
+
     /// The child of a node, or of the top, that has this member form.
     pub fn child(&self, parent: Option<u32>, member: &str) -> Option<u32>
         ensures found { result ≡ child_of parent member.now self.now }
         ensures within { IfSome result (λ node. node < length self.now) }
     {
-        let mut at = 0;
-        for node in self.nodes.as_slice() {
-            if node.parent == parent && node.member.as_str() == member {
-                return Some(at);
-            }
-            at += 1;
-        }
-        None
+        self.find(parent, member)
     }
 }
 
@@ -168,3 +190,6 @@ fn is_among(node: u32, nodes: &[u32]) -> bool
     }
     false
 }
+
+#[cfg(test)]
+mod tests;

@@ -1,0 +1,40 @@
+use Rattle.std.proofs.Common.{◌≡◌, ℕ, suc, ◌<◌, ◌+◌, ◌==◌, List, [], ◌∷◌, ◌++◌, length, take, drop, Bool, true, false, not, cond, refl, sym, ap, ◌∙◌, arith, rules, append_assoc, Option, Some, None}
+use Rattle.std.specs.List.{position_or_len, before_first, after_first, prefix_len}
+use Rattle.yp_schema.specs.Names.{Names, cut, onto_first}
+
+abbrev slash : ℕ → Bool
+slash b = b == 47
+
+found_at : (t : Bool) (b : ℕ) (bs : List ℕ) → (b == 47) ≡ t → position_or_len slash (b ∷ bs) < length (b ∷ bs)
+    → (position_or_len slash bs < length bs → cut bs ≡ before_first slash bs ∷ cut (after_first slash bs))
+    → cut (b ∷ bs) ≡ before_first slash (b ∷ bs) ∷ cut (after_first slash (b ∷ bs))
+found_at true b bs is h later = rw is refl
+found_at false b bs is h later =
+    let one : position_or_len slash (b ∷ bs) ≡ 1 + position_or_len slash bs = rw is refl in
+    let step : position_or_len slash (b ∷ bs) ≡ suc (position_or_len slash bs) = omega (arith, one) in
+    let less : position_or_len slash bs < length bs = omega (arith, step, h) in
+    let p = position_or_len slash bs in
+    let next : 1 + p ≡ suc p = omega arith in
+    let past : 1 + p + 1 ≡ suc (p + 1) = omega arith in
+    let front : take (1 + p) (b ∷ bs) ≡ b ∷ take p bs = ap (λ n. take n (b ∷ bs)) next in
+    let back : drop (1 + p + 1) (b ∷ bs) ≡ drop (p + 1) bs = ap (λ n. drop n (b ∷ bs)) past in
+    rw (is, later less) (sym (ap (λ (x : List ℕ). x ∷ cut (drop (1 + p + 1) (b ∷ bs))) front ∙ ap (λ (x : List ℕ). (b ∷ take p bs) ∷ cut x) back))
+
+pub cut_found : (bs : List ℕ) → position_or_len (λ b. b == 47) bs < length bs → cut bs ≡ before_first (λ b. b == 47) bs ∷ cut (after_first (λ b. b == 47) bs)
+cut_found [] h = absurd (omega arith)
+cut_found (b ∷ bs) h = found_at (b == 47) b bs refl h (cut_found bs)
+
+none_at : (t : Bool) (b : ℕ) (bs : List ℕ) → (b == 47) ≡ t → position_or_len slash (b ∷ bs) ≡ length (b ∷ bs)
+    → (position_or_len slash bs ≡ length bs → cut bs ≡ bs ∷ []) → cut (b ∷ bs) ≡ (b ∷ bs) ∷ []
+none_at true b bs is h later = let zero : position_or_len slash (b ∷ bs) ≡ 0 = rw is refl in absurd (omega (arith, zero, h))
+none_at false b bs is h later =
+    let one : position_or_len slash (b ∷ bs) ≡ 1 + position_or_len slash bs = rw is refl in
+    let step : position_or_len slash (b ∷ bs) ≡ suc (position_or_len slash bs) = omega (arith, one) in
+    rw (is, later (omega (arith, step, h))) refl
+
+pub cut_none : (bs : List ℕ) → position_or_len (λ b. b == 47) bs ≡ length bs → cut bs ≡ bs ∷ []
+cut_none [] h = refl
+cut_none (b ∷ bs) h = none_at (b == 47) b bs refl h (cut_none bs)
+
+pub put_between : (done : Names) (name : List ℕ) (rest : Names) → (done ++ name ∷ []) ++ rest ≡ done ++ (name ∷ rest)
+put_between done name rest = append_assoc done (name ∷ []) rest

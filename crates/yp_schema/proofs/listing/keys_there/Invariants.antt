@@ -1,0 +1,6 @@
+use Rattle.std.proofs.Common.{◌≡◌, drop}
+use Rattle.yp_schema.specs.Rounds.{keys_there}
+use Rattle.yp_schema.proofs.listing.keys_there.Given as goal
+
+abbrev pub invariant-loop-key : goal.invariant-loop-key
+invariant-loop-key l = keys_there l.path (drop l.key-index l.key-items) l.nodes ≡ keys_there l.path l.keys l.nodes

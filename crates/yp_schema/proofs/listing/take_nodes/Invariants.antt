@@ -1,0 +1,8 @@
+use Rattle.std.proofs.Common.{◌≡◌, drop, length}
+use Rattle.serde_json.specs.View.{items_view}
+use Rattle.yp_schema.specs.Rounds.{first_round}
+use Rattle.yp_schema.proofs.listing.take_nodes.Given as goal
+
+abbrev pub invariant-loop-item : goal.invariant-loop-item
+invariant-loop-item l = (l.place ≡ l.item-index)
+    × (first_round l.part l.place (items_view (drop l.item-index l.item-items)) l.nodes ≡ first_round l.part 0 (items_view l.items.items) l.fn.nodes)

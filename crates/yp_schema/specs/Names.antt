@@ -1,0 +1,55 @@
+-- The names on the way to a node, and the paths of a part (RFC 7951 section 4).
+use Rattle.std.specs.Prelude.{ℕ, ◌+◌, ◌==◌, List, [], ◌∷◌, length, nat_lt, Option, Some, None, if◌then◌else◌}
+use Rattle.std.specs.List.{position_or_len, before_first, after_first}
+use Rattle.std.specs.Cmp.{IsTotalOrder}
+use Rattle.std.specs.Cmp.Lexicographic.{slice_cmp}
+use Rattle.std.specs.Ordering.{nat_cmp}
+use Rattle.std.specs.declared.cmp.Ordering.{Ordering}
+use Rattle.std.proofs.lemmas.Cmp.{nat_list_cmp_total, lists_total}
+
+-- member forms, from the top downwards
+abbrev pub Names : Type 0
+Names = List (List ℕ)
+
+-- by the bytes of each name, a front first: each node stands before those below it, and siblings stand in byte order
+abbrev pub names_cmp : Names → Names → Ordering
+names_cmp = slice_cmp (slice_cmp nat_cmp)
+
+pub names_total : IsTotalOrder names_cmp
+names_total = lists_total nat_list_cmp_total
+
+-- the names above the last
+abbrev pub front : Names → Names
+front [] = []
+front (name ∷ []) = []
+front (name ∷ next ∷ names) = name ∷ front (next ∷ names)
+
+abbrev pub last : Names → List ℕ
+last [] = []
+last (name ∷ []) = name
+last (name ∷ next ∷ names) = last (next ∷ names)
+
+abbrev pub onto_first : ℕ → Names → Names
+onto_first b [] = (b ∷ []) ∷ []
+onto_first b (name ∷ names) = (b ∷ name) ∷ names
+
+-- a text cut at each `/`
+abbrev pub cut : List ℕ → Names
+cut [] = [] ∷ []
+cut (b ∷ bs) = if b == 47 then [] ∷ cut bs else onto_first b (cut bs)
+
+-- nothing stands before the first `/`
+abbrev pub rooted : Names → Option Names
+rooted [] = None
+rooted ([] ∷ []) = None
+rooted ([] ∷ name ∷ names) = Some (name ∷ names)
+rooted ((b ∷ bs) ∷ names) = None
+
+-- the names of a path, `/` and member forms joined by `/`
+abbrev pub names_in : List ℕ → Option Names
+names_in text = rooted (cut text)
+
+-- what stands before the first `:` and behind it
+abbrev pub around_colon : List ℕ → Option (List ℕ × List ℕ)
+around_colon text =
+    if nat_lt (position_or_len (λ b. b == 58) text) (length text) then Some (before_first (λ b. b == 58) text, after_first (λ b. b == 58) text) else None

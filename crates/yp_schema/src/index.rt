@@ -1,0 +1,100 @@
+//! The children of each node by their member forms.
+ghost use Rattle.std.specs.BTreeMap.{get_by_text};
+ghost use Rattle.std.specs.Prelude.{◌≡◌, ◌<◌, ◌+◌, ◌^◌, ◌&&◌, ℕ, List, Some, None, OnOk, IfOk, length, if◌then◌else◌, nat_eq, vec_len};
+ghost use Rattle.yp_base.specs.Types.{same_text};
+ghost use Rattle.yp_schema.specs.Index.{indexed_at, slot_of, IsIndex};
+ghost use Rattle.yp_schema.specs.WellFormed.{IsSchema};
+
+use crate::schema::SchemaNode;
+use std::alloc::Global;
+use std::collections::BTreeMap;
+use yp_base::memory::NoMemory;
+
+/// The numbers of the children of one node, by member form.
+pub type Children = BTreeMap<String, u32>;
+
+/// The slot of the children of a node, or of the top.
+pub fn slot_of(parent: Option<u32>) -> usize
+    ensures { result ≡ slot_of parent }
+{
+    match parent {
+        Some(parent) => parent as usize + 1,
+        None => 0,
+    }
+}
+
+/// The number of a child.
+fn find(children: &Children, name: &str) -> Option<u32>
+    ensures { result ≡ get_by_text children.now name.now }
+{
+    children.get(name).copied()
+}
+
+/// The number of a child in a slot.
+pub fn look_up(index: &[Children], slot: usize, name: &str) -> Option<u32>
+    ensures { result ≡ indexed_at slot name.now index.now }
+{
+    match index.get(slot) {
+        Some(children) => find(children, name),
+        None => None,
+    }
+}
+
+fn enter_name(
+    alloc: Global,
+    children: &mut Children,
+    name: &str,
+    number: u32,
+) -> Result<(), NoMemory>
+    ensures { OnOk result ((q : List ℕ) → get_by_text children.new q ≡ (if same_text name.now q then Some number else get_by_text children.old q)) }
+{
+    children.insert(String::from_str(alloc, name)?, number)?;
+    Ok(())
+}
+
+fn enter(
+    alloc: Global,
+    index: &mut Vec<Children>,
+    slot: usize,
+    name: &str,
+    number: u32,
+) -> Result<(), NoMemory>
+    requires { slot < vec_len index.old }
+    ensures entered { OnOk result ((s : ℕ) (q : List ℕ) → indexed_at s q index.new.items ≡ (if nat_eq slot s && same_text name.now q then Some number else indexed_at s q index.old.items)) }
+    ensures len { OnOk result (vec_len index.new ≡ vec_len index.old) }
+{
+    enter_name(alloc, &mut index[slot], name, number)
+}
+
+/// Slots without children.
+fn empty_slots(alloc: Global, count: usize) -> Result<Vec<Children>, NoMemory>
+    ensures empty { IfOk result (λ index. (s : ℕ) (q : List ℕ) → indexed_at s q index.items ≡ None) }
+    ensures len { IfOk result (λ index. vec_len index ≡ count) }
+{
+    let mut index = Vec::new(alloc);
+    for _ in 0..count {
+        index.push(BTreeMap::new(alloc))?;
+    }
+    Ok(index)
+}
+
+/// The index of the nodes of a schema. The later of two children with one member form is entered first.
+pub fn index_nodes(alloc: Global, nodes: &[SchemaNode]) -> Result<Vec<Children>, NoMemory>
+    requires { IsSchema nodes.now }
+    ensures { IfOk result (λ index. IsIndex index.items nodes.now) }
+{
+    let mut index = empty_slots(alloc, nodes.len() + 1)?;
+    let mut at = nodes.len();
+    while at > 0 {
+        at -= 1;
+        let node = &nodes[at];
+        enter(
+            alloc,
+            &mut index,
+            slot_of(node.parent),
+            node.member.as_str(),
+            at as u32,
+        )?;
+    }
+    Ok(index)
+}

@@ -1,0 +1,144 @@
+//! The numbers of nodes: in pre-order, siblings in byte order of their member forms.
+ghost use Rattle.std.specs.Prelude.{◌≡◌, ◌<◌, ◌^◌, ◌++◌, ◌∷◌, [], length, IfOk, map};
+ghost use Rattle.yp_schema.specs.Names.{front, last};
+ghost use Rattle.yp_schema.specs.WellFormed.{IsSchema};
+ghost use Rattle.yp_schema.specs.Reading.{numbers_from, number_of, key_numbers, numbered_node, numbered};
+
+use crate::listing::{Listed, Listing};
+use crate::names::{Names, front_of, with_name};
+use crate::schema::SchemaNode;
+use std::alloc::Global;
+use std::collections::BTreeMap;
+use std::marker::Model;
+use yp_base::memory::{Duplicate, NoMemory};
+use yp_base::series::Series;
+use yp_base::txt::Txt;
+
+/// The numbers of nodes, by the names on the way to them.
+#[derive(Drop)]
+pub struct Numbers {
+    kept: BTreeMap<Names, u32>,
+}
+
+impl Model for Numbers {
+    ghost use Rattle.yp_schema.specs.Reading as reading;
+
+    ghost Value = { reading.Numbers };
+
+    ghost view = { λ n. n.kept.entries };
+}
+
+impl Numbers {
+    /// The places of listed nodes.
+    fn of_listing(alloc: Global, nodes: &Listing) -> Result<Numbers, NoMemory>
+        requires { length nodes.now < 2 ^ 32 }
+        ensures { IfOk result (λ numbers. numbers ≡ numbers_from 0 nodes.now) }
+    {
+        let mut kept = BTreeMap::new(alloc);
+        let mut place = 0;
+        for (path, _) in nodes.map().iter() {
+            kept.insert(path.copy(alloc)?, place)?;
+            place += 1;
+        }
+        Ok(Numbers { kept })
+    }
+
+    fn get(&self, path: &Names) -> Option<u32>
+        ensures { result ≡ number_of path.now self.now }
+    {
+        self.kept.get(path).copied()
+    }
+}
+
+/// The number of a key.
+fn key_number(
+    alloc: Global,
+    path: &Names,
+    key: &Txt,
+    numbers: &Numbers,
+) -> Result<Option<u32>, NoMemory>
+    ensures { IfOk result (λ number. number ≡ number_of (path.now ++ key.now ∷ []) numbers.now) }
+{
+    let names = with_name(alloc, path, key)?;
+    Ok(numbers.get(&names))
+}
+
+/// The numbers of the keys of a list.
+fn key_numbers(
+    alloc: Global,
+    path: &Names,
+    keys: &Names,
+    numbers: &Numbers,
+) -> Result<Series<u32>, NoMemory>
+    ensures { IfOk result (λ made. made ≡ key_numbers path.now keys.now numbers.now) }
+{
+    let mut made = Vec::new(alloc);
+    for key in keys.items() {
+        match key_number(alloc, path, key, numbers)? {
+            Some(number) => made.push(number)?,
+            None => {}
+        }
+    }
+    Ok(Series::from_vec(made))
+}
+
+/// The last name.
+fn take_last(alloc: Global, path: Names) -> Txt
+    ensures { result ≡ last path }
+{
+    match path.into_vec().pop() {
+        Some(name) => name,
+        None => Txt::from_string(String::new(alloc)),
+    }
+}
+
+fn parent_of(alloc: Global, path: &Names, numbers: &Numbers) -> Result<Option<u32>, NoMemory>
+    ensures { IfOk result (λ parent. parent ≡ number_of (front path.now) numbers.now) }
+{
+    let above = front_of(alloc, path)?;
+    Ok(numbers.get(&above))
+}
+
+/// A listed node with the numbers of its parent and keys.
+fn number_node(
+    alloc: Global,
+    path: Names,
+    node: Listed,
+    numbers: &Numbers,
+) -> Result<SchemaNode, NoMemory>
+    ensures { IfOk result (λ made. made ≡ numbered_node numbers.now (path, node)) }
+{
+    let Listed { home, name, body } = node;
+    let parent = parent_of(alloc, &path, numbers)?;
+    let keys = key_numbers(alloc, &path, &body.keys, numbers)?;
+    let member = take_last(alloc, path);
+    Ok(SchemaNode {
+        parent,
+        kind: body.kind,
+        home,
+        name,
+        member,
+        keys,
+        ty: body.ty,
+        deny_all: body.deny_all,
+    })
+}
+
+fn number_all(alloc: Global, nodes: Listing, numbers: &Numbers) -> Result<Vec<SchemaNode>, NoMemory>
+    ensures { IfOk result (λ made. made.items ≡ map (numbered_node numbers.now) nodes) }
+{
+    let mut made = Vec::new(alloc);
+    for (path, node) in nodes.into_map() {
+        made.push(number_node(alloc, path, node, numbers)?)?;
+    }
+    Ok(made)
+}
+
+/// The listed nodes in their order, with numbers.
+pub fn number_nodes(alloc: Global, nodes: Listing) -> Result<Vec<SchemaNode>, NoMemory>
+    requires { IsSchema (numbered nodes) }
+    ensures { IfOk result (λ made. made.items ≡ numbered nodes) }
+{
+    let numbers = Numbers::of_listing(alloc, &nodes)?;
+    number_all(alloc, nodes, &numbers)
+}
