@@ -1,0 +1,112 @@
+-- What is cut: the rows at or below a path, found one after another, and taken out one by one.
+use Rattle.std.proofs.Common.{◌≡◌, List, [], ◌∷◌, ◌++◌, map, refl, sym, ap, ◌∙◌, cond, Bool, true, false, not, Some, None, append_assoc}
+use Rattle.std.specs.Prelude.{unwrap_or}
+use Rattle.std.specs.Ordering.{is_eq, is_gt}
+use Rattle.std.specs.List.{AllByRecursion}
+use Rattle.std.specs.List.Sorted.{IsStrictlySortedBy}
+use Rattle.std.specs.BTreeMap.Range.{range_contains, entries_between}
+use Rattle.std.specs.declared.ops.Bound.TheVariants.{Included, Unbounded}
+use Rattle.std.specs.declared.cmp.Ordering.TheVariants.{Less}
+use Rattle.std.proofs.lemmas.Cmp.{tied_itself}
+use Rattle.std.proofs.lemmas.Map.Views.{tells_apart}
+use Rattle.yp_base.specs.declared.path.Seg.{Seg}
+use Rattle.yp_base.specs.declared.row.Value.{Value}
+use Rattle.yp_base.specs.declared.row.Row.{Row}
+use Rattle.yp_base.specs.Order.{path_cmp, is_within}
+use Rattle.yp_base.specs.OrderLaws.{segments_total, paths_total}
+use Rattle.yp_base.specs.Rows.{path_of, value_at, rows_within, rows_without}
+use Rattle.yp_base.proofs.Exact.{paths_exact}
+use Rattle.yp_base.proofs.Fronts.{fronts_together}
+use Rattle.yp_tree.proofs.Nexts.{less_not_greater, included_from, included_within}
+use Rattle.yp_tree.specs.Listed.{row_of, rows_of, without_row}
+
+-- the first rows, as long as they are at or below a path
+abbrev pub front_within : List Seg → List (List Seg × Value) → List (List Seg × Value)
+front_within under [] = []
+front_within under (e ∷ es) = cond (is_within under e.0) (e ∷ front_within under es) []
+
+none_within : (under x : List Seg) → is_gt (path_cmp under x) ≡ false → is_within under x ≡ false → (es : List (List Seg × Value)) → AllByRecursion (λ y. path_cmp x y ≡ Less) (map path_of (rows_of es)) → rows_within under (rows_of es) ≡ []
+none_within under x from apart [] past = refl
+none_within under x from apart (e ∷ es) past =
+    ap (λ b. cond b (row_of e ∷ rows_within under (rows_of es)) (rows_within under (rows_of es))) (fronts_together segments_total under x e.0 from apart (less_not_greater _ past.0))
+    ∙ none_within under x from apart es past.1
+
+-- of what lies in order from a path on, what is at or below the path comes first
+pub within_comes_first : (under : List Seg) (es : List (List Seg × Value)) → IsStrictlySortedBy path_cmp (map path_of (rows_of es)) → rows_of (front_within under (entries_between path_cmp (Included under) Unbounded es)) ≡ rows_within under (rows_of es)
+unfolding IsStrictlySortedBy
+within_comes_first under [] s = refl
+within_comes_first under (e ∷ es) s =
+    let p : List Seg → Bool = range_contains path_cmp (Included under) Unbounded in
+    let rest = entries_between path_cmp (Included under) Unbounded es in
+    elim (p e.0) as (λ b. p e.0 ≡ b → rows_of (front_within under (cond b (e ∷ rest) rest)) ≡ rows_within under (row_of e ∷ rows_of es)) [
+      | true ↦ λ h. elim (is_within under e.0) as (λ w. is_within under e.0 ≡ w → rows_of (cond w (e ∷ front_within under rest) []) ≡ cond w (row_of e ∷ rows_within under (rows_of es)) (rows_within under (rows_of es))) [
+        | true ↦ λ k. ap (λ rows. row_of e ∷ rows) (within_comes_first under es s.1)
+        | false ↦ λ k. sym (none_within under e.0 (included_from under e.0 h) k es s.0)
+      ] refl
+      | false ↦ λ h. elim (is_within under e.0) as (λ w. is_within under e.0 ≡ w → rows_of (front_within under rest) ≡ cond w (row_of e ∷ rows_within under (rows_of es)) (rows_within under (rows_of es))) [
+        | true ↦ λ k. let both : true ≡ false = sym (included_within under e.0 k) ∙ h in cc
+        | false ↦ λ k. within_comes_first under es s.1
+      ] refl
+    ] refl
+
+-- the first of the rows at or below a path is at or below it
+first_is_within : (under : List Seg) (rows : List Row) (path : List Seg) (rest : List (List Seg)) → map path_of (rows_within under rows) ≡ path ∷ rest → is_within under path ≡ true
+first_is_within under [] path rest h = cc
+first_is_within under (row ∷ rows) path rest h =
+    elim (is_within under row.path) as (λ b. is_within under row.path ≡ b → map path_of (cond b (row ∷ rows_within under rows) (rows_within under rows)) ≡ path ∷ rest → is_within under path ≡ true) [
+      | true ↦ λ k m. let same : row.path ≡ path = cc in ap (is_within under) (sym same) ∙ k
+      | false ↦ λ k m. first_is_within under rows path rest m
+    ] refl h
+
+-- taking out the row of the first of these paths takes the first of these rows, and no other row
+pub taken : (under : List Seg) (rows : List Row) (path : List Seg) (rest : List (List Seg)) → map path_of (rows_within under rows) ≡ path ∷ rest → (value : Value) × (value_at path rows ≡ Some value) × (rows_within under rows ≡ record { path = path; value = value } ∷ rows_within under (without_row path rows)) × (rows_without under (without_row path rows) ≡ rows_without under rows)
+taken under [] path rest h = cc
+taken under (row ∷ rows) path rest h =
+    elim (is_within under row.path) as (λ b. is_within under row.path ≡ b → map path_of (cond b (row ∷ rows_within under rows) (rows_within under rows)) ≡ path ∷ rest → (value : Value) × (value_at path (row ∷ rows) ≡ Some value) × (rows_within under (row ∷ rows) ≡ record { path = path; value = value } ∷ rows_within under (without_row path (row ∷ rows))) × (rows_without under (without_row path (row ∷ rows)) ≡ rows_without under (row ∷ rows))) [
+      | true ↦ λ k m.
+          let same : row.path ≡ path = cc in
+          let at : is_eq (path_cmp path row.path) ≡ true = ap is_eq (ap (path_cmp path) same ∙ tied_itself paths_total path) in
+          rw (k, at) (row.value, refl, (λ i. record { path = same i; value = row.value } ∷ rows_within under rows), refl)
+      | false ↦ λ k m.
+          let within = first_is_within under rows path rest m in
+          let more = taken under rows path rest m in
+          elim (is_eq (path_cmp path row.path)) as (λ b. is_eq (path_cmp path row.path) ≡ b → (value : Value) × (cond b (Some row.value) (value_at path rows) ≡ Some value) × (rows_within under (row ∷ rows) ≡ record { path = path; value = value } ∷ rows_within under (cond b rows (row ∷ without_row path rows))) × (rows_without under (cond b rows (row ∷ without_row path rows)) ≡ rows_without under (row ∷ rows))) [
+            | true ↦ λ at. let both : true ≡ false = sym within ∙ ap (is_within under) (tells_apart paths_exact path row.path at) ∙ k in cc
+            | false ↦ λ at. rw k (more.0, more.1, more.2, ap (λ rows. row ∷ rows) more.3)
+          ] refl
+    ] refl h
+
+-- the next of the rows is cut
+pub record Cut (under : List Seg) (old now new done more : List Row) (rest : List (List Seg)) : Type 0 where
+  pub paths : map path_of (rows_within under new) ≡ rest
+  pub rows : more ++ rows_within under new ≡ rows_within under old
+  pub others : rows_without under new ≡ rows_without under now
+
+pub cutting_grows : (under path : List Seg) (old now new done : List Row) (rest : List (List Seg)) (value : Value) → map path_of (rows_within under now) ≡ path ∷ rest → done ++ rows_within under now ≡ rows_within under old → Some value ≡ value_at path now → new ≡ without_row path now → Cut under old now new done (done ++ record { path = path; value = value } ∷ []) rest
+cutting_grows under path old now new done rest value first so_far found left =
+    let t = taken under now path rest first in
+    let same : t.0 ≡ value = ap (λ kept. unwrap_or kept value) (sym t.1 ∙ sym found) in
+    let row : Value → Row = λ v. record { path = path; value = v } in
+    let split : rows_within under now ≡ row value ∷ rows_within under new = t.2 ∙ (λ i. row (same i) ∷ rows_within under (sym left i)) in
+    let paths : path ∷ map path_of (rows_within under new) ≡ path ∷ rest = sym (ap (map path_of) split) ∙ first in
+    record {
+      paths = cc;
+      rows = append_assoc done (row value ∷ []) (rows_within under new) ∙ ap (λ rows. done ++ rows) (sym split) ∙ so_far;
+      others = ap (rows_without under) left ∙ t.3;
+    }
+
+-- each of the paths has a row
+pub always_there : (under path : List Seg) (rows : List Row) (rest : List (List Seg)) → map path_of (rows_within under rows) ≡ path ∷ rest → None ≡ value_at path rows → ⊥
+always_there under path rows rest first missing =
+    let t = taken under rows path rest first in
+    let both : None ≡ Some t.0 = missing ∙ t.1 in
+    cc
+
+-- where no row is at or below a path, the others are all
+pub others_are_all : (under : List Seg) (rows : List Row) → map path_of (rows_within under rows) ≡ [] → rows_without under rows ≡ rows
+others_are_all under [] h = refl
+others_are_all under (row ∷ rows) h =
+    elim (is_within under row.path) as (λ b. map path_of (cond b (row ∷ rows_within under rows) (rows_within under rows)) ≡ [] → cond (not b) (row ∷ rows_without under rows) (rows_without under rows) ≡ row ∷ rows) [
+      | true ↦ λ m. cc
+      | false ↦ λ m. ap (λ rows. row ∷ rows) (others_are_all under rows m)
+    ] h

@@ -1,0 +1,11 @@
+//! The rows of a datastore, found by path in a number of steps that grows with the logarithm of their
+//! number.
+//!
+//! Contracts see a `Tree` as the list of its rows, in the order of their paths and with no path twice.
+//! It needn't hold the rows above a row. `get` and `next` read it and count one visit each, and there
+//! is no other way to read its rows; `put` and `cut` change it.
+#![tactic(auto)]
+
+#[cfg(test)]
+mod tests;
+pub mod tree;

@@ -1,0 +1,182 @@
+//! Rows in an ordered map.
+ghost use Rattle.std.specs.Prelude.{◌≡◌, ◌+◌, [], length, map, option_map, option_copied, OnOk, OnErr, IfOk};
+ghost use Rattle.std.specs.Bound.{bound_map};
+ghost use Rattle.yp_base.specs.Rows.{path_of, value_at, put_row, next_row, rows_within, rows_without, AreInOrder};
+ghost use Rattle.yp_tree.specs.Begins.{Begins};
+ghost use Rattle.yp_tree.specs.Listed.{row_of, without_row};
+
+use std::alloc::Global;
+use std::collections::BTreeMap;
+use std::marker::Model;
+use std::ops::Bound;
+use std::sync::ledger::Ledger;
+use yp_base::memory::{Duplicate, NoMemory};
+use yp_base::path::{Path, is_prefix};
+use yp_base::row::{Row, Rows, Value};
+use yp_base::series::Series;
+use yp_base::steps::Steps;
+
+/// The rows of a datastore, found by path.
+#[derive(Drop)]
+pub struct Tree {
+    kept: BTreeMap<Path, Value>,
+}
+
+impl Model for Tree {
+    ghost use Rattle.std.specs.Prelude.{List};
+    ghost use Rattle.yp_base.specs.declared.row.Row.{Row};
+    ghost use Rattle.yp_base.specs.Rows.{AreInOrder};
+    ghost use Rattle.yp_tree.specs.Listed.{rows_of};
+
+    ghost Value = { List Row };
+
+    ghost view = { λ t. rows_of t.kept.entries };
+
+    ghost invariant = { λ t. AreInOrder (rows_of t.kept.entries) };
+}
+
+impl Tree {
+    /// A tree without rows. It keeps the allocator, and takes no memory.
+    pub fn new(alloc: Global) -> Tree
+        ensures { result ≡ [] }
+    {
+        Tree {
+            kept: BTreeMap::new(alloc),
+        }
+    }
+
+    /// How many rows it has. They are in order, with no path twice.
+    pub fn len(&self) -> usize
+        ensures count { result ≡ length self.now }
+        ensures order { AreInOrder self.now }
+    {
+        self.kept.len()
+    }
+
+    /// The value of the row that has this path, and `None` exactly where there is no such row. It
+    /// counts one visit.
+    pub fn get<L: Ledger>(&self, path: &Path, steps: &mut Steps<L>) -> Option<&Value>
+        ensures found { option_copied result ≡ value_at path.now self.now }
+        ensures visits { steps.new ≡ steps.old + 1 }
+    {
+        steps.tick();
+        self.kept.get(path)
+    }
+
+    /// The first row past one path that is at or below another, and `None` exactly where there is no
+    /// such row. It counts one visit.
+    pub fn next<L: Ledger>(
+        &self,
+        after: &Path,
+        under: &Path,
+        steps: &mut Steps<L>,
+    ) -> Option<(&Path, &Value)>
+        ensures found { option_map (λ found. row_of (found.0.now, found.1.now)) result
+            ≡ next_row after.now under.now self.now }
+        ensures visits { steps.new ≡ steps.old + 1 }
+    {
+        steps.tick();
+        self.first_from(after, under)
+    }
+
+    /// Adds the row, or gives its value to the row that has its path. After `NoMemory` the tree is as
+    /// it was, and the row is gone.
+    pub fn put(&mut self, _alloc: Global, row: Row) -> Result<(), NoMemory>
+        ensures rows { OnOk result (self.new ≡ put_row row self.old) }
+        ensures unchanged { OnErr result (self.new ≡ self.old) }
+    {
+        let Row { path, value } = row;
+        self.kept.insert(path, value)?;
+        Ok(())
+    }
+
+    /// Takes out the rows at or below the path, and gives them in order. After `NoMemory` the tree is
+    /// as it was.
+    pub fn cut(&mut self, alloc: Global, path: &Path) -> Result<Rows, NoMemory>
+        ensures rows { IfOk result (λ rows. rows ≡ rows_within path.now self.old) }
+        ensures rest { OnOk result (self.new ≡ rows_without path.now self.old) }
+        ensures unchanged { OnErr result (self.new ≡ self.old) }
+    {
+        let paths = self.paths_within(alloc, path)?.into_vec();
+        let mut rows = Vec::with_capacity(alloc, paths.len())?;
+        for each in paths {
+            match self.take(&each) {
+                Some(value) => rows.push(Row { path: each, value })?,
+                None => {}
+            }
+        }
+        Ok(Series::from_vec(rows))
+    }
+
+    // Takes out the row that has this path, and gives its value.
+    fn take(&mut self, path: &Path) -> Option<Value>
+        ensures value { result ≡ value_at path.now self.old }
+        ensures rest { self.new ≡ without_row path.now self.old }
+    {
+        self.kept.remove(path)
+    }
+
+    // Copies of the paths of the rows at or below a path.
+    fn paths_within(&self, alloc: Global, under: &Path) -> Result<Series<Path>, NoMemory>
+        ensures { IfOk result (λ paths. paths ≡ map path_of (rows_within under.now self.now)) }
+    {
+        let mut paths = Vec::new(alloc);
+        let mut rows = self.kept.range((Bound::Included(under), Bound::Unbounded));
+        while let Some((path, _value)) = rows.next() {
+            if !is_prefix(under, path) {
+                break;
+            }
+            paths.push(path.copy(alloc)?)?;
+        }
+        Ok(Series::from_vec(paths))
+    }
+
+    fn first_from(&self, after: &Path, under: &Path) -> Option<(&Path, &Value)>
+        ensures { option_map (λ found. row_of (found.0.now, found.1.now)) result
+            ≡ next_row after.now under.now self.now }
+    {
+        if after.cmp(under).is_lt() {
+            self.first_at(Bound::Included(under), after, under)
+        } else {
+            self.first_at(Bound::Excluded(after), after, under)
+        }
+    }
+
+    fn first_at(&self, start: Bound<&Path>, after: &Path, under: &Path) -> Option<(&Path, &Value)>
+        requires { Begins after.now under.now (bound_map (λ path. path.now) start) }
+        ensures { option_map (λ found. row_of (found.0.now, found.1.now)) result
+            ≡ next_row after.now under.now self.now }
+    {
+        let mut rows = self.kept.range((start, Bound::Unbounded));
+        match rows.next() {
+            Some((path, value)) => {
+                if is_prefix(under, path) {
+                    Some((path, value))
+                } else {
+                    None
+                }
+            }
+            None => None,
+        }
+    }
+}
+
+impl Duplicate for Tree {
+    fn copy(&self, alloc: Global) -> Result<Tree, NoMemory> {
+        let mut copied = Tree::new(alloc);
+        let mut rows = self.kept.iter();
+        while let Some((path, value)) = rows.next() {
+            copied.put(alloc, row_copy(alloc, path, value)?)?;
+        }
+        Ok(copied)
+    }
+}
+
+fn row_copy(alloc: Global, path: &Path, value: &Value) -> Result<Row, NoMemory>
+    ensures { IfOk result (λ row. row ≡ row_of (path.now, value.now)) }
+{
+    Ok(Row {
+        path: path.copy(alloc)?,
+        value: value.copy(alloc)?,
+    })
+}
