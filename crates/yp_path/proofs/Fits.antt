@@ -1,0 +1,107 @@
+use Rattle.std.proofs.Common.{◌≡◌, ℕ, zero, suc, ◌<◌, List, [], ◌∷◌, length, get_or, true, false, ◌&&◌, ◌||◌, refl, sym, ap, subst, ◌∙◌, ⊎_elim, Option, Some, None, arith, nat_le}
+use Rattle.std.proofs.lemmas.Bool.{ltb-true, eqb-true, cases_Bool}
+use Rattle.yp_base.specs.declared.atom.Atom.{Atom}
+use Rattle.yp_base.specs.declared.atom.Atom.TheVariants.{Bool as Truth, Int, Uint, Dec, Text}
+use Rattle.yp_base.specs.declared.leaf_type.LeafType.{LeafType}
+use Rattle.yp_base.specs.declared.leaf_type.LeafType.TheVariants.{Bool as TruthType, Int as IntType, Uint as UintType, Dec as DecType, Text as TextType, Names, Empty}
+use Rattle.yp_base.specs.declared.path.Seg.{Seg}
+use Rattle.yp_base.specs.Types.{is_type, is_among, is_short, are_short, are_names, same_text}
+use Rattle.yp_base.specs.Texts.{fits, is_writable}
+use Rattle.yp_schema.specs.declared.schema.SchemaNode.{SchemaNode}
+use Rattle.yp_schema.specs.declared.schema.Kind.{Kind}
+use Rattle.yp_schema.specs.declared.schema.Kind.TheVariants.{Container, Presence, List as Listing, Leaf, LeafList}
+use Rattle.yp_schema.specs.Nodes.{node_at}
+use Rattle.yp_schema.specs.WellFormed.{IsSchema, is_empty}
+use Rattle.yp_schema.specs.Datastore.{is_path_of, goes_down, is_segment, keys_of_kind, keys_fit, one_fits, atom_fits}
+use Rattle.yp_path.proofs.Free.{both}
+use Rattle.yp_path.proofs.Names.{text_same}
+use Rattle.yp_path.proofs.Types.{type_stands, keys_stand}
+
+-- ---- what fits a type can be written
+
+short_name : (text : List ℕ) (names : List (List ℕ)) → are_short names ≡ true → is_among text names ≡ true → is_short text ≡ true
+short_name text [] h e = let wrong : false ≡ true = e in cc
+short_name text (name ∷ names) h e =
+    let parts = both _ _ h in
+    ⊎_elim (λ t. ap is_short (text_same text name t) ∙ parts.0) (λ f. short_name text names parts.1 (sym (ap (λ b. b || is_among text names) f) ∙ e)) (cases_Bool (same_text text name))
+
+short_of : (text : List ℕ) (names : List (List ℕ)) → are_names names ≡ true → is_among text names ≡ true → is_short text ≡ true
+short_of text [] h e = let wrong : false ≡ true = e in cc
+short_of text (name ∷ names) h e = short_name text (name ∷ names) (both _ _ h).1 e
+
+pub fits_writable : (ty : LeafType) (a : Atom) → is_type ty ≡ true → fits ty a ≡ true → is_writable a ≡ true
+fits_writable ty (Truth b) h e = refl
+fits_writable ty (Int n) h e = refl
+fits_writable ty (Uint n) h e = refl
+fits_writable TruthType (Dec units own) h e = let wrong : false ≡ true = e in cc
+fits_writable (IntType bits) (Dec units own) h e = let wrong : false ≡ true = e in cc
+fits_writable (UintType bits) (Dec units own) h e = let wrong : false ≡ true = e in cc
+fits_writable (DecType places) (Dec units own) h e = ap (λ n. nat_le 1 n && nat_le n 18) (eqb-true own places (both _ _ e).0) ∙ h
+fits_writable TextType (Dec units own) h e = let wrong : false ≡ true = e in cc
+fits_writable (Names names) (Dec units own) h e = let wrong : false ≡ true = e in cc
+fits_writable Empty (Dec units own) h e = let wrong : false ≡ true = e in cc
+fits_writable TruthType (Text text) h e = let wrong : false ≡ true = e in cc
+fits_writable (IntType bits) (Text text) h e = let wrong : false ≡ true = e in cc
+fits_writable (UintType bits) (Text text) h e = let wrong : false ≡ true = e in cc
+fits_writable (DecType places) (Text text) h e = let wrong : false ≡ true = e in cc
+fits_writable TextType (Text text) h e = e
+fits_writable (Names names) (Text text) h e = short_of text names h e
+fits_writable Empty (Text text) h e = let wrong : false ≡ true = e in cc
+
+-- ---- the keys of a segment can be written
+
+abbrev pub AreWritten : List Atom → Type 0
+AreWritten keys = (k : ℕ) → (d : Atom) → k < length keys → is_writable (get_or keys k d) ≡ true
+
+module _ (nodes : List SchemaNode) (schema : IsSchema nodes) where
+  atom_written : (n : ℕ) (t : Option LeafType) (a : Atom) → n < length nodes → (node_at n nodes).ty ≡ t → atom_fits t a ≡ true → is_writable a ≡ true
+  atom_written n None a h is e = let wrong : false ≡ true = e in cc
+  atom_written n (Some ty) a h is e = fits_writable ty a (type_stands nodes n ty schema h is) e
+
+  none_written : (keys : List Atom) → is_empty keys ≡ true → AreWritten keys
+  none_written [] e k d h = absurd (omega (arith, h))
+  none_written (key ∷ keys) e k d h = let wrong : false ≡ true = e in cc
+
+  all_written : (ks : List ℕ) (keys : List Atom) → ((k d : ℕ) → k < length ks → get_or ks k d < length nodes) → keys_fit nodes ks keys ≡ true → AreWritten keys
+  all_written ks [] below e k d h = absurd (omega (arith, h))
+  all_written [] (key ∷ keys) below e k d h = let wrong : false ≡ true = e in cc
+  all_written (n ∷ ns) (key ∷ keys) below e zero d h = atom_written n (node_at n nodes).ty key (below 0 0 (omega arith)) refl (both _ _ e).0
+  all_written (n ∷ ns) (key ∷ keys) below e (suc k) d h =
+      all_written ns keys (λ j c l. below (suc j) c (omega (arith, l))) (both _ _ e).1 k d (omega (arith, h))
+
+  one_written : (n : ℕ) (keys : List Atom) → n < length nodes → one_fits (node_at n nodes).ty keys ≡ true → AreWritten keys
+  one_written n [] below e k d h = absurd (omega (arith, h))
+  one_written n (key ∷ []) below e zero d h = atom_written n (node_at n nodes).ty key below refl e
+  one_written n (key ∷ []) below e (suc k) d h = absurd (omega (arith, h))
+  one_written n (key ∷ next ∷ keys) below e k d h = let wrong : false ≡ true = e in cc
+
+  kind_written : (n : ℕ) (kind : Kind) (keys : List Atom) → n < length nodes → (node_at n nodes).kind ≡ kind → keys_of_kind kind nodes (node_at n nodes) keys ≡ true → AreWritten keys
+  kind_written n Container keys below is e = none_written keys e
+  kind_written n Presence keys below is e = none_written keys e
+  kind_written n Listing keys below is e = all_written (node_at n nodes).keys keys (keys_stand nodes n schema below is) e
+  kind_written n Leaf keys below is e = none_written keys e
+  kind_written n LeafList keys below is e = one_written n keys below e
+
+pub segment_below : (nodes : List SchemaNode) (seg : Seg) → is_segment nodes seg ≡ true → seg.node < length nodes
+segment_below nodes seg e = ltb-true _ _ (both _ _ e).0
+
+pub segment_written : (nodes : List SchemaNode) (seg : Seg) → IsSchema nodes → is_segment nodes seg ≡ true → AreWritten seg.keys
+segment_written nodes seg schema e = kind_written nodes schema seg.node (node_at seg.node nodes).kind seg.keys (segment_below nodes seg e) refl (both _ _ e).1
+
+goes_at : (nodes : List SchemaNode) (parent : Option ℕ) (segs : List Seg) (i : ℕ) (d : Seg) → goes_down nodes parent segs ≡ true → i < length segs → is_segment nodes (get_or segs i d) ≡ true
+goes_at nodes parent [] i d e h = absurd (omega (arith, h))
+goes_at nodes parent (seg ∷ segs) zero d e h = (both _ _ (both _ _ e).0).1
+goes_at nodes parent (seg ∷ segs) (suc i) d e h = goes_at nodes (Some seg.node) segs i d (both _ _ e).1 (omega (arith, h))
+
+pub path_goes : (nodes : List SchemaNode) (path : List Seg) → is_path_of nodes path ≡ true → goes_down nodes None path ≡ true
+path_goes nodes [] e = refl
+path_goes nodes (seg ∷ segs) e = e
+
+pub path_at : (nodes : List SchemaNode) (path : List Seg) (i : ℕ) (d : Seg) → is_path_of nodes path ≡ true → i < length path → is_segment nodes (get_or path i d) ≡ true
+path_at nodes path i d e h = goes_at nodes None path i d (path_goes nodes path e) h
+
+-- a segment of a path, as a loop over it meets it
+pub path_item : (nodes : List SchemaNode) (path items : List Seg) (i : ℕ) (seg : Seg) → is_path_of nodes path ≡ true → items ≡ path → i < length items → seg ≡ get_or items i seg → is_segment nodes seg ≡ true
+path_item nodes path items i seg e same h is =
+    let P : List Seg → Type 0 = λ l. is_path_of nodes l ≡ true in
+    ap (is_segment nodes) is ∙ path_at nodes items i seg (subst P (sym same) e) h

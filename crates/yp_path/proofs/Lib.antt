@@ -1,0 +1,16 @@
+pub mod Cuts
+pub mod Escapes
+pub mod Free
+pub mod Names
+pub mod Utf8
+pub mod Types
+pub mod Values
+pub mod Segments
+pub mod Fits
+pub mod Reading
+pub mod Back
+pub mod Bytes
+pub mod Marks
+pub mod Pieces
+pub mod RuleSegments
+pub mod Predicates

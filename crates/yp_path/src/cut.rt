@@ -1,0 +1,43 @@
+//! Texts cut at a mark.
+ghost use Rattle.std.specs.Prelude.{◌≡◌, ◌<◌, ◌==◌, ◌∷◌, false, length, IfOk, MatchOption};
+ghost use Rattle.std.specs.List.{position_or_len, before_first, after_first};
+ghost use Rattle.yp_path.specs.Cuts.{begins, cut};
+
+use std::alloc::Global;
+use yp_base::leaf_type::Names;
+use yp_base::memory::NoMemory;
+use yp_base::series::Series;
+use yp_base::txt::Txt;
+
+/// What stands before the first mark, and what stands behind it.
+pub fn cut_once(text: &str, mark: char) -> Option<(&str, &str)>
+    requires { mark < 128 }
+    ensures { MatchOption result (position_or_len (λ b. b == mark) text.now ≡ length text.now)
+        (λ x. (x.0.now ≡ before_first (λ b. b == mark) text.now) × (x.1.now ≡ after_first (λ b. b == mark) text.now) × (position_or_len (λ b. b == mark) text.now < length text.now)) }
+{
+    text.split_once(mark)
+}
+
+/// What stands behind a mark that comes first.
+pub fn behind(text: &str, mark: char) -> Option<&str>
+    requires { mark < 128 }
+    ensures { MatchOption result (begins mark text.now ≡ false) (λ x. text.now ≡ mark ∷ x.now) }
+{
+    text.strip_prefix(mark)
+}
+
+/// A text cut at each mark.
+#[tactic(auto, using(crate::proofs::Cuts::cut_found, crate::proofs::Cuts::cut_none, crate::proofs::Cuts::put_between))]
+pub fn cut_all(alloc: Global, text: &str, mark: char) -> Result<Names, NoMemory>
+    requires { mark < 128 }
+    ensures { IfOk result (λ parts. parts ≡ cut mark text.now) }
+{
+    let mut parts = Vec::new(alloc);
+    let mut rest = text;
+    while let Some((part, more)) = cut_once(rest, mark) {
+        parts.push(Txt::from_string(String::from_str(alloc, part)?))?;
+        rest = more;
+    }
+    parts.push(Txt::from_string(String::from_str(alloc, rest)?))?;
+    Ok(Series::from_vec(parts))
+}

@@ -1,0 +1,57 @@
+//! What is wrong with a path's text.
+use std::alloc::{AllocError, AllocFailed};
+use yp_base::memory::NoMemory;
+
+/// What is wrong with the leftmost segment that has a fault; of its faults the first in this order.
+#[derive(Debug, Drop, Clone, Copy, PartialEq, Eq, thiserror::Error)]
+pub enum PathFault {
+    /// No leading `/`, an empty name, a `%` without two hexadecimal digits in a key, or a key that
+    /// isn't UTF-8 after decoding.
+    #[error("the path is malformed")]
+    Syntax,
+    /// The name is neither the member form nor the qualified name of a child.
+    #[error("the path names an unknown node")]
+    UnknownNode,
+    /// There are more or fewer keys than the node has.
+    #[error("the path has a wrong number of keys")]
+    KeyCount,
+    /// A key isn't a value of its type.
+    #[error("the path has a key of a wrong value")]
+    KeyValue,
+    /// Memory ran out.
+    #[error("no memory")]
+    Memory,
+}
+
+impl From<NoMemory> for PathFault {
+    ghost use Rattle.std.specs.Prelude.{◌≡◌};
+    ghost use Rattle.yp_path.specs.declared.fault.PathFault.TheVariants.{Memory};
+
+    ghost from_gives = { λ _ e. e ≡ Memory };
+
+    fn from(_error: NoMemory) -> PathFault {
+        PathFault::Memory
+    }
+}
+
+impl From<AllocError> for PathFault {
+    ghost use Rattle.std.specs.Prelude.{◌≡◌};
+    ghost use Rattle.yp_path.specs.declared.fault.PathFault.TheVariants.{Memory};
+
+    ghost from_gives = { λ _ e. e ≡ Memory };
+
+    fn from(_error: AllocError) -> PathFault {
+        PathFault::Memory
+    }
+}
+
+impl<T: Drop> From<AllocFailed<T>> for PathFault {
+    ghost use Rattle.std.specs.Prelude.{◌≡◌};
+    ghost use Rattle.yp_path.specs.declared.fault.PathFault.TheVariants.{Memory};
+
+    ghost from_gives = { λ _ e. e ≡ Memory };
+
+    fn from(_error: AllocFailed<T>) -> PathFault {
+        PathFault::Memory
+    }
+}

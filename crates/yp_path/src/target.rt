@@ -1,0 +1,237 @@
+//! Targets: reading and writing.
+ghost use Rattle.std.specs.Prelude.{◌≡◌, ◌<◌, ◌++◌, length, All, IfOk, OnOk, IfSome, None, Ok, true, string_bytes};
+ghost use Rattle.yp_base.specs.Texts.{is_writable};
+ghost use Rattle.yp_path.specs.Cuts.{cut};
+ghost use Rattle.yp_schema.specs.Datastore.{is_path_of};
+ghost use Rattle.yp_schema.specs.Nodes.{node_at};
+ghost use Rattle.yp_path.specs.Results.{or_fault};
+ghost use Rattle.yp_path.specs.Targets.{Gives, value_of, values_read, with_values, asked, name_part, key_parts, segment_in, segments_in, target_in, keys_text, segment_text, target_text, are_texts};
+
+use crate::cut::{cut_all, cut_once};
+use crate::escape::{push_key, read_keys};
+use crate::fault::PathFault;
+use crate::name::child_named;
+use std::alloc::Global;
+use yp_base::atom::{Atom, Keys};
+use yp_base::leaf_type::Names;
+use yp_base::memory::NoMemory;
+use yp_base::path::{Path, Seg};
+use yp_base::series::Series;
+use yp_base::text::{TextFault, read_text, write_text};
+use yp_base::txt::Txt;
+use yp_schema::schema::{Kind, Schema};
+
+/// The value of a key's text, by the type of a node.
+#[tactic(auto, using(crate::proofs::Types::type_stands))]
+pub fn read_value(
+    alloc: Global,
+    schema: &Schema,
+    node: u32,
+    text: &str,
+) -> Result<Option<Atom>, NoMemory>
+    requires { node < length schema.now }
+    ensures { IfOk result (λ value. value ≡ value_of (node_at node schema.now).ty text.now) }
+{
+    // What each schema keeps: its types are types.
+    let _count = schema.count();
+    match schema.ty(node) {
+        Some(ty) => match read_text(alloc, ty, text) {
+            Ok(value) => Ok(Some(value)),
+            Err(fault) => match fault {
+                TextFault::BadText => Ok(None),
+                TextFault::Memory => Err(NoMemory),
+            },
+        },
+        None => Ok(None),
+    }
+}
+
+/// The values of keys' texts, each by the type of its node.
+#[tactic(auto, using(crate::proofs::Cuts::put_between))]
+fn read_values(
+    alloc: Global,
+    schema: &Schema,
+    asked: &[u32],
+    texts: &[Txt],
+) -> Result<Option<Keys>, NoMemory>
+    requires { All (λ node. node < length schema.now) asked.now }
+    ensures { IfOk result (λ values. values ≡ values_read schema.now asked.now texts.now) }
+{
+    let mut values = Vec::new(alloc);
+    let mut rest = texts;
+    for node in asked {
+        match rest.split_first() {
+            Some((text, more)) => match read_value(alloc, schema, *node, text.as_str())? {
+                Some(value) => {
+                    values.push(value)?;
+                    rest = more;
+                }
+                None => return Ok(None),
+            },
+            None => return Ok(Some(Series::from_vec(values))),
+        }
+    }
+    Ok(Some(Series::from_vec(values)))
+}
+
+/// The segment at a node, by the nodes whose types its keys have.
+fn read_with_values(
+    alloc: Global,
+    schema: &Schema,
+    node: u32,
+    asked: &[u32],
+    texts: &Names,
+) -> Result<Seg, PathFault>
+    requires { All (λ node. node < length schema.now) asked.now }
+    ensures read { Gives result (with_values schema.now node asked.now texts.now) }
+    ensures node { IfOk result (λ segment. segment.node ≡ node) }
+{
+    if asked.len() != texts.len() {
+        return Err(PathFault::KeyCount);
+    }
+    match read_values(alloc, schema, asked, texts.items())? {
+        Some(keys) => Ok(Seg { node, keys }),
+        None => Err(PathFault::KeyValue),
+    }
+}
+
+/// The segment at a node: a list has its keys, a leaf-list its value, any other node none.
+#[tactic(auto, using(crate::proofs::Types::keys_stand))]
+fn read_at_node(alloc: Global, schema: &Schema, node: u32, texts: &Names) -> Result<Seg, PathFault>
+    requires { node < length schema.now }
+    ensures read { Gives result (with_values schema.now node (asked node schema.now) texts.now) }
+    ensures node { IfOk result (λ segment. segment.node ≡ node) }
+{
+    // What each schema keeps: the keys of its lists are nodes.
+    let _count = schema.count();
+    match schema.kind(node) {
+        Kind::Container | Kind::Presence | Kind::Leaf => read_with_values(
+            alloc,
+            schema,
+            node,
+            &[],
+            texts,
+        ),
+        Kind::List => read_with_values(alloc, schema, node, schema.keys(node), texts),
+        Kind::LeafList => read_with_values(alloc, schema, node, &[node], texts),
+    }
+}
+
+/// The name of a segment, and its keys as they stand in it.
+fn split_part<'a>(alloc: Global, part: &'a str) -> Result<(&'a str, Names), NoMemory>
+    ensures { IfOk result (λ x. (x.0.now ≡ name_part part.now) × (x.1 ≡ key_parts part.now)) }
+{
+    match cut_once(part, '=') {
+        Some((name, keys)) => Ok((name, cut_all(alloc, keys, ',')?)),
+        None => Ok((part, Series::from_vec(Vec::new(alloc)))),
+    }
+}
+
+/// A segment below a node, or at the top.
+fn read_segment(
+    alloc: Global,
+    schema: &Schema,
+    parent: Option<u32>,
+    part: &str,
+) -> Result<Seg, PathFault>
+    requires { IfSome parent (λ parent. parent < length schema.now) }
+    ensures read { Gives result (segment_in schema.now parent part.now) }
+    ensures node { IfOk result (λ segment. segment.node < length schema.now) }
+{
+    let (name, keys) = split_part(alloc, part)?;
+    if name.is_empty() {
+        return Err(PathFault::Syntax);
+    }
+    match read_keys(alloc, &keys)? {
+        Some(texts) => match child_named(schema, parent, name) {
+            Some(node) => read_at_node(alloc, schema, node, &texts),
+            None => Err(PathFault::UnknownNode),
+        },
+        None => Err(PathFault::Syntax),
+    }
+}
+
+/// The segments of a text without its leading `/`, from the top down.
+#[tactic(auto, using(crate::proofs::Segments::one_segment, crate::proofs::Segments::last_segment, crate::proofs::Segments::one_fault, crate::proofs::Segments::last_fault))]
+fn read_segments(alloc: Global, schema: &Schema, text: &str) -> Result<Path, PathFault>
+    ensures { Gives result (segments_in schema.now None (cut 47 text.now)) }
+{
+    let mut segments = Vec::new(alloc);
+    let mut parent = None;
+    let mut rest = text;
+    while let Some((part, more)) = cut_once(rest, '/') {
+        let segment = read_segment(alloc, schema, parent, part)?;
+        parent = Some(segment.node);
+        segments.push(segment)?;
+        rest = more;
+    }
+    segments.push(read_segment(alloc, schema, parent, rest)?)?;
+    Ok(Series::from_vec(segments))
+}
+
+/// The path that a text is. Names are in member form or qualified, keys percent-decoded and read by
+/// their types. The fault is the first of the leftmost segment that has one.
+#[tactic(auto, using(crate::proofs::Segments::rooted, crate::proofs::Segments::unrooted, crate::proofs::Segments::rootless))]
+pub fn read_target(alloc: Global, schema: &Schema, text: &str) -> Result<Path, PathFault>
+    ensures read { Gives result (target_in schema.now text.now) }
+    ensures path { IfOk result (λ path. is_path_of schema.now path ≡ true) }
+{
+    match cut_once(text, '/') {
+        Some((front, rest)) => {
+            if front.is_empty() {
+                read_segments(alloc, schema, rest)
+            } else {
+                Err(PathFault::Syntax)
+            }
+        }
+        None => Err(PathFault::Syntax),
+    }
+}
+
+/// Writes keys, the first behind this mark and each other behind a comma.
+fn push_keys(alloc: Global, text: &mut String, keys: &Keys) -> Result<(), NoMemory>
+    requires { All (λ key. is_writable key ≡ true) keys.now }
+    ensures written { OnOk result (string_bytes text.new ≡ string_bytes text.old ++ keys_text 61 keys.now) }
+    ensures texts { OnOk result (are_texts keys.now ≡ true) }
+{
+    let mut mark = '=';
+    for key in keys.items() {
+        text.push(mark)?;
+        push_key(text, write_text(alloc, key)?.as_str())?;
+        mark = ',';
+    }
+    Ok(())
+}
+
+/// Writes a segment.
+fn push_segment(
+    alloc: Global,
+    schema: &Schema,
+    text: &mut String,
+    segment: &Seg,
+) -> Result<(), NoMemory>
+    requires node { segment.now.node < length schema.now }
+    requires keys { All (λ key. is_writable key ≡ true) segment.now.keys }
+    ensures written { OnOk result (string_bytes text.new ≡ string_bytes text.old ++ segment_text schema.now segment.now) }
+    ensures texts { OnOk result (are_texts segment.now.keys ≡ true) }
+{
+    text.push('/')?;
+    text.push_str(schema.member_text(segment.node))?;
+    push_keys(alloc, text, &segment.keys)
+}
+
+/// The text of a path, with names in member form; it is read again as this path. In keys each byte but letters, digits, `-`, `.`, `_`
+/// and `~` is escaped with capital digits.
+pub fn write_target(alloc: Global, schema: &Schema, path: &Path) -> Result<Txt, NoMemory>
+    requires { is_path_of schema.now path.now ≡ true }
+    ensures text { IfOk result (λ text. text ≡ target_text schema.now path.now) }
+    ensures again { IfOk result (λ text. target_in schema.now text ≡ Ok path.now) }
+{
+    // What each schema keeps: its types are types.
+    let _count = schema.count();
+    let mut text = String::new(alloc);
+    for segment in path.items() {
+        push_segment(alloc, schema, &mut text, segment)?;
+    }
+    Ok(Txt::from_string(text))
+}
