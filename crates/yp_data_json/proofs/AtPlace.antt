@@ -1,0 +1,184 @@
+-- Rows at or below a place.
+use Rattle.std.proofs.Common.{◌≡◌, ℕ, ◌+◌, ◌<◌, List, [], ◌∷◌, ◌++◌, length, drop, map, Bool, true, false, true≢false, Option, Some, None, Result, Ok, Err, is_some, refl, sym, ap, subst, ◌∙◌, arith, append-nil, cond, ◌&&◌, not, Ordering, Less}
+use Rattle.std.specs.Cmp.Lexicographic.{slice_cmp}
+use Rattle.std.specs.Ordering.{eq_by_cmp, is_eq, ordering_then}
+use Rattle.std.specs.List.{AllByRecursion}
+use Rattle.std.specs.List.Sorted.{IsStrictlySortedBy}
+use Rattle.std.proofs.Math.Seq.{drop-append_seam}
+use Rattle.std.proofs.lemmas.Cmp.{tied_itself}
+use Rattle.std.proofs.lemmas.Bool.{and_parts}
+use Rattle.yp_base.specs.declared.path.Seg.{Seg}
+use Rattle.yp_base.specs.declared.row.Value.{Value}
+use Rattle.yp_base.specs.declared.row.Row.{Row}
+use Rattle.yp_base.specs.Order.{segment_cmp, path_cmp, is_front, is_within}
+use Rattle.yp_base.specs.OrderLaws.{segments_total, paths_total}
+use Rattle.yp_base.specs.Rows.{path_of, AreInOrder, value_at}
+use Rattle.yp_base.proofs.Exact.{segments_decide}
+use Rattle.yp_schema.specs.declared.schema.SchemaNode.{SchemaNode}
+use Rattle.yp_schema.specs.declared.schema.Kind.TheVariants.{Leaf}
+use Rattle.yp_schema.specs.Nodes.{node_at, may_hold}
+use Rattle.yp_schema.specs.WellFormed.{IsSchema}
+use Rattle.yp_schema.specs.Datastore.{goes_down, is_segment, is_path_of, is_place, last_node, holds_value, value_of_kind, typed_fits, IsRowOf, is_leaf_kind, last_kind_is, ends_in_leaf, has_row, AreWritable}
+use Rattle.yp_data_json.specs.Forest.{forest_at}
+use Rattle.yp_data_json.specs.Writing.{leaf_data, last_segment, members_in, place_data, data_at, named_member, rows_json}
+use Rattle.std.specs.Prelude.{IfOk}
+use Rattle.serde_json.specs.Data.{Data, object}
+use Rattle.serde_json.specs.View.{view}
+use Rattle.serde_json.specs.declared.value.Value.{Value as Json}
+use Rattle.yp_base.specs.declared.memory.NoMemory.{NoMemory}
+use Rattle.yp_data_json.specs.Runs.{EndsWell, IsRest, rest_of, AreBelow}
+use Rattle.yp_data_json.proofs.Growing.{last_of}
+use Rattle.yp_data_json.proofs.Steps.{leaf_ends}
+
+-- what is left of a path behind its front
+pub front_rest : (at path : List Seg) → is_front (eq_by_cmp segment_cmp) at path ≡ true → (rest : List Seg) × (path ≡ at ++ rest)
+front_rest [] path h = (path, refl)
+front_rest (s ∷ at) [] h = absurd (true≢false (sym h))
+front_rest (s ∷ at) (t ∷ path) h =
+    let parts = and_parts (eq_by_cmp segment_cmp s t) (is_front (eq_by_cmp segment_cmp) at path) h in
+    let later = front_rest at path parts.1 in
+    let same : s ≡ t = (segments_decide s t).0 parts.0 in
+    (later.0, ap (λ xs. t ∷ xs) later.1 ∙ ap (λ (x : Seg). x ∷ (at ++ later.0)) (sym same))
+
+-- the node of the last segment, or another where there is none
+abbrev pub node_after : Option ℕ → List Seg → Option ℕ
+node_after parent [] = parent
+node_after parent (seg ∷ segs) = node_after (Some seg.node) segs
+
+pub goes_on : (nodes : List SchemaNode) (parent : Option ℕ) (at rest : List Seg) → goes_down nodes parent (at ++ rest) ≡ true → goes_down nodes (node_after parent at) rest ≡ true
+goes_on nodes parent [] rest h = h
+goes_on nodes parent (s ∷ at) rest h = goes_on nodes (Some s.node) at rest (and_parts _ _ h).1
+
+pub last_on : (at : List Seg) (seg : Seg) (rest : List Seg) → last_node (at ++ seg ∷ rest) ≡ last_node (seg ∷ rest)
+last_on [] seg rest = refl
+last_on (s ∷ []) seg rest = refl
+last_on (s ∷ t ∷ at) seg rest = last_on (t ∷ at) seg rest
+
+pub after_last : (parent : Option ℕ) (above : List Seg) (seg : Seg) → node_after parent (above ++ seg ∷ []) ≡ Some seg.node
+after_last parent [] seg = refl
+after_last parent (s ∷ above) seg = after_last (Some s.node) above seg
+
+path_down : (nodes : List SchemaNode) (path : List Seg) → is_path_of nodes path ≡ true → goes_down nodes None path ≡ true
+path_down nodes [] h = refl
+path_down nodes (seg ∷ path) h = h
+
+rest_ends : (nodes : List SchemaNode) (at rest : List Seg) (v : Value) → holds_value nodes (last_node (at ++ rest)) v ≡ true → EndsWell nodes rest v
+rest_ends nodes at [] v h = tt
+rest_ends nodes at (seg ∷ rest) v h = subst (λ n. holds_value nodes n v ≡ true) (last_on at seg rest) h
+
+left_over : (at path rest : List Seg) → path ≡ at ++ rest → drop (length at) path ≡ rest
+left_over at path rest is = ap (drop (length at)) is ∙ drop-append_seam at rest
+
+is_rest : (nodes : List SchemaNode) (at : List Seg) (row : Row) → is_within at row.path ≡ true → IsRowOf nodes row → IsRest nodes (node_after None at) (length at) row
+is_rest nodes at row within of_schema =
+    let found = front_rest at row.path within in
+    let left = left_over at row.path found.0 found.1 in
+    let down = goes_on nodes None at found.0 (subst (λ path. goes_down nodes None path ≡ true) found.1 (path_down nodes row.path of_schema.path)) in
+    let ends = rest_ends nodes at found.0 row.value (subst (λ path. holds_value nodes (last_node path) row.value ≡ true) found.1 of_schema.value) in
+    (subst (λ path. goes_down nodes (node_after None at) path ≡ true) (sym left) down, subst (λ path. EndsWell nodes path row.value) (sym left) ends)
+
+all_rest : (nodes : List SchemaNode) (at : List Seg) (rows : List Row) → AllByRecursion (λ row. is_within at row.path ≡ true) rows → AllByRecursion (IsRowOf nodes) rows → AllByRecursion (IsRest nodes (node_after None at) (length at)) rows
+all_rest nodes at [] within of_schema = tt
+all_rest nodes at (row ∷ rows) within of_schema = (is_rest nodes at row within.0 of_schema.0, all_rest nodes at rows within.1 of_schema.1)
+
+pub same_front : (at xs ys : List Seg) → path_cmp (at ++ xs) (at ++ ys) ≡ path_cmp xs ys
+same_front [] xs ys = refl
+same_front (s ∷ at) xs ys = ap (λ o. ordering_then o (path_cmp (at ++ xs) (at ++ ys))) (tied_itself segments_total s) ∙ same_front at xs ys
+
+rest_less : (at : List Seg) (one other : Row) → is_within at one.path ≡ true → is_within at other.path ≡ true → path_cmp one.path other.path ≡ Less → path_cmp (rest_of (length at) one) (rest_of (length at) other) ≡ Less
+rest_less at one other h k less =
+    let a = front_rest at one.path h in
+    let b = front_rest at other.path k in
+    ap (λ p. path_cmp p (rest_of (length at) other)) (left_over at one.path a.0 a.1) ∙ ap (path_cmp a.0) (left_over at other.path b.0 b.1) ∙ sym (same_front at a.0 b.0)
+    ∙ sym (ap (λ p. path_cmp p (at ++ b.0)) a.1) ∙ sym (ap (path_cmp one.path) b.1) ∙ less
+
+all_less : (at : List Seg) (row : Row) (rows : List Row) → is_within at row.path ≡ true → AllByRecursion (λ x. is_within at x.path ≡ true) rows → AllByRecursion (λ p. path_cmp row.path p ≡ Less) (map path_of rows)
+    → AllByRecursion (λ p. path_cmp (rest_of (length at) row) p ≡ Less) (map (rest_of (length at)) rows)
+all_less at row [] h k less = tt
+all_less at row (next ∷ rows) h k less = (rest_less at row next h k.0 less.0, all_less at row rows h k.1 less.1)
+
+rest_order : (at : List Seg) (rows : List Row) → AllByRecursion (λ x. is_within at x.path ≡ true) rows → AreInOrder rows → IsStrictlySortedBy path_cmp (map (rest_of (length at)) rows)
+unfolding IsStrictlySortedBy
+rest_order at [] within order = tt
+rest_order at (row ∷ rows) within order = (all_less at row rows within.0 within.1 order.0, rest_order at rows within.1 order.1)
+
+-- rows at or below a place go on below its last node
+pub writable_below : (nodes : List SchemaNode) (at : List Seg) (rows : List Row) → AreWritable nodes at rows → AreBelow nodes (node_after None at) (length at) rows
+writable_below nodes at rows h = record { each = all_rest nodes at rows h.within h.of_schema; in_order = rest_order at rows h.within h.in_order }
+
+down_last : (nodes : List SchemaNode) (parent : Option ℕ) (above : List Seg) (seg : Seg) → goes_down nodes parent (above ++ seg ∷ []) ≡ true → is_segment nodes seg ≡ true
+down_last nodes parent [] seg h = (and_parts _ _ (and_parts _ _ h).0).1
+down_last nodes parent (s ∷ above) seg h = down_last nodes (Some s.node) above seg (and_parts _ _ h).1
+
+place_down : (nodes : List SchemaNode) (path : List Seg) → is_place nodes path ≡ true → goes_down nodes None path ≡ true
+place_down nodes [] h = refl
+place_down nodes (seg ∷ path) h = (and_parts _ _ h).0
+
+pub place_segment : (nodes : List SchemaNode) (at above : List Seg) (seg : Seg) → at ≡ above ++ seg ∷ [] → is_place nodes at ≡ true → is_segment nodes seg ≡ true
+place_segment nodes at above seg is h = down_last nodes None above seg (subst (λ path. goes_down nodes None path ≡ true) is (place_down nodes at h))
+
+-- ---- leaves
+
+pub place_leaf : (nodes : List SchemaNode) (at above : List Seg) (seg : Seg) → at ≡ above ++ seg ∷ [] → (node_at seg.node nodes).kind ≡ Leaf → ends_in_leaf nodes at ≡ true
+place_leaf nodes at above seg is kind = ap (ends_in_leaf nodes) is ∙ ap (last_kind_is is_leaf_kind nodes) (last_of above seg) ∙ ap is_leaf_kind kind
+
+-- a row at or below a leaf is the leaf's
+leaf_path : (nodes : List SchemaNode) → IsSchema nodes → (at above : List Seg) (seg : Seg) (row : Row) → at ≡ above ++ seg ∷ [] → (node_at seg.node nodes).kind ≡ Leaf → is_within at row.path ≡ true → IsRowOf nodes row → row.path ≡ at
+leaf_path nodes schema at above seg row is kind within of_schema =
+    let found = front_rest at row.path within in
+    let down = goes_on nodes None at found.0 (subst (λ path. goes_down nodes None path ≡ true) found.1 (path_down nodes row.path of_schema.path)) in
+    let parent : node_after None at ≡ Some seg.node = ap (node_after None) is ∙ after_last None above seg in
+    let none = leaf_ends nodes schema seg.node found.0 (ap may_hold kind) (subst (λ n. goes_down nodes n found.0 ≡ true) parent down) in
+    found.1 ∙ ap (λ xs. at ++ xs) none ∙ append-nil at
+
+pub place_first : (nodes : List SchemaNode) → IsSchema nodes → (at above : List Seg) (seg : Seg) (rows : List Row) (row : Row) (more : List Row) → at ≡ above ++ seg ∷ [] → (node_at seg.node nodes).kind ≡ Leaf → rows ≡ row ∷ more → AreWritable nodes at rows
+    → value_at at rows ≡ Some row.value
+place_first nodes schema at above seg rows row more is kind first h =
+    let within = (subst (λ xs. AllByRecursion (λ (x : Row). is_within at x.path ≡ true) xs) first h.within).0 in
+    let of_schema = (subst (λ xs. AllByRecursion (IsRowOf nodes) xs) first h.of_schema).0 in
+    let here = leaf_path nodes schema at above seg row is kind within of_schema in
+    ap (value_at at) first ∙ ap (λ b. cond b (Some row.value) (value_at at more)) (ap (λ p. is_eq (path_cmp at p)) here ∙ ap is_eq (tied_itself paths_total at))
+
+pub place_fits : (nodes : List SchemaNode) → IsSchema nodes → (at above : List Seg) (seg : Seg) (rows : List Row) (row : Row) (more : List Row) → at ≡ above ++ seg ∷ [] → (node_at seg.node nodes).kind ≡ Leaf → rows ≡ row ∷ more → AreWritable nodes at rows
+    → typed_fits (node_at seg.node nodes).ty row.value ≡ true
+place_fits nodes schema at above seg rows row more is kind first h =
+    let within = (subst (λ xs. AllByRecursion (λ (x : Row). is_within at x.path ≡ true) xs) first h.within).0 in
+    let of_schema = (subst (λ xs. AllByRecursion (IsRowOf nodes) xs) first h.of_schema).0 in
+    let here = leaf_path nodes schema at above seg row is kind within of_schema in
+    let ends : last_node row.path ≡ Some seg.node = ap last_node (here ∙ is) ∙ last_of above seg in
+    let holds : holds_value nodes (Some seg.node) row.value ≡ true = subst (λ n. holds_value nodes n row.value ≡ true) ends of_schema.value in
+    subst (λ k. value_of_kind k (node_at seg.node nodes).ty row.value ≡ true) kind (and_parts _ _ holds).1
+
+pub place_some : (nodes : List SchemaNode) (at above : List Seg) (seg : Seg) (rows : List Row) → at ≡ above ++ seg ∷ [] → (node_at seg.node nodes).kind ≡ Leaf → AreWritable nodes at rows → rows ≡ [] → ⊥
+place_some nodes at above seg rows is kind h none = true≢false (sym (h.leaf (place_leaf nodes at above seg is kind)) ∙ ap (has_row at) none)
+
+-- the JSON of a leaf's row is that of the leaf
+pub place_written : (nodes : List SchemaNode) → IsSchema nodes → (at above : List Seg) (seg : Seg) (rows : List Row) (row : Row) (more : List Row) → at ≡ above ++ seg ∷ [] → (node_at seg.node nodes).kind ≡ Leaf → rows ≡ row ∷ more → AreWritable nodes at rows
+    → leaf_data (node_at seg.node nodes).ty (Some row.value) ≡ data_at nodes seg at rows
+place_written nodes schema at above seg rows row more is kind first h =
+    ap (leaf_data (node_at seg.node nodes).ty) (sym (place_first nodes schema at above seg rows row more is kind first h))
+    ∙ sym (ap (λ k. place_data nodes k (node_at seg.node nodes) seg (value_at at rows) (members_in nodes (forest_at (length at) rows))) kind)
+
+pub if_same : (made : Result Json NoMemory) (d e : Data) → d ≡ e → IfOk made (λ json. view json ≡ d) → IfOk made (λ json. view json ≡ e)
+if_same (Ok json) d e same is = is ∙ same
+if_same (Err f) d e same is = tt
+
+-- ---- the whole
+
+last_is : (s : Seg) (above : List Seg) (seg : Seg) → last_segment s (above ++ seg ∷ []) ≡ seg
+last_is s [] seg = refl
+last_is s (t ∷ above) seg = last_is t above seg
+
+json_split : (nodes : List SchemaNode) (above : List Seg) (seg : Seg) (rows : List Row) → rows_json nodes (above ++ seg ∷ []) rows ≡ named_member nodes seg (data_at nodes seg (above ++ seg ∷ []) rows)
+json_split nodes [] seg rows = refl
+json_split nodes (s ∷ above) seg rows = ap (λ (x : Seg). named_member nodes x (data_at nodes x (s ∷ above ++ seg ∷ []) rows)) (last_is s above seg)
+
+-- the JSON of rows at a path, by its last segment
+pub json_at : (nodes : List SchemaNode) (at above : List Seg) (seg : Seg) (rows : List Row) → at ≡ above ++ seg ∷ [] → rows_json nodes at rows ≡ named_member nodes seg (data_at nodes seg at rows)
+json_at nodes at above seg rows is = subst (λ path. rows_json nodes path rows ≡ named_member nodes seg (data_at nodes seg path rows)) (sym is) (json_split nodes above seg rows)
+
+pub json_top : (nodes : List SchemaNode) (at : List Seg) (rows : List Row) → at ≡ [] → rows_json nodes at rows ≡ object (members_in nodes (forest_at 0 rows))
+json_top nodes at rows none = ap (λ path. rows_json nodes path rows) none
+
+pub top_below : (nodes : List SchemaNode) (at : List Seg) (rows : List Row) → at ≡ [] → AreWritable nodes at rows → AreBelow nodes None 0 rows
+top_below nodes at rows none h = subst (λ path. AreBelow nodes (node_after None path) (length path) rows) none (writable_below nodes at rows h)

@@ -1,0 +1,204 @@
+-- Rows below one node.
+use Rattle.std.proofs.Common.{◌≡◌, ◌≢◌, ℕ, ◌+◌, ◌-◌, ◌<◌, ◌≤◌, List, [], ◌∷◌, ◌++◌, length, drop, map, Bool, true, false, true≢false, Option, Some, None, refl, sym, ap, subst, ◌∙◌, cond, arith, nat_eq, nat_lt, Ordering, Less, Equal, Greater, nat_cmp, ◌&&◌}
+use Rattle.std.specs.Cmp.Lexicographic.{slice_cmp}
+use Rattle.std.specs.Ordering.{ordering_then, is_lt, is_eq}
+use Rattle.std.specs.List.{AllByRecursion}
+use Rattle.std.specs.List.Sorted.{IsStrictlySortedBy}
+use Rattle.std.proofs.lemmas.Cmp.{tied_itself}
+use Rattle.std.proofs.lemmas.List.{drop-drop, length-drop}
+use Rattle.std.proofs.lemmas.Bool.{eqb-true, eq-eqb}
+use borrow.Author.Tests.{ltb-true}
+use Rattle.std.specs.Cmp.{ranked}
+use Rattle.yp_base.specs.declared.path.Seg.{Seg}
+use Rattle.yp_base.specs.declared.row.Value.{Value}
+use Rattle.yp_base.specs.declared.row.Row.{Row}
+use Rattle.yp_base.specs.Order.{atom_cmp, path_cmp, segment_cmp}
+use Rattle.yp_base.specs.OrderLaws.{segments_total}
+use Rattle.yp_schema.specs.declared.schema.SchemaNode.{SchemaNode}
+use Rattle.yp_schema.specs.Nodes.{node_at, same_number}
+use Rattle.yp_schema.specs.WellFormed.{IsSchema}
+use Rattle.yp_schema.specs.Datastore.{goes_down, is_segment, keys_of_kind}
+use Rattle.serde_json.specs.Data.{Data, Members, member}
+use Rattle.yp_data_json.specs.Runs.{EndsWell, IsRest, rest_of, AreBelow, begins_with, goes_through, AllGoThrough, ends_through, HasSegment, StandsBefore}
+use Rattle.yp_data_json.proofs.Parts.{all_front, all_back, all_mapped, sorted_front, sorted_back, less_middle}
+
+-- ---- parts of a test
+
+pub both_left : (a b : Bool) → (a && b) ≡ true → a ≡ true
+both_left true b h = refl
+both_left false b h = h
+
+pub both_right : (a b : Bool) → (a && b) ≡ true → b ≡ true
+both_right true b h = h
+both_right false b h = absurd (true≢false (sym h))
+
+-- ---- parts of rows
+
+pub front_below : (nodes : List SchemaNode) (parent : Option ℕ) (depth : ℕ) (xs ys : List Row) → AreBelow nodes parent depth (xs ++ ys) → AreBelow nodes parent depth xs
+front_below nodes parent depth xs ys h = record { each = all_front (IsRest nodes parent depth) xs ys h.each; in_order = sorted_front path_cmp (rest_of depth) xs ys h.in_order }
+
+pub back_below : (nodes : List SchemaNode) (parent : Option ℕ) (depth : ℕ) (xs ys : List Row) → AreBelow nodes parent depth (xs ++ ys) → AreBelow nodes parent depth ys
+back_below nodes parent depth xs ys h = record { each = all_back (IsRest nodes parent depth) xs ys h.each; in_order = sorted_back path_cmp (rest_of depth) xs ys h.in_order }
+
+-- ---- one segment further down
+
+rest_further : (nodes : List SchemaNode) (seg : Seg) (rest : List Seg) (v : Value) → EndsWell nodes (seg ∷ rest) v → EndsWell nodes rest v
+rest_further nodes seg [] v h = tt
+rest_further nodes seg (next ∷ rest) v h = h
+
+is_further : (nodes : List SchemaNode) (parent : Option ℕ) (depth : ℕ) (seg : Seg) (row : Row) → HasSegment depth seg row → IsRest nodes parent depth row → IsRest nodes (Some seg.node) (depth + 1) row
+is_further nodes parent depth seg row here h =
+    let down : goes_down nodes parent (seg ∷ drop (depth + 1) row.path) ≡ true = subst (λ path. goes_down nodes parent path ≡ true) here h.0 in (
+      both_right (same_number (node_at seg.node nodes).parent parent && is_segment nodes seg) (goes_down nodes (Some seg.node) (drop (depth + 1) row.path)) down,
+      rest_further nodes seg (drop (depth + 1) row.path) row.value (subst (λ path. EndsWell nodes path row.value) here h.1),
+    )
+
+all_further : (nodes : List SchemaNode) (parent : Option ℕ) (depth : ℕ) (seg : Seg) (rows : List Row) → AllByRecursion (HasSegment depth seg) rows → AllByRecursion (IsRest nodes parent depth) rows
+    → AllByRecursion (IsRest nodes (Some seg.node) (depth + 1)) rows
+all_further nodes parent depth seg [] here h = tt
+all_further nodes parent depth seg (row ∷ rows) here h = (is_further nodes parent depth seg row here.0 h.0, all_further nodes parent depth seg rows here.1 h.1)
+
+same_start : (seg : Seg) (xs ys : List Seg) → path_cmp (seg ∷ xs) (seg ∷ ys) ≡ path_cmp xs ys
+same_start seg xs ys = ap (λ o. ordering_then o (path_cmp xs ys)) (tied_itself segments_total seg)
+
+less_further : (depth : ℕ) (seg : Seg) (row : Row) (rows : List Row) → HasSegment depth seg row → AllByRecursion (HasSegment depth seg) rows
+    → AllByRecursion (λ path. path_cmp (rest_of depth row) path ≡ Less) (map (rest_of depth) rows)
+    → AllByRecursion (λ path. path_cmp (rest_of (depth + 1) row) path ≡ Less) (map (rest_of (depth + 1)) rows)
+less_further depth seg row [] here all h = tt
+less_further depth seg row (next ∷ rows) here all h = (
+  sym (same_start seg (drop (depth + 1) row.path) (drop (depth + 1) next.path)) ∙ sym (ap (λ p. path_cmp p (seg ∷ drop (depth + 1) next.path)) here) ∙ sym (ap (λ p. path_cmp (drop depth row.path) p) all.0) ∙ h.0,
+  less_further depth seg row rows here all.1 h.1,
+)
+
+sorted_further : (depth : ℕ) (seg : Seg) (rows : List Row) → AllByRecursion (HasSegment depth seg) rows → IsStrictlySortedBy path_cmp (map (rest_of depth) rows) → IsStrictlySortedBy path_cmp (map (rest_of (depth + 1)) rows)
+unfolding IsStrictlySortedBy
+sorted_further depth seg [] here h = tt
+sorted_further depth seg (row ∷ rows) here h = (less_further depth seg row rows here.0 here.1 h.0, sorted_further depth seg rows here.1 h.1)
+
+-- rows with one segment are below its node
+pub further : (nodes : List SchemaNode) (parent : Option ℕ) (depth : ℕ) (seg : Seg) (rows : List Row) → AllByRecursion (HasSegment depth seg) rows → AreBelow nodes parent depth rows
+    → AreBelow nodes (Some seg.node) (depth + 1) rows
+further nodes parent depth seg rows here h = record { each = all_further nodes parent depth seg rows here h.each; in_order = sorted_further depth seg rows here h.in_order }
+
+-- ---- names in order
+
+-- the member of a row's next segment stands before these members
+abbrev pub NextBefore : List SchemaNode → List Seg → Members → Type 0
+NextBefore nodes [] ms = Unit {0}
+NextBefore nodes (seg ∷ rest) ms = StandsBefore (node_at seg.node nodes).member ms
+
+abbrev pub AllBefore : List SchemaNode → ℕ → Members → List Row → Type 0
+AllBefore nodes depth ms rows = AllByRecursion (λ row. NextBefore nodes (drop depth row.path) ms) rows
+
+-- the next segment, if there is one, is of an earlier node
+abbrev IsEarlier : ℕ → List Seg → Type 0
+IsEarlier n [] = Unit {0}
+IsEarlier n (seg ∷ rest) = seg.node < n
+
+node_order : (o : Ordering) (s t : Seg) (keys rest : Ordering) → o ≡ nat_cmp s.node t.node → ordering_then (ordering_then o keys) rest ≡ Less → s.node ≤ t.node
+node_order Less s t keys rest is h = let lt : s.node < t.node = ranked s.node t.node Less is in omega arith
+node_order Equal s t keys rest is h = let same : s.node ≡ t.node = ranked s.node t.node Equal is in omega arith
+node_order Greater s t keys rest is h = cc
+
+nodes_rise : (s t : Seg) (xs ys : List Seg) → path_cmp (s ∷ xs) (t ∷ ys) ≡ Less → s.node ≤ t.node
+nodes_rise s t xs ys h = node_order (nat_cmp s.node t.node) s t (slice_cmp atom_cmp s.keys t.keys) (path_cmp xs ys) refl h
+
+earlier_last : (n : ℕ) (xs ys : List Seg) → path_cmp xs ys ≡ Less → begins_with n ys ≡ true → begins_with n xs ≡ false → IsEarlier n xs
+earlier_last n [] ys h is apart = tt
+earlier_last n (s ∷ xs) [] h is apart = cc
+earlier_last n (s ∷ xs) (t ∷ ys) h is apart =
+    let rise = nodes_rise s t xs ys h in
+    let same : t.node ≡ n = eqb-true t.node n is in
+    let other : s.node ≢ n = λ e. true≢false (sym (eq-eqb s.node n e) ∙ apart) in
+    omega arith
+
+earlier_chain : (n : ℕ) (xs ys : List Seg) → path_cmp xs ys ≡ Less → IsEarlier n ys → IsEarlier n xs
+earlier_chain n [] ys h later = tt
+earlier_chain n (s ∷ xs) [] h later = cc
+earlier_chain n (s ∷ xs) (t ∷ ys) h later = let rise = nodes_rise s t xs ys h in omega arith
+
+less_next : (depth : ℕ) (row : Row) (rows : List Row) (next : Row) (more : List Row) → IsStrictlySortedBy path_cmp (map (rest_of depth) (row ∷ (rows ++ next ∷ more))) → path_cmp (rest_of depth row) (rest_of depth next) ≡ Less
+unfolding IsStrictlySortedBy
+less_next depth row rows next more h = less_middle path_cmp (rest_of depth) row rows next more h.0
+
+sorted_tail : (depth : ℕ) (row : Row) (rows : List Row) → IsStrictlySortedBy path_cmp (map (rest_of depth) (row ∷ rows)) → IsStrictlySortedBy path_cmp (map (rest_of depth) rows)
+unfolding IsStrictlySortedBy
+sorted_tail depth row rows h = h.1
+
+-- rows before a run of one node that don't end in it are of earlier nodes
+front_earlier : (depth n : ℕ) (front : List Row) (row : Row) (more : List Row) → IsStrictlySortedBy path_cmp (map (rest_of depth) (front ++ row ∷ more))
+    → goes_through depth n row ≡ true → ends_through depth n front ≡ false → AllByRecursion (λ x. IsEarlier n (rest_of depth x)) front
+front_earlier depth n [] row more order is apart = tt
+front_earlier depth n (x ∷ []) row more order is apart = (earlier_last n (rest_of depth x) (rest_of depth row) (less_next depth x [] row more order) is apart, tt)
+front_earlier depth n (x ∷ next ∷ front) row more order is apart =
+    let later = front_earlier depth n (next ∷ front) row more (sorted_tail depth x ((next ∷ front) ++ row ∷ more) order) is apart in
+    (earlier_chain n (rest_of depth x) (rest_of depth next) (less_next depth x [] next (front ++ row ∷ more) order) later.0, later)
+
+same_parent : (a b p : Option ℕ) → same_number a p ≡ true → same_number b p ≡ true → same_number a b ≡ true
+same_parent None None p h k = refl
+same_parent None (Some b) None h k = k
+same_parent None (Some b) (Some p) h k = absurd (true≢false (sym h))
+same_parent (Some a) None None h k = h
+same_parent (Some a) None (Some p) h k = absurd (true≢false (sym k))
+same_parent (Some a) (Some b) None h k = absurd (true≢false (sym h))
+same_parent (Some a) (Some b) (Some p) h k = eq-eqb a b (eqb-true a p h ∙ sym (eqb-true b p k))
+
+-- what is known of the next segment
+pub next_parent : (nodes : List SchemaNode) (parent : Option ℕ) (seg : Seg) (rest : List Seg) → goes_down nodes parent (seg ∷ rest) ≡ true → same_number (node_at seg.node nodes).parent parent ≡ true
+next_parent nodes parent seg rest h =
+    both_left (same_number (node_at seg.node nodes).parent parent) (is_segment nodes seg)
+    (both_left (same_number (node_at seg.node nodes).parent parent && is_segment nodes seg) (goes_down nodes (Some seg.node) rest) h)
+
+pub next_segment : (nodes : List SchemaNode) (parent : Option ℕ) (seg : Seg) (rest : List Seg) → goes_down nodes parent (seg ∷ rest) ≡ true → is_segment nodes seg ≡ true
+next_segment nodes parent seg rest h =
+    both_right (same_number (node_at seg.node nodes).parent parent) (is_segment nodes seg)
+    (both_left (same_number (node_at seg.node nodes).parent parent && is_segment nodes seg) (goes_down nodes (Some seg.node) rest) h)
+
+pub segment_node : (nodes : List SchemaNode) (seg : Seg) → is_segment nodes seg ≡ true → seg.node < length nodes
+segment_node nodes seg h = ltb-true seg.node (length nodes) (both_left (nat_lt seg.node (length nodes)) (keys_of_kind (node_at seg.node nodes).kind nodes (node_at seg.node nodes) seg.keys) h)
+
+-- a node that a row goes through, as a child of the parent
+through_parent : (nodes : List SchemaNode) (parent : Option ℕ) (n : ℕ) (path : List Seg) → goes_down nodes parent path ≡ true → begins_with n path ≡ true
+    → (same_number (node_at n nodes).parent parent ≡ true) × (n < length nodes)
+through_parent nodes parent n [] down is = absurd (true≢false (sym is))
+through_parent nodes parent n (seg ∷ rest) down is =
+    let same = eqb-true seg.node n is in
+    subst (λ k. (same_number (node_at k nodes).parent parent ≡ true) × (k < length nodes)) same (next_parent nodes parent seg rest down, segment_node nodes seg (next_segment nodes parent seg rest down))
+
+before_at : (nodes : List SchemaNode) → IsSchema nodes → (parent : Option ℕ) (n : ℕ) (d : Data) (ms : Members) (path : List Seg)
+    → goes_down nodes parent path ≡ true → IsEarlier n path → same_number (node_at n nodes).parent parent ≡ true → n < length nodes
+    → NextBefore nodes path (member (node_at n nodes).member d ms)
+before_at nodes schema parent n d ms [] down less of_parent within = tt
+before_at nodes schema parent n d ms (seg ∷ rest) down less of_parent within =
+    schema.siblings seg.node n less within (same_parent (node_at seg.node nodes).parent (node_at n nodes).parent parent (next_parent nodes parent seg rest down) of_parent)
+
+all_before_at : (nodes : List SchemaNode) → IsSchema nodes → (parent : Option ℕ) (depth n : ℕ) (d : Data) (ms : Members) (rows : List Row)
+    → AllByRecursion (IsRest nodes parent depth) rows → AllByRecursion (λ x. IsEarlier n (rest_of depth x)) rows → same_number (node_at n nodes).parent parent ≡ true → n < length nodes
+    → AllBefore nodes depth (member (node_at n nodes).member d ms) rows
+all_before_at nodes schema parent depth n d ms [] rest less of_parent within = tt
+all_before_at nodes schema parent depth n d ms (row ∷ rows) rest less of_parent within =
+    (before_at nodes schema parent n d ms (drop depth row.path) rest.0.0 less.0 of_parent within, all_before_at nodes schema parent depth n d ms rows rest.1 less.1 of_parent within)
+
+-- members of the rows before a run stand before the member of the run
+pub front_before : (nodes : List SchemaNode) → IsSchema nodes → (parent : Option ℕ) (depth n : ℕ) (d : Data) (ms : Members) (front : List Row) (row : Row) (more : List Row)
+    → AreBelow nodes parent depth (front ++ row ∷ more) → goes_through depth n row ≡ true → ends_through depth n front ≡ false
+    → AllBefore nodes depth (member (node_at n nodes).member d ms) front
+front_before nodes schema parent depth n d ms front row more below is apart =
+    let here = through_parent nodes parent n (drop depth row.path) (all_back (IsRest nodes parent depth) front (row ∷ more) below.each).0.0 is in
+    all_before_at nodes schema parent depth n d ms front (all_front (IsRest nodes parent depth) front (row ∷ more) below.each) (front_earlier depth n front row more below.in_order is apart) here.0 here.1
+
+-- ---- segments
+
+drop_next : (i : ℕ) (xs : List Seg) (x : Seg) (rest : List Seg) → drop i xs ≡ x ∷ rest → drop (i + 1) xs ≡ rest
+drop_next i xs x rest h = sym (drop-drop 1 i xs) ∙ ap (drop 1) h
+
+pub segment_at : (depth n : ℕ) (row : Row) (path : List Seg) → drop depth row.path ≡ path → begins_with n path ≡ true → (seg : Seg) × (HasSegment depth seg row × (seg.node ≡ n))
+segment_at depth n row [] here is = absurd (true≢false (sym is))
+segment_at depth n row (seg ∷ rest) here is = (seg, (here ∙ ap (λ xs. seg ∷ xs) (sym (drop_next depth row.path seg rest here)), eqb-true seg.node n is))
+
+-- the segment of a row that goes through a node
+pub segment_of : (depth n : ℕ) (row : Row) → goes_through depth n row ≡ true → (seg : Seg) × (HasSegment depth seg row × (seg.node ≡ n))
+segment_of depth n row is = segment_at depth n row (drop depth row.path) refl is
+
+pub deep_enough : (depth : ℕ) (seg : Seg) (row : Row) → HasSegment depth seg row → depth < length row.path
+deep_enough depth seg row here = let e : length row.path - depth ≡ length (seg ∷ drop (depth + 1) row.path) = sym (length-drop depth row.path) ∙ ap length here in omega arith

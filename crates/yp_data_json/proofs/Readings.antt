@@ -1,0 +1,122 @@
+-- What is read below a place stands there: each function of the reading gives rows that are of the schema and come with those of their entries.
+use Rattle.std.proofs.Common.{◌≡◌, ℕ, suc, ◌+◌, ◌<◌, length, get_or, List, [], ◌∷◌, ◌++◌, Bool, true, false, ◌&&◌, refl, sym, ap, subst, ◌∙◌, cond, arith}
+use Rattle.std.specs.Prelude.{Option, Some, None, is_some, Result, Ok, Err, nat_lt, not, if◌then◌else◌}
+use Rattle.std.specs.Cmp.Lexicographic.{pointwise}
+use Rattle.std.proofs.lemmas.Bool.{and_parts, and_from, lt-ltb, eqb-true}
+use Rattle.yp_base.specs.declared.atom.Atom.{Atom}
+use Rattle.yp_base.specs.declared.leaf_type.LeafType.{LeafType}
+use Rattle.yp_base.specs.declared.path.Seg.{Seg}
+use Rattle.yp_base.specs.declared.row.Value.{Value}
+use Rattle.yp_base.specs.declared.row.Value.TheVariants.{Atom as Plain, Member, Empty, Present}
+use Rattle.yp_base.specs.declared.row.Row.{Row}
+use Rattle.yp_base.specs.Json.{value_in, value_fits}
+use Rattle.yp_base.specs.Order.{is_within}
+use Rattle.yp_base.specs.Rows.{put_row, value_at}
+use Rattle.yp_base.proofs.JsonLaws.{json_fits}
+use Rattle.yp_schema.specs.declared.schema.SchemaNode.{SchemaNode}
+use Rattle.yp_schema.specs.declared.schema.Kind.{Kind}
+use Rattle.yp_schema.specs.declared.schema.Kind.TheVariants.{Container, Presence, List as Listing, Leaf, LeafList}
+use Rattle.yp_schema.specs.Nodes.{no_node, node_at, same_number, is_child, place_from, child_of, is_key}
+use Rattle.yp_schema.specs.Datastore.{atom_fits, keys_fit, keys_of_kind, is_segment, is_path_of, last_node, is_key_node, typed_fits, value_of_kind, holds_value, IsRowOf, is_entry_kind, last_kind_is, ends_in_entry, has_row}
+use Rattle.serde_json.specs.Data.{Data, null, boolean, number, string, array, object, Items, no_items, item, Members, no_members, member}
+use Rattle.serde_json.specs.Find.{get_member}
+use Rattle.yp_data_json.specs.declared.fault.DataFault.{DataFault}
+use Rattle.yp_data_json.specs.declared.fault.DataFault.TheVariants.{UnknownElement, InvalidValue, MissingKey, RepeatedKey}
+use Rattle.yp_data_json.specs.Reading.{◌>>=◌, valid, typed_value, only_atom, typed_atom, KeyFault, at_key, key_in, both, keys_found, fault_alone, keys_in, below, row_at, leaf_read, entered, value_read, values_read, in_object, in_array, in_plain, plain_read, for_child, members_read, node_read, entries_read, entry_read}
+use Rattle.yp_data_json.proofs.PutRows.{put_there}
+use Rattle.yp_data_json.proofs.Growing.{Stand, Grown, Entered, grown_still, grown_on, entered_on, cut, put_grown, last_of, path_more, within_more}
+
+-- ---- steps
+
+-- a step that gives something was made with what the one before gave
+pub bound : {A B C : Type 0} (r : Result A DataFault) (f : A → Result B DataFault) (after : B) → (r >>= f) ≡ Ok after → ((x : A) → r ≡ Ok x → f x ≡ Ok after → C) → C
+bound (Ok x) f after h go = go x refl h
+bound (Err e) f after h go = let no : ⊥ = cc in absurd no
+
+-- the only rows that a reading gives
+abbrev pub ok_rows : List Row → Result (List Row) DataFault
+ok_rows rows = Ok rows
+
+pub given : (x y : List Row) → ok_rows x ≡ ok_rows y → x ≡ y
+given x y h = cc
+
+-- ---- values
+
+valid_some : (o : Option Value) (v : Value) → valid o ≡ Ok v → o ≡ Some v
+valid_some None v h = let no : ⊥ = cc in absurd no
+valid_some (Some w) v h = let same : w ≡ v = cc in ap (λ (x : Value). Some x) same
+
+pub value_typed : (ty : Option LeafType) (d : Data) (v : Value) → typed_value ty d ≡ Ok v → typed_fits ty v ≡ true
+value_typed None d v h = let no : ⊥ = cc in absurd no
+value_typed (Some ty) d v h = json_fits ty d v (valid_some (value_in ty d) v h)
+
+only_is : (v : Value) (a : Atom) → only_atom v ≡ Ok a → v ≡ Plain a
+only_is (Plain b) a h = let same : b ≡ a = cc in ap (λ (x : Atom). Plain x) same
+only_is Member a h = let no : ⊥ = cc in absurd no
+only_is Empty a h = let no : ⊥ = cc in absurd no
+only_is Present a h = let no : ⊥ = cc in absurd no
+
+plain_fits : (ty : Option LeafType) (a : Atom) → typed_fits ty (Plain a) ≡ atom_fits ty a
+plain_fits None a = refl
+plain_fits (Some ty) a = refl
+
+pub atom_typed : (ty : Option LeafType) (d : Data) (a : Atom) → typed_atom ty d ≡ Ok a → atom_fits ty a ≡ true
+atom_typed ty d a h = bound (typed_value ty d) only_atom a h (λ v e g. sym (plain_fits ty a) ∙ subst (λ (w : Value). typed_fits ty w ≡ true) (only_is v a g) (value_typed ty d v e))
+
+-- ---- keys
+
+key_typed : (ty : Option LeafType) (o : Option Data) (a : Atom) → key_in ty o ≡ Ok a → atom_fits ty a ≡ true
+key_typed ty None a h = let no : ⊥ = cc in absurd no
+key_typed ty (Some d) a h = atom_typed ty d a h
+
+at_key_ok : (k : ℕ) (r : Result Atom DataFault) (a : Atom) → at_key k r ≡ Ok a → r ≡ Ok a
+at_key_ok k (Ok b) a h = let same : b ≡ a = cc in ap (λ (x : Atom). Ok x) same
+at_key_ok k (Err e) a h = let no : ⊥ = cc in absurd no
+
+both_ok : {C : Type 0} (nodes : List SchemaNode) (r : Result Atom KeyFault) (rest : Result (List Atom) KeyFault) (keys : List Atom) → both nodes r rest ≡ Ok keys →
+    ((a : Atom) (more : List Atom) → r ≡ Ok a → rest ≡ Ok more → keys ≡ a ∷ more → C) → C
+both_ok nodes (Ok a) (Ok more) keys h go = let same : a ∷ more ≡ keys = cc in go a more refl refl (sym same)
+both_ok nodes (Ok a) (Err f) keys h go = let no : ⊥ = cc in absurd no
+both_ok nodes (Err f) (Ok more) keys h go = let no : ⊥ = cc in absurd no
+both_ok nodes (Err f) (Err g) keys h go = let no : ⊥ = cc in absurd no
+
+found_fit : (nodes : List SchemaNode) (ks : List ℕ) (ms : Members) (keys : List Atom) → keys_found nodes ks ms ≡ Ok keys → keys_fit nodes ks keys ≡ true
+found_fit nodes [] ms keys h = let same : [] ≡ keys = cc in subst (λ (as' : List Atom). keys_fit nodes [] as' ≡ true) same refl
+found_fit nodes (k ∷ ks) ms keys h =
+    both_ok nodes (at_key k (key_in (node_at k nodes).ty (get_member (node_at k nodes).member ms))) (keys_found nodes ks ms) keys h
+    (λ a more e f same.
+    subst (λ (as' : List Atom). keys_fit nodes (k ∷ ks) as' ≡ true) (sym same)
+    (and_from _ _ (key_typed (node_at k nodes).ty (get_member (node_at k nodes).member ms) a (at_key_ok k _ a e)) (found_fit nodes ks ms more f)))
+
+alone_ok : (r : Result (List Atom) KeyFault) (keys : List Atom) → fault_alone r ≡ Ok keys → r ≡ Ok keys
+alone_ok (Ok as') keys h = let same : as' ≡ keys = cc in ap (λ (x : List Atom). Ok x) same
+alone_ok (Err f) keys h = let no : ⊥ = cc in absurd no
+
+-- the keys that are read fit
+pub keys_typed : (nodes : List SchemaNode) (ks : List ℕ) (ms : Members) (keys : List Atom) → keys_in nodes ks ms ≡ Ok keys → keys_fit nodes ks keys ≡ true
+keys_typed nodes ks ms keys h = found_fit nodes ks ms keys (alone_ok (keys_found nodes ks ms) keys h)
+
+-- ---- children
+
+found_place : (test : SchemaNode → Bool) (from : ℕ) (nodes : List SchemaNode) (n : ℕ) → place_from test from nodes ≡ Some n → (k : ℕ) × (n ≡ from + k) × (k < length nodes) × (test (get_or nodes k no_node) ≡ true)
+found_place test from [] n h = let no : ⊥ = cc in absurd no
+found_place test from (x ∷ nodes) n h =
+    elim (test x) as (λ t. test x ≡ t → cond t (Some from) (place_from test (from + 1) nodes) ≡ Some n → (k : ℕ) × (n ≡ from + k) × (k < length (x ∷ nodes)) × (test (get_or (x ∷ nodes) k no_node) ≡ true)) [
+      | true ↦ λ e g. let same : from ≡ n = cc in (0, omega arith, omega arith, e)
+      | false ↦ λ e g.
+          let later = found_place test (from + 1) nodes n g in
+          (suc later.0, omega (arith, later.1), omega (arith, later.2), later.3)
+    ] refl h
+
+pub same_is : (a b : Option ℕ) → same_number a b ≡ true → a ≡ b
+same_is None None h = refl
+same_is None (Some y) h = cc
+same_is (Some x) None h = cc
+same_is (Some x) (Some y) h = ap (λ (n : ℕ). Some n) (eqb-true x y h)
+
+-- the child of a name is a node below its parent
+pub child_is : {C : Type 0} (nodes : List SchemaNode) (parent : Option ℕ) (name : List ℕ) (n : ℕ) → child_of parent name nodes ≡ Some n → (n < length nodes → same_number (node_at n nodes).parent parent ≡ true → C) → C
+child_is nodes parent name n h go =
+    let found = found_place (is_child parent name) 0 nodes n h in
+    let number : found.0 ≡ n = omega (arith, found.1) in
+    go (omega (arith, found.2)) (subst (λ (k : ℕ). same_number (node_at k nodes).parent parent ≡ true) number (and_parts _ _ found.3).0)

@@ -1,0 +1,369 @@
+-- What each call of the writer adds.
+use Rattle.std.proofs.Common.{◌≡◌, ◌≢◌, ℕ, zero, ◌+◌, ◌-◌, ◌<◌, ◌≤◌, List, [], ◌∷◌, ◌++◌, length, drop, map, max, Bool, true, false, true≢false, Option, Some, None, cond, refl, sym, ap, subst, ◌∙◌, arith, append_assoc, append-nil, not, ◌&&◌, Ordering, Less}
+use Rattle.std.specs.Prelude.{nat_eq}
+use Rattle.std.specs.Cmp.Lexicographic.{pointwise}
+use Rattle.std.specs.Ordering.{eq_by_cmp}
+use Rattle.yp_base.specs.Order.{segment_cmp}
+use Rattle.std.specs.List.{AllByRecursion}
+use Rattle.std.proofs.lemmas.Bool.{eq-eqb, eqb-true}
+use borrow.Author.Tests.{ltb-true}
+use Rattle.yp_base.specs.declared.path.Seg.{Seg}
+use Rattle.yp_base.specs.declared.atom.Atom.{Atom}
+use Rattle.yp_base.specs.declared.leaf_type.LeafType.{LeafType}
+use Rattle.yp_base.specs.declared.row.Value.{Value}
+use Rattle.yp_base.specs.declared.row.Row.{Row}
+use Rattle.yp_schema.specs.declared.schema.SchemaNode.{SchemaNode}
+use Rattle.yp_schema.specs.declared.schema.Kind.{Kind}
+use Rattle.yp_schema.specs.declared.schema.Kind.TheVariants.{Container, Presence, List as Listing, Leaf, LeafList}
+use Rattle.yp_schema.specs.Nodes.{node_at, same_number, is_in, may_hold}
+use Rattle.yp_schema.specs.WellFormed.{IsSchema, is_parent_of, is_empty, is_key_leaf, are_key_leaves, has_none, kind_stands}
+use Rattle.yp_schema.specs.Datastore.{goes_down, is_segment, keys_of_kind, is_key_node, holds_value, value_of_kind, typed_fits}
+use Rattle.serde_json.specs.Data.{Data, null, boolean, number, string, array, object, Items, no_items, item, Members, no_members, member, put}
+use Rattle.serde_json.specs.View.{items_of}
+use Rattle.yp_data_json.specs.Forest.{Forest, bare, branch, own_of, in_front, laid, laid_all, forest_at}
+use Rattle.yp_data_json.specs.Writing.{leaf_data, item_data, item_in_front, branch_members, members_in}
+use Rattle.yp_data_json.specs.Runs.{EndsWell, IsRest, AreBelow, GoOnBelow, AreNodes, longest, begins_with, goes_through, AllGoThrough, ends_through, HasSegment, StartsApart, StandsBefore, all_in_front, has_items, AreOneMember, AreItems}
+use Rattle.yp_data_json.proofs.Parts.{all_front, all_back, ends_last}
+use Rattle.yp_data_json.proofs.Branches.{StartsElse, own_at, one_branch, laid_append, rows_start}
+use Rattle.yp_data_json.proofs.Members.{put_first, run_is, items_append, starts_else}
+use Rattle.yp_data_json.proofs.Below.{both_left, both_right, front_below, back_below, further, NextBefore, AllBefore, front_before, next_parent, next_segment, segment_node, segment_of, deep_enough}
+
+-- ---- the most segments
+
+pub longest_front : (xs ys : List Row) → longest xs ≤ longest (xs ++ ys)
+longest_front [] ys = omega arith
+longest_front (x ∷ xs) ys = let later = longest_front xs ys in omega arith
+
+pub longest_back : (xs ys : List Row) → longest ys ≤ longest (xs ++ ys)
+longest_back [] ys = omega arith
+longest_back (x ∷ xs) ys = let later = longest_back xs ys in omega arith
+
+pub deep_rows : (depth node : ℕ) (rows : List Row) → AllGoThrough depth node rows → 0 < length rows → depth < longest rows
+deep_rows depth node [] all some = omega arith
+deep_rows depth node (row ∷ rows) all some =
+    let found = segment_of depth node row all.0 in
+    let deep = deep_enough depth found.0 row found.1.0 in
+    omega arith
+
+-- the first row's next segment
+pub first_next : (nodes : List SchemaNode) (parent : Option ℕ) (depth : ℕ) (seg : Seg) (left : List Row) (first : Row) (later : List Row) → left ≡ first ∷ later → HasSegment depth seg first → AreBelow nodes parent depth left
+    → goes_down nodes parent (seg ∷ drop (depth + 1) first.path) ≡ true
+first_next nodes parent depth seg left first later is here below =
+    let each = subst (λ rows. AllByRecursion (IsRest nodes parent depth) rows) is below.each in
+    subst (λ path. goes_down nodes parent path ≡ true) here each.0.0
+
+pub first_node : (depth n : ℕ) (seg : Seg) (left : List Row) (first : Row) (later : List Row) → left ≡ first ∷ later → HasSegment depth seg first → AllGoThrough depth n left → seg.node ≡ n
+first_node depth n seg left first later is here through =
+    let found = (subst (λ rows. AllGoThrough depth n rows) is through).0 in
+    eqb-true seg.node n (sym (ap (begins_with n) here) ∙ found)
+
+pub deep_left : (depth node : ℕ) (left : List Row) (first : Row) (later all : List Row) → left ≡ first ∷ later → AllGoThrough depth node left → longest left ≤ longest all → depth < longest all
+deep_left depth node left first later all is through long = let deep = deep_rows depth node left through (some_at left first later is) in omega arith
+  where
+    some_at : (rows : List Row) (row : Row) (more : List Row) → rows ≡ row ∷ more → 0 < length rows
+    some_at rows row more is = let e : length rows ≡ length (row ∷ more) = ap length is in omega arith
+
+-- ---- members
+
+-- nothing was written yet
+pub all_before_none : (nodes : List SchemaNode) (depth : ℕ) (rows : List Row) → AllBefore nodes depth no_members rows
+all_before_none nodes depth [] = tt
+all_before_none nodes depth (row ∷ rows) = (none_before nodes (drop depth row.path), all_before_none nodes depth rows)
+  where
+    none_before : (nodes : List SchemaNode) (path : List Seg) → NextBefore nodes path no_members
+    none_before nodes [] = tt
+    none_before nodes (seg ∷ path) = tt
+
+-- a row of which nothing is left adds nothing
+pub own_row_adds : (depth : ℕ) (row : Row) (rows : List Row) → drop depth row.path ≡ [] → forest_at depth (row ∷ rows) ≡ forest_at depth rows
+own_row_adds depth row rows none = ap (λ path. laid path row.value (forest_at depth rows)) none
+
+last_through : (depth : ℕ) (seg : Seg) (left before : List Row) (last : Row) → left ≡ before ++ last ∷ [] → HasSegment depth seg last → ends_through depth seg.node left ≡ true
+last_through depth seg left before last is here =
+    ap (ends_through depth seg.node) is ∙ ends_last depth seg.node before last ∙ ap (begins_with seg.node) here ∙ eq-eqb seg.node seg.node refl
+
+-- the run of the last row has a row
+pub run_some : (depth : ℕ) (seg : Seg) (left before : List Row) (last : Row) (front run : List Row) → left ≡ before ++ last ∷ [] → HasSegment depth seg last → left ≡ front ++ run → ends_through depth seg.node front ≡ false
+    → (row : Row) × ((more : List Row) × (run ≡ row ∷ more))
+run_some depth seg left before last front [] is here parts apart =
+    absurd (true≢false (sym (last_through depth seg left before last is here) ∙ ap (ends_through depth seg.node) (parts ∙ append-nil front) ∙ apart))
+run_some depth seg left before last front (row ∷ more) is here parts apart = (row, (more, refl))
+
+pub some_rows : (rows : List Row) (row : Row) (more : List Row) → rows ≡ row ∷ more → 0 < length rows
+some_rows rows row more is = let e : length rows ≡ length (row ∷ more) = ap length is in omega arith
+
+-- the last row's next segment
+pub last_next : (nodes : List SchemaNode) (parent : Option ℕ) (depth : ℕ) (seg : Seg) (left before : List Row) (last : Row) → left ≡ before ++ last ∷ [] → HasSegment depth seg last → AreBelow nodes parent depth left
+    → goes_down nodes parent (seg ∷ drop (depth + 1) last.path) ≡ true
+last_next nodes parent depth seg left before last is here below =
+    let each = all_back (IsRest nodes parent depth) before (last ∷ []) (subst (λ rows. AllByRecursion (IsRest nodes parent depth) rows) is below.each) in
+    subst (λ path. goes_down nodes parent path ≡ true) here each.0.0
+
+pub last_before : (nodes : List SchemaNode) (depth : ℕ) (ms : Members) (seg : Seg) (left before : List Row) (last : Row) → left ≡ before ++ last ∷ [] → HasSegment depth seg last → AllBefore nodes depth ms left
+    → StandsBefore (node_at seg.node nodes).member ms
+last_before nodes depth ms seg left before last is here all =
+    let found = all_back (λ (row : Row). NextBefore nodes (drop depth row.path) ms) before (last ∷ []) (subst (λ rows. AllBefore nodes depth ms rows) is all) in
+    subst (λ path. NextBefore nodes path ms) here found.0
+
+-- one more member in front
+pub one_more : (nodes : List SchemaNode) (depth n : ℕ) (run later : List Row) (d : Data) (ms all : Members) → AreOneMember nodes depth n run d → ms ≡ members_in nodes (forest_at depth later) → StandsBefore (node_at n nodes).member ms
+    → all ≡ put (node_at n nodes).member d ms
+    → (all ≡ members_in nodes (forest_at depth (run ++ later))) × (all ≡ member (node_at n nodes).member d ms)
+one_more nodes depth n run later d ms all run_writes is before put_is =
+    let first : all ≡ member (node_at n nodes).member d ms = put_is ∙ put_first (node_at n nodes).member d ms before in
+    let written = run_writes (forest_at depth later) (subst (λ (x : Members). StandsBefore (node_at n nodes).member x) is before) in
+    (first ∙ ap (member (node_at n nodes).member d) is ∙ sym written ∙ ap (members_in nodes) (sym (laid_append depth run later bare)), first)
+
+pub regrouped : {X : Type 0} (all left front run later : List X) → all ≡ left ++ later → left ≡ front ++ run → all ≡ front ++ (run ++ later)
+regrouped all left front run later whole parts = whole ∙ ap (λ xs. xs ++ later) parts ∙ append_assoc front run later
+
+-- the members of the rows that are left stand before the new one
+pub rest_before : (nodes : List SchemaNode) → IsSchema nodes → (parent : Option ℕ) (depth : ℕ) (seg : Seg) (d : Data) (ms : Members) (left before : List Row) (last : Row) (front run : List Row)
+    → left ≡ before ++ last ∷ [] → HasSegment depth seg last → left ≡ front ++ run → AllGoThrough depth seg.node run → ends_through depth seg.node front ≡ false → AreBelow nodes parent depth left
+    → AllBefore nodes depth (member (node_at seg.node nodes).member d ms) front
+rest_before nodes schema parent depth seg d ms left before last front [] is here parts through apart below =
+    absurd (true≢false (sym (last_through depth seg left before last is here) ∙ ap (ends_through depth seg.node) (parts ∙ append-nil front) ∙ apart))
+rest_before nodes schema parent depth seg d ms left before last front (row ∷ more) is here parts through apart below =
+    front_before nodes schema parent depth seg.node d ms front row more (subst (λ rows. AreBelow nodes parent depth rows) parts below) through.0 apart
+
+-- ---- containers and leaves
+
+pub empty_keys : (keys : List Atom) → is_empty keys ≡ true → keys ≡ []
+empty_keys [] h = refl
+empty_keys (key ∷ keys) h = absurd (true≢false (sym h))
+
+abbrev pub plain_segment : ℕ → Seg
+plain_segment n = record { node = n; keys = [] }
+
+plain_is : (nodes : List SchemaNode) (n : ℕ) (seg : Seg) → seg.node ≡ n → is_segment nodes seg ≡ true → (k : Kind) → (node_at n nodes).kind ≡ k → (keys_of_kind k nodes (node_at n nodes) seg.keys ≡ true → is_empty seg.keys ≡ true) → seg ≡ plain_segment n
+plain_is nodes n seg same is k kind none =
+    let asked = both_right _ (keys_of_kind (node_at seg.node nodes).kind nodes (node_at seg.node nodes) seg.keys) is in
+    let here : keys_of_kind (node_at n nodes).kind nodes (node_at n nodes) seg.keys ≡ true = subst (λ m. keys_of_kind (node_at m nodes).kind nodes (node_at m nodes) seg.keys ≡ true) same asked in
+    let by_kind : keys_of_kind k nodes (node_at n nodes) seg.keys ≡ true = subst (λ j. keys_of_kind j nodes (node_at n nodes) seg.keys ≡ true) kind here in
+    let bare_keys = empty_keys seg.keys (none by_kind) in
+    λ i. record { node = same i; keys = bare_keys i }
+
+-- whether nodes of a kind have no keys in paths
+abbrev pub has_plain : Kind → Bool
+has_plain Container = true
+has_plain Presence = true
+has_plain Listing = false
+has_plain Leaf = true
+has_plain LeafList = false
+
+plain_keys : (k : Kind) (nodes : List SchemaNode) (node : SchemaNode) (keys : List Atom) → has_plain k ≡ true → keys_of_kind k nodes node keys ≡ true → is_empty keys ≡ true
+plain_keys Container nodes node keys plain h = h
+plain_keys Presence nodes node keys plain h = h
+plain_keys Listing nodes node keys plain h = absurd (true≢false (sym plain))
+plain_keys Leaf nodes node keys plain h = h
+plain_keys LeafList nodes node keys plain h = absurd (true≢false (sym plain))
+
+pub plain_at : (nodes : List SchemaNode) (parent : Option ℕ) (depth n : ℕ) (row : Row) → has_plain (node_at n nodes).kind ≡ true → goes_through depth n row ≡ true → IsRest nodes parent depth row → HasSegment depth (plain_segment n) row
+plain_at nodes parent depth n row plain through rest =
+    let found = segment_of depth n row through in
+    let down : goes_down nodes parent (found.0 ∷ drop (depth + 1) row.path) ≡ true = subst (λ path. goes_down nodes parent path ≡ true) found.1.0 rest.0 in
+    let same : found.0 ≡ plain_segment n =
+    plain_is nodes n found.0 found.1.1 (next_segment nodes parent found.0 (drop (depth + 1) row.path) down) (node_at n nodes).kind refl (plain_keys (node_at n nodes).kind nodes (node_at n nodes) found.0.keys plain) in
+    subst (λ (s : Seg). HasSegment depth s row) same found.1.0
+
+-- rows through a node without keys in paths have one segment
+pub plain_rows : (nodes : List SchemaNode) (parent : Option ℕ) (depth n : ℕ) (rows : List Row) → has_plain (node_at n nodes).kind ≡ true → AllGoThrough depth n rows → AllByRecursion (IsRest nodes parent depth) rows
+    → AllByRecursion (HasSegment depth (plain_segment n)) rows
+plain_rows nodes parent depth n [] plain through rest = tt
+plain_rows nodes parent depth n (row ∷ rows) plain through rest = (plain_at nodes parent depth n row plain through.0 rest.0, plain_rows nodes parent depth n rows plain through.1 rest.1)
+
+pub plain_below : (nodes : List SchemaNode) (parent : Option ℕ) (depth n : ℕ) (rows : List Row) → has_plain (node_at n nodes).kind ≡ true → AllGoThrough depth n rows → AreBelow nodes parent depth rows → AreBelow nodes (Some n) (depth + 1) rows
+plain_below nodes parent depth n rows plain through below = further nodes parent depth (plain_segment n) rows (plain_rows nodes parent depth n rows plain through below.each) below
+
+-- one segment's rows are one branch in front
+plain_branch : (nodes : List SchemaNode) (parent : Option ℕ) (depth n : ℕ) (rows : List Row) (f : Forest) → has_plain (node_at n nodes).kind ≡ true → AllGoThrough depth n rows → AreBelow nodes parent depth rows → 0 < length rows
+    → StandsBefore (node_at n nodes).member (members_in nodes f) → laid_all depth rows f ≡ branch (plain_segment n) (own_at depth rows) (forest_at (depth + 1) rows) f
+plain_branch nodes parent depth n [] f plain through below some before = absurd (omega arith)
+plain_branch nodes parent depth n (row ∷ rows) f plain through below some before =
+    let all = plain_rows nodes parent depth n (row ∷ rows) plain through below.each in
+    one_branch depth (plain_segment n) row rows f (starts_else nodes (plain_segment n) f before) all.0 all.1
+
+is_container : (k : Kind) → Bool
+is_container Container = true
+is_container Presence = true
+is_container Listing = false
+is_container Leaf = false
+is_container LeafList = false
+
+pub container_member : (nodes : List SchemaNode) (parent : Option ℕ) (depth n : ℕ) (rows : List Row) (ms : Members) → (node_at n nodes).kind ≡ Container → AllGoThrough depth n rows → AreBelow nodes parent depth rows → 0 < length rows
+    → ms ≡ members_in nodes (forest_at (depth + 1) rows) → AreOneMember nodes depth n rows (object ms)
+container_member nodes parent depth n rows ms kind through below some is f before =
+    ap (members_in nodes) (plain_branch nodes parent depth n rows f (ap has_plain kind) through below some before)
+    ∙ ap (λ k. branch_members nodes k (node_at n nodes).member (node_at n nodes) (plain_segment n) (own_at depth rows) (members_in nodes (forest_at (depth + 1) rows)) (members_in nodes f)) kind
+    ∙ ap (λ (x : Members). member (node_at n nodes).member (object x) (members_in nodes f)) (sym is)
+
+pub presence_member : (nodes : List SchemaNode) (parent : Option ℕ) (depth n : ℕ) (rows : List Row) (ms : Members) → (node_at n nodes).kind ≡ Presence → AllGoThrough depth n rows → AreBelow nodes parent depth rows → 0 < length rows
+    → ms ≡ members_in nodes (forest_at (depth + 1) rows) → AreOneMember nodes depth n rows (object ms)
+presence_member nodes parent depth n rows ms kind through below some is f before =
+    ap (members_in nodes) (plain_branch nodes parent depth n rows f (ap has_plain kind) through below some before)
+    ∙ ap (λ k. branch_members nodes k (node_at n nodes).member (node_at n nodes) (plain_segment n) (own_at depth rows) (members_in nodes (forest_at (depth + 1) rows)) (members_in nodes f)) kind
+    ∙ ap (λ (x : Members). member (node_at n nodes).member (object x) (members_in nodes f)) (sym is)
+
+-- nothing goes on below a leaf
+pub child_holds : (nodes : List SchemaNode) → IsSchema nodes → (n m : ℕ) → m < length nodes → same_number (node_at m nodes).parent (Some n) ≡ true → may_hold (node_at n nodes).kind ≡ true
+child_holds nodes schema n m within same = holds_at nodes n m (node_at m nodes).parent same (schema.each m within).parent
+  where
+    holds_at : (nodes : List SchemaNode) (n m : ℕ) (parent : Option ℕ) → same_number parent (Some n) ≡ true → is_parent_of parent m nodes ≡ true → may_hold (node_at n nodes).kind ≡ true
+    holds_at nodes n m None same h = absurd (true≢false (sym same))
+    holds_at nodes n m (Some p) same h = subst (λ k. may_hold (node_at k nodes).kind ≡ true) (eqb-true p n same) (both_right _ (may_hold (node_at p nodes).kind) h)
+
+pub leaf_ends : (nodes : List SchemaNode) → IsSchema nodes → (n : ℕ) (rest : List Seg) → may_hold (node_at n nodes).kind ≡ false → goes_down nodes (Some n) rest ≡ true → rest ≡ []
+leaf_ends nodes schema n [] leaf down = refl
+leaf_ends nodes schema n (seg ∷ rest) leaf down =
+    absurd (true≢false (sym (child_holds nodes schema n seg.node (segment_node nodes seg (next_segment nodes (Some n) seg rest down)) (next_parent nodes (Some n) seg rest down)) ∙ leaf))
+
+-- a row through a leaf ends there
+pub leaf_row : (nodes : List SchemaNode) → IsSchema nodes → (parent : Option ℕ) (depth n : ℕ) (row : Row) → (node_at n nodes).kind ≡ Leaf → goes_through depth n row ≡ true → IsRest nodes parent depth row
+    → drop (depth + 1) row.path ≡ []
+leaf_row nodes schema parent depth n row kind through rest =
+    let here = plain_at nodes parent depth n row (ap has_plain kind) through rest in
+    let down : goes_down nodes parent (plain_segment n ∷ drop (depth + 1) row.path) ≡ true = subst (λ path. goes_down nodes parent path ≡ true) here rest.0 in
+    leaf_ends nodes schema n (drop (depth + 1) row.path) (ap may_hold kind) (both_right _ (goes_down nodes (Some n) (drop (depth + 1) row.path)) down)
+
+pub leaf_fits : (nodes : List SchemaNode) → IsSchema nodes → (parent : Option ℕ) (depth n : ℕ) (row : Row) → (node_at n nodes).kind ≡ Leaf → goes_through depth n row ≡ true → IsRest nodes parent depth row
+    → typed_fits (node_at n nodes).ty row.value ≡ true
+leaf_fits nodes schema parent depth n row kind through rest =
+    let here = plain_at nodes parent depth n row (ap has_plain kind) through rest in
+    let path_is : drop depth row.path ≡ plain_segment n ∷ [] = here ∙ ap (λ path. plain_segment n ∷ path) (leaf_row nodes schema parent depth n row kind through rest) in
+    let ends : holds_value nodes (Some n) row.value ≡ true = subst (λ path. EndsWell nodes path row.value) path_is rest.1 in
+    let fits : value_of_kind (node_at n nodes).kind (node_at n nodes).ty row.value ≡ true = both_right _ (value_of_kind (node_at n nodes).kind (node_at n nodes).ty row.value) ends in
+    subst (λ k. value_of_kind k (node_at n nodes).ty row.value ≡ true) kind fits
+
+pub leaf_member : (nodes : List SchemaNode) → IsSchema nodes → (parent : Option ℕ) (depth n : ℕ) (rows : List Row) (row : Row) (more : List Row) (d : Data) → (node_at n nodes).kind ≡ Leaf → AllGoThrough depth n rows → AreBelow nodes parent depth rows
+    → rows ≡ row ∷ more → d ≡ leaf_data (node_at n nodes).ty (Some row.value) → AreOneMember nodes depth n rows d
+leaf_member nodes schema parent depth n rows row more d kind through below is written f before =
+    let first_through = (subst (λ xs. AllGoThrough depth n xs) is through).0 in
+    let first_rest = (subst (λ xs. AllByRecursion (IsRest nodes parent depth) xs) is below.each).0 in
+    let own : own_at depth rows ≡ Some row.value = ap (own_at depth) is ∙ ap (λ rest. own_of rest row.value (own_at depth more)) (leaf_row nodes schema parent depth n row kind first_through first_rest) in
+    ap (members_in nodes) (plain_branch nodes parent depth n rows f (ap has_plain kind) through below (some_rows rows row more is) before)
+    ∙ ap (λ k. branch_members nodes k (node_at n nodes).member (node_at n nodes) (plain_segment n) (own_at depth rows) (members_in nodes (forest_at (depth + 1) rows)) (members_in nodes f)) kind
+    ∙ ap (λ o. member (node_at n nodes).member (leaf_data (node_at n nodes).ty o) (members_in nodes f)) own
+    ∙ ap (λ (x : Data). member (node_at n nodes).member x (members_in nodes f)) (sym written)
+
+-- ---- entries
+
+pub entry_some : (depth : ℕ) (seg : Seg) (left : List Row) (first : Row) (later entry others : List Row) → left ≡ first ∷ later → HasSegment depth seg first → left ≡ entry ++ others → StartsApart depth seg others
+    → (row : Row) × ((more : List Row) × (entry ≡ row ∷ more))
+entry_some depth seg left first later [] others is here parts apart = absurd ((subst (λ xs. StartsApart depth seg xs) (sym parts ∙ is) apart) here)
+entry_some depth seg left first later (row ∷ more) others is here parts apart = (row, (more, refl))
+
+others_start : (nodes : List SchemaNode) (depth n : ℕ) (seg : Seg) (others : List Row) (f : Forest) → seg.node ≡ n → AllGoThrough depth n others → StartsApart depth seg others → StandsBefore (node_at n nodes).member (members_in nodes f)
+    → StartsElse seg (laid_all depth others f)
+others_start nodes depth n seg [] f same through apart before = starts_else nodes seg f (subst (λ k. StandsBefore (node_at k nodes).member (members_in nodes f)) (sym same) before)
+others_start nodes depth n seg (row ∷ rows) f same through apart before = let found = segment_of depth n row through.0 in rows_start depth seg found.0 row rows f found.1.0 apart
+
+item_branch : (k : Kind) (nodes : List SchemaNode) (name : List ℕ) (node : SchemaNode) (seg : Seg) (own : Option Value) (kids next : Members) → has_items k ≡ true
+    → branch_members nodes k name node seg own kids next ≡ item_in_front name (item_data nodes k node seg kids) next
+item_branch Container nodes name node seg own kids next items = absurd (true≢false (sym items))
+item_branch Presence nodes name node seg own kids next items = absurd (true≢false (sym items))
+item_branch Listing nodes name node seg own kids next items = refl
+item_branch Leaf nodes name node seg own kids next items = absurd (true≢false (sym items))
+item_branch LeafList nodes name node seg own kids next items = refl
+
+entry_in_front : (nodes : List SchemaNode) (depth n : ℕ) (seg : Seg) (entry others : List Row) (row : Row) (more : List Row) (d : Data) (f : Forest) → has_items (node_at n nodes).kind ≡ true → seg.node ≡ n
+    → entry ≡ row ∷ more → AllByRecursion (HasSegment depth seg) entry → StartsElse seg (laid_all depth others f)
+    → d ≡ item_data nodes (node_at seg.node nodes).kind (node_at seg.node nodes) seg (members_in nodes (forest_at (depth + 1) entry))
+    → members_in nodes (laid_all depth (entry ++ others) f) ≡ item_in_front (node_at n nodes).member d (members_in nodes (laid_all depth others f))
+entry_in_front nodes depth n seg entry others row more d f items same is here starts written =
+    let all = subst (λ rows. AllByRecursion (HasSegment depth seg) rows) is here in
+    let one : laid_all depth entry (laid_all depth others f) ≡ branch seg (own_at depth entry) (forest_at (depth + 1) entry) (laid_all depth others f) =
+    subst (λ (rows : List Row). laid_all depth rows (laid_all depth others f) ≡ branch seg (own_at depth rows) (forest_at (depth + 1) rows) (laid_all depth others f)) (sym is)
+    (one_branch depth seg row more (laid_all depth others f) starts all.0 all.1) in
+    ap (members_in nodes) (laid_append depth entry others f ∙ one)
+    ∙ item_branch (node_at seg.node nodes).kind nodes (node_at seg.node nodes).member (node_at seg.node nodes) seg (own_at depth entry) (members_in nodes (forest_at (depth + 1) entry)) (members_in nodes (laid_all depth others f))
+    (ap (λ k. has_items (node_at k nodes).kind) same ∙ items)
+    ∙ ap (λ (x : Data). item_in_front (node_at seg.node nodes).member x (members_in nodes (laid_all depth others f))) (sym written)
+    ∙ ap (λ k. item_in_front (node_at k nodes).member d (members_in nodes (laid_all depth others f))) same
+
+-- one more item behind those so far
+pub item_step : (nodes : List SchemaNode) (depth n : ℕ) (seg : Seg) (all left entry others : List Row) (row : Row) (more : List Row) (ds : List Data) (d : Data) → has_items (node_at n nodes).kind ≡ true → seg.node ≡ n
+    → left ≡ entry ++ others → entry ≡ row ∷ more → AllByRecursion (HasSegment depth seg) entry → AllGoThrough depth n others → StartsApart depth seg others
+    → d ≡ item_data nodes (node_at seg.node nodes).kind (node_at seg.node nodes) seg (members_in nodes (forest_at (depth + 1) entry))
+    → ((f : Forest) → StandsBefore (node_at n nodes).member (members_in nodes f) → members_in nodes (laid_all depth all f) ≡ all_in_front (node_at n nodes).member ds (members_in nodes (laid_all depth left f)))
+    → (f : Forest) → StandsBefore (node_at n nodes).member (members_in nodes f) → members_in nodes (laid_all depth all f) ≡ all_in_front (node_at n nodes).member (ds ++ d ∷ []) (members_in nodes (laid_all depth others f))
+item_step nodes depth n seg all left entry others row more ds d items same parts is here through apart written so_far f before =
+    so_far f before
+    ∙ ap (λ rows. all_in_front (node_at n nodes).member ds (members_in nodes (laid_all depth rows f))) parts
+    ∙ ap (all_in_front (node_at n nodes).member ds) (entry_in_front nodes depth n seg entry others row more d f items same is here (others_start nodes depth n seg others f same through apart before) written)
+    ∙ sym (items_append (node_at n nodes).member ds (d ∷ []) (members_in nodes (laid_all depth others f)))
+
+abbrev is_none : Members → Bool
+is_none no_members = true
+is_none (member name d ms) = false
+
+item_some_at : (b : Bool) (name other : List ℕ) (d : Data) (ds : Items) (ms : Members) → is_none (cond b (member other (array (item d ds)) ms) (member name (array (item d no_items)) (member other (array ds) ms))) ≡ false
+item_some_at true name other d ds ms = refl
+item_some_at false name other d ds ms = refl
+
+item_some : (name : List ℕ) (d : Data) (ms : Members) → is_none (item_in_front name d ms) ≡ false
+item_some name d no_members = refl
+item_some name d (member other null ms) = refl
+item_some name d (member other (boolean b) ms) = refl
+item_some name d (member other (number x) ms) = refl
+item_some name d (member other (string s) ms) = refl
+item_some name d (member other (object os) ms) = refl
+item_some name d (member other (array ds) ms) = item_some_at (pointwise nat_eq name other) name other d ds ms
+
+branch_some : (k : Kind) (nodes : List SchemaNode) (name : List ℕ) (node : SchemaNode) (seg : Seg) (own : Option Value) (kids next : Members) → is_none (branch_members nodes k name node seg own kids next) ≡ false
+branch_some Container nodes name node seg own kids next = refl
+branch_some Presence nodes name node seg own kids next = refl
+branch_some Listing nodes name node seg own kids next = item_some name _ next
+branch_some Leaf nodes name node seg own kids next = refl
+branch_some LeafList nodes name node seg own kids next = item_some name _ next
+
+members_some : (nodes : List SchemaNode) (seg : Seg) (own : Option Value) (kids next : Forest) → is_none (members_in nodes (branch seg own kids next)) ≡ false
+members_some nodes seg own kids next = branch_some (node_at seg.node nodes).kind nodes (node_at seg.node nodes).member (node_at seg.node nodes) seg own (members_in nodes kids) (members_in nodes next)
+
+in_front_some_at : (b : Bool) (nodes : List SchemaNode) (seg first : Seg) (one two three : Option Value) (f g h next : Forest) → is_none (members_in nodes (cond b (branch first one f next) (branch seg two g (branch first three h next)))) ≡ false
+in_front_some_at true nodes seg first one two three f g h next = members_some nodes first one f next
+in_front_some_at false nodes seg first one two three f g h next = members_some nodes seg two g (branch first three h next)
+
+in_front_some : (nodes : List SchemaNode) (seg : Seg) (rest : List Seg) (v : Value) (inner : Forest → Forest) (f : Forest) → is_none (members_in nodes (in_front seg rest v inner f)) ≡ false
+in_front_some nodes seg rest v inner bare = members_some nodes seg (own_of rest v None) (inner bare) bare
+in_front_some nodes seg rest v inner (branch first own kids next) =
+    in_front_some_at (eq_by_cmp segment_cmp seg first) nodes seg first (own_of rest v own) (own_of rest v None) own (inner kids) (inner bare) kids next
+
+-- rows of which the first goes on have members
+rows_some : (nodes : List SchemaNode) (depth : ℕ) (seg : Seg) (row : Row) (rows : List Row) → HasSegment depth seg row → is_none (members_in nodes (laid_all depth (row ∷ rows) bare)) ≡ false
+rows_some nodes depth seg row rows here =
+    ap (λ path. is_none (members_in nodes (laid path row.value (laid_all depth rows bare)))) here
+    ∙ in_front_some nodes seg (drop (depth + 1) row.path) row.value (laid (drop (depth + 1) row.path) row.value) (laid_all depth rows bare)
+
+items_some : (nodes : List SchemaNode) (depth n : ℕ) (rows : List Row) → AllGoThrough depth n rows → 0 < length rows → AreItems nodes depth n rows [] → ⊥
+items_some nodes depth n [] through some items = absurd (omega arith)
+items_some nodes depth n (row ∷ rows) through some items =
+    let found = segment_of depth n row through.0 in
+    true≢false (sym (ap is_none (items bare tt)) ∙ rows_some nodes depth found.0 row rows found.1.0)
+
+-- items of some rows are one member with the array of all
+pub items_member : (nodes : List SchemaNode) (depth n : ℕ) (rows : List Row) (ds : List Data) → AllGoThrough depth n rows → 0 < length rows → AreItems nodes depth n rows ds → AreOneMember nodes depth n rows (array (items_of ds))
+items_member nodes depth n rows [] through some items f before = absurd (items_some nodes depth n rows through some items)
+items_member nodes depth n rows (d ∷ ds) through some items f before = items f before ∙ run_is (node_at n nodes).member d ds (members_in nodes f) before
+
+-- ---- keys of a list
+
+keys_are_nodes : (nodes : List SchemaNode) (n : ℕ) (ks : List ℕ) → are_key_leaves n nodes ks ≡ true → AreNodes nodes ks
+keys_are_nodes nodes n [] h = tt
+keys_are_nodes nodes n (k ∷ ks) h =
+    let front = both_left (is_key_leaf n nodes k && not (is_in k ks)) (are_key_leaves n nodes ks) h in
+    let leaf = both_left (is_key_leaf n nodes k) (not (is_in k ks)) front in
+    (leaf_within nodes n k leaf, keys_are_nodes nodes n ks (both_right (is_key_leaf n nodes k && not (is_in k ks)) (are_key_leaves n nodes ks) h))
+  where
+    leaf_within : (nodes : List SchemaNode) (n k : ℕ) → is_key_leaf n nodes k ≡ true → k < length nodes
+    leaf_within nodes n k h = ltb-true k (length nodes) (both_left _ _ (both_left _ _ (both_left _ _ (both_left _ _ h))))
+
+listing_keys : (nodes : List SchemaNode) (n : ℕ) (node : SchemaNode) → kind_stands Listing n nodes node ≡ true → are_key_leaves n nodes node.keys ≡ true
+listing_keys nodes n node h =
+    both_right (not (is_empty node.keys)) (are_key_leaves n nodes node.keys) (both_left (not (is_empty node.keys) && are_key_leaves n nodes node.keys) (has_none node.ty) h)
+
+pub key_leaves : (nodes : List SchemaNode) → IsSchema nodes → (n : ℕ) → n < length nodes → (node_at n nodes).kind ≡ Listing → are_key_leaves n nodes (node_at n nodes).keys ≡ true
+key_leaves nodes schema n within kind = listing_keys nodes n (node_at n nodes) (subst (λ k. kind_stands k n nodes (node_at n nodes) ≡ true) kind (schema.each n within).kind)
+
+-- the keys of a list are nodes
+pub keys_within : (nodes : List SchemaNode) → IsSchema nodes → (n : ℕ) → n < length nodes → (node_at n nodes).kind ≡ Listing → AreNodes nodes (node_at n nodes).keys
+keys_within nodes schema n within kind = keys_are_nodes nodes n (node_at n nodes).keys (key_leaves nodes schema n within kind)

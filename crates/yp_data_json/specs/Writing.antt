@@ -1,0 +1,96 @@
+-- The JSON of rows (RFC 7951 sections 4 to 6).
+use Rattle.std.specs.Prelude.{ℕ, List, [], ◌∷◌, length, Bool, true, false, Option, Some, None, if◌then◌else◌, nat_eq}
+use Rattle.std.specs.Cmp.Lexicographic.{pointwise}
+use Rattle.yp_base.specs.declared.atom.Atom.{Atom}
+use Rattle.yp_base.specs.declared.leaf_type.LeafType.{LeafType}
+use Rattle.yp_base.specs.declared.path.Seg.{Seg}
+use Rattle.yp_base.specs.declared.row.Value.{Value}
+use Rattle.yp_base.specs.declared.row.Value.TheVariants.{Atom as Plain}
+use Rattle.yp_base.specs.declared.row.Row.{Row}
+use Rattle.yp_base.specs.Json.{value_data}
+use Rattle.yp_base.specs.Rows.{value_at}
+use Rattle.yp_schema.specs.declared.schema.SchemaNode.{SchemaNode}
+use Rattle.yp_schema.specs.declared.schema.Kind.{Kind}
+use Rattle.yp_schema.specs.declared.schema.Kind.TheVariants.{Container, Presence, List as Listing, Leaf, LeafList}
+use Rattle.yp_schema.specs.Nodes.{node_at, qualified_name}
+use Rattle.serde_json.specs.Data.{Data, null, boolean, number, string, array, object, Items, no_items, item, Members, no_members, member, put}
+use Rattle.yp_data_json.specs.Forest.{Forest, bare, branch, forest_at}
+
+-- the JSON of a leaf's value; no value is written of what has no row
+abbrev pub leaf_data : Option LeafType → Option Value → Data
+leaf_data None own = null
+leaf_data (Some ty) None = null
+leaf_data (Some ty) (Some value) = value_data ty value
+
+-- the JSON of a key, or of the value of a leaf-list entry
+abbrev pub key_data : Option LeafType → Atom → Data
+key_data ty key = leaf_data ty (Some (Plain key))
+
+-- the value of a leaf-list entry is its one key
+abbrev pub one_key_data : Option LeafType → List Atom → Data
+one_key_data ty [] = null
+one_key_data ty (key ∷ keys) = key_data ty key
+
+-- the keys, each put among an entry's members
+abbrev pub with_keys : List SchemaNode → List ℕ → List Atom → Members → Members
+with_keys nodes [] keys ms = ms
+with_keys nodes (k ∷ ks) [] ms = ms
+with_keys nodes (k ∷ ks) (key ∷ keys) ms = with_keys nodes ks keys (put (node_at k nodes).member (key_data (node_at k nodes).ty key) ms)
+
+-- the JSON of one list entry or leaf-list entry
+abbrev pub item_data : List SchemaNode → Kind → SchemaNode → Seg → Members → Data
+item_data nodes Listing node seg kids = object (with_keys nodes node.keys seg.keys kids)
+item_data nodes LeafList node seg kids = one_key_data node.ty seg.keys
+item_data nodes Container node seg kids = null
+item_data nodes Presence node seg kids = null
+item_data nodes Leaf node seg kids = null
+
+-- one more item in front: in the first member where that is an array of this name, else in a new member
+abbrev pub item_in_front : List ℕ → Data → Members → Members
+item_in_front name d no_members = member name (array (item d no_items)) no_members
+item_in_front name d (member other (array ds) ms) =
+    if pointwise nat_eq name other then member other (array (item d ds)) ms else member name (array (item d no_items)) (member other (array ds) ms)
+item_in_front name d (member other null ms) = member name (array (item d no_items)) (member other null ms)
+item_in_front name d (member other (boolean b) ms) = member name (array (item d no_items)) (member other (boolean b) ms)
+item_in_front name d (member other (number n) ms) = member name (array (item d no_items)) (member other (number n) ms)
+item_in_front name d (member other (string s) ms) = member name (array (item d no_items)) (member other (string s) ms)
+item_in_front name d (member other (object os) ms) = member name (array (item d no_items)) (member other (object os) ms)
+
+-- a branch in front of the members after it, by its kind: a container is an object, a list an array of objects with their keys, a leaf its value, a leaf-list an array of values
+abbrev pub branch_members : List SchemaNode → Kind → List ℕ → SchemaNode → Seg → Option Value → Members → Members → Members
+branch_members nodes Container name node seg own kids next = member name (object kids) next
+branch_members nodes Presence name node seg own kids next = member name (object kids) next
+branch_members nodes Listing name node seg own kids next = item_in_front name (item_data nodes Listing node seg kids) next
+branch_members nodes Leaf name node seg own kids next = member name (leaf_data node.ty own) next
+branch_members nodes LeafList name node seg own kids next = item_in_front name (item_data nodes LeafList node seg kids) next
+
+-- the members of an object, each under its member form: a list entry or container is there where it has a row or a row is below it
+abbrev pub members_in : List SchemaNode → Forest → Members
+members_in nodes bare = no_members
+members_in nodes (branch seg own kids next) =
+    branch_members nodes (node_at seg.node nodes).kind (node_at seg.node nodes).member (node_at seg.node nodes) seg own (members_in nodes kids) (members_in nodes next)
+
+abbrev pub last_segment : Seg → List Seg → Seg
+last_segment seg [] = seg
+last_segment seg (next ∷ rest) = last_segment next rest
+
+-- the JSON of what stands at a path, by the kind of its last segment's node: an entry is an array of one
+abbrev pub place_data : List SchemaNode → Kind → SchemaNode → Seg → Option Value → Members → Data
+place_data nodes Container node seg own kids = object kids
+place_data nodes Presence node seg own kids = object kids
+place_data nodes Listing node seg own kids = array (item (item_data nodes Listing node seg kids) no_items)
+place_data nodes Leaf node seg own kids = leaf_data node.ty own
+place_data nodes LeafList node seg own kids = array (item (item_data nodes LeafList node seg kids) no_items)
+
+-- the same with the path's own row, and what is below it
+abbrev pub data_at : List SchemaNode → Seg → List Seg → List Row → Data
+data_at nodes seg at rows = place_data nodes (node_at seg.node nodes).kind (node_at seg.node nodes) seg (value_at at rows) (members_in nodes (forest_at (length at) rows))
+
+-- one member, under the qualified name of a segment's node
+abbrev pub named_member : List SchemaNode → Seg → Data → Data
+named_member nodes seg d = object (member (qualified_name (node_at seg.node nodes)) d no_members)
+
+-- the JSON of rows: at the empty path the top members, at a path the one member of that path
+abbrev pub rows_json : List SchemaNode → List Seg → List Row → Data
+rows_json nodes [] rows = object (members_in nodes (forest_at 0 rows))
+rows_json nodes (seg ∷ rest) rows = named_member nodes (last_segment seg rest) (data_at nodes (last_segment seg rest) (seg ∷ rest) rows)

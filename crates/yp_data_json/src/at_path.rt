@@ -1,0 +1,274 @@
+//! Data at a path: what stands at one node, in an object with the node's qualified name.
+ghost use Rattle.std.specs.Prelude.{◌≡◌, ◌<◌, ◌∷◌, ◌++◌, [], true, length, IfOk, Ok};
+ghost use Rattle.std.specs.String.{string_bytes};
+ghost use Rattle.serde_json.specs.View.{view, members_view, items_view};
+ghost use Rattle.yp_schema.specs.Datastore.{is_place, AreWhole};
+ghost use Rattle.yp_schema.specs.Nodes.{node_at, qualified_name};
+ghost use Rattle.yp_schema.specs.WellFormed.{IsSchema};
+ghost use Rattle.yp_data_json.specs.Reading.{Gives, Leaves};
+ghost use Rattle.yp_data_json.specs.AtPath.{named_entry, named_value, array_of_one, one_of, named_read, outer_read, is_bare, object_read, rows_read};
+
+use crate::fault::DataFault;
+use crate::gathered::Gathered;
+use crate::keys::{read_atom, read_keys};
+use crate::reading::{enter, only_key, path_below, read_datastore, read_members, read_node};
+use serde_json::{Map, Value as Json};
+use std::alloc::Global;
+use yp_base::atom::Keys;
+use yp_base::memory::{Duplicate, NoMemory};
+use yp_base::path::{Path, Seg};
+use yp_base::row::{Rows, Value};
+use yp_base::series::Series;
+use yp_schema::schema::{Kind, Schema};
+
+/// Puts the rows of the list entry that a path names.
+#[tactic(auto, using(crate::proofs::Schemas::keys_within))]
+fn read_named_entry(
+    alloc: Global,
+    schema: &Schema,
+    node: u32,
+    above: &Path,
+    keys: &Keys,
+    json: &Json,
+    rows: &mut Gathered,
+) -> Result<(), DataFault>
+    requires stands { IsSchema schema.now }
+    requires within { node < length schema.now }
+    ensures { Leaves result rows.new (named_entry schema.now node above.now keys.now (view json.now) rows.old) }
+{
+    match json {
+        Json::Object(members) => {
+            let found = read_keys(alloc, schema, schema.keys(node), members)?;
+            if found != *keys {
+                return Err(DataFault::InvalidValue);
+            }
+            let path = path_below(alloc, above, node, found)?;
+            enter(alloc, &path, Value::Present, rows)?;
+            read_members(alloc, schema, Some(node), &path, members, rows)
+        }
+        _ => Err(DataFault::InvalidValue),
+    }
+}
+
+/// Puts the row of the leaf-list entry that a path names.
+fn read_named_value(
+    alloc: Global,
+    schema: &Schema,
+    node: u32,
+    above: &Path,
+    keys: &Keys,
+    json: &Json,
+    rows: &mut Gathered,
+) -> Result<(), DataFault>
+    requires stands { IsSchema schema.now }
+    requires within { node < length schema.now }
+    ensures { Leaves result rows.new (named_value schema.now node above.now keys.now (view json.now) rows.old) }
+{
+    let atom = read_atom(alloc, schema, node, json)?;
+    let only = only_key(alloc, atom)?;
+    if only != *keys {
+        return Err(DataFault::InvalidValue);
+    }
+    let path = path_below(alloc, above, node, only)?;
+    enter(alloc, &path, Value::Member, rows)
+}
+
+/// Puts the rows of an array of the one entry that a path names.
+fn read_one(
+    alloc: Global,
+    schema: &Schema,
+    node: u32,
+    above: &Path,
+    keys: &Keys,
+    items: &Vec<Json>,
+    rows: &mut Gathered,
+) -> Result<(), DataFault>
+    requires stands { IsSchema schema.now }
+    requires within { node < length schema.now }
+    ensures { Leaves result rows.new (one_of (items_view items.now.items) (λ d. named_entry schema.now node above.now keys.now d rows.old)) }
+{
+    match items.as_slice().split_first() {
+        Some((first, rest)) => match rest.split_first() {
+            None => read_named_entry(alloc, schema, node, above, keys, first, rows),
+            Some(_) => Err(DataFault::InvalidValue),
+        },
+        None => Err(DataFault::InvalidValue),
+    }
+}
+
+/// Puts the row of an array of the one value that a path names.
+fn read_one_value(
+    alloc: Global,
+    schema: &Schema,
+    node: u32,
+    above: &Path,
+    keys: &Keys,
+    items: &Vec<Json>,
+    rows: &mut Gathered,
+) -> Result<(), DataFault>
+    requires stands { IsSchema schema.now }
+    requires within { node < length schema.now }
+    ensures { Leaves result rows.new (one_of (items_view items.now.items) (λ d. named_value schema.now node above.now keys.now d rows.old)) }
+{
+    match items.as_slice().split_first() {
+        Some((first, rest)) => match rest.split_first() {
+            None => read_named_value(alloc, schema, node, above, keys, first, rows),
+            Some(_) => Err(DataFault::InvalidValue),
+        },
+        None => Err(DataFault::InvalidValue),
+    }
+}
+
+/// Puts the rows of the node that a path names.
+fn read_named(
+    alloc: Global,
+    schema: &Schema,
+    node: u32,
+    above: &Path,
+    keys: &Keys,
+    json: &Json,
+    rows: &mut Gathered,
+) -> Result<(), DataFault>
+    requires stands { IsSchema schema.now }
+    requires within { node < length schema.now }
+    ensures { Leaves result rows.new (named_read schema.now node above.now keys.now (view json.now) rows.old) }
+{
+    match schema.kind(node) {
+        Kind::List => match json {
+            Json::Array(items) => read_one(alloc, schema, node, above, keys, items, rows),
+            _ => Err(DataFault::InvalidValue),
+        },
+        Kind::LeafList => match json {
+            Json::Array(items) => read_one_value(alloc, schema, node, above, keys, items, rows),
+            _ => Err(DataFault::InvalidValue),
+        },
+        _ => read_node(alloc, schema, node, above, json, rows),
+    }
+}
+
+/// Puts the rows of the members of the outer object, of which one has the node's qualified name.
+fn read_outer(
+    alloc: Global,
+    schema: &Schema,
+    name: &str,
+    node: u32,
+    above: &Path,
+    keys: &Keys,
+    members: &Map<String, Json>,
+    rows: &mut Gathered,
+) -> Result<(), DataFault>
+    requires stands { IsSchema schema.now }
+    requires within { node < length schema.now }
+    requires name { name.now ≡ qualified_name (node_at node schema.now) }
+    ensures { Leaves result rows.new (outer_read schema.now node above.now keys.now (members_view members.now.entries) rows.old) }
+{
+    for (other, json) in members.iter() {
+        if other.as_str() != name {
+            return Err(DataFault::UnknownElement);
+        }
+        read_named(alloc, schema, node, above, keys, json, rows)?;
+    }
+    Ok(())
+}
+
+/// The name of a node with its module's, `module:name`.
+fn qualified(alloc: Global, schema: &Schema, node: u32) -> Result<String, NoMemory>
+    requires { node < length schema.now }
+    ensures { IfOk result (λ name. string_bytes name ≡ qualified_name (node_at node schema.now)) }
+{
+    let mut name = String::from_str(alloc, schema.module(node))?;
+    name.push_str(":")?;
+    name.push_str(schema.name(node))?;
+    Ok(name)
+}
+
+/// Whether an object has no members.
+fn has_none(members: &Map<String, Json>) -> bool
+    ensures { result ≡ is_bare (members_view members.now.entries) }
+{
+    members.is_empty()
+}
+
+/// The rows of an object with the one node that a path names.
+fn read_object(
+    alloc: Global,
+    schema: &Schema,
+    node: u32,
+    above: &Path,
+    keys: &Keys,
+    json: &Json,
+) -> Result<Rows, DataFault>
+    requires stands { IsSchema schema.now }
+    requires within { node < length schema.now }
+    ensures { Gives result (object_read schema.now node above.now keys.now (view json.now)) }
+{
+    match json {
+        Json::Object(members) => {
+            if has_none(members) {
+                return Err(DataFault::InvalidValue);
+            }
+            let name = qualified(alloc, schema, node)?;
+            let mut rows = Gathered::new(alloc);
+            read_outer(
+                alloc,
+                schema,
+                name.as_str(),
+                node,
+                above,
+                keys,
+                members,
+                &mut rows,
+            )?;
+            Ok(rows.into_rows(alloc)?)
+        }
+        _ => Err(DataFault::InvalidValue),
+    }
+}
+
+/// The path of these segments.
+fn path_of(alloc: Global, segments: &[Seg]) -> Result<Path, NoMemory>
+    ensures { IfOk result (λ path. path ≡ segments.now) }
+{
+    let mut copies = Vec::new(alloc);
+    for segment in segments {
+        copies.push(segment.copy(alloc)?)?;
+    }
+    Ok(Series::from_vec(copies))
+}
+
+/// The rows at a path, or of a whole datastore.
+fn read_place(alloc: Global, schema: &Schema, at: &Path, json: &Json) -> Result<Rows, DataFault>
+    requires stands { IsSchema schema.now }
+    requires place { is_place schema.now at.now ≡ true }
+    ensures { Gives result (rows_read schema.now at.now (view json.now)) }
+{
+    match at.items().split_last() {
+        Some((last, above)) => {
+            let above = path_of(alloc, above)?;
+            read_object(alloc, schema, last.node, &above, &last.keys, json)
+        }
+        None => read_datastore(alloc, schema, json),
+    }
+}
+
+/// The rows that data at a path hold, in the order of their paths; at the empty path, those of a
+/// whole datastore (RFC 7951 sections 4 to 6). Each fault is the first in a visit of the members in
+/// byte order of their names, depth first, an entry's keys before its other members.
+///
+/// `UnknownElement` comes at a member that is no child in member form, at a path one that isn't the
+/// node's qualified name; `InvalidValue` at a wrong kind of JSON, a wrong value, an object without
+/// members at a path, or keys that aren't the path's; `MissingKey` at the place of a missing key;
+/// `RepeatedKey` at the second of two entries with one path.
+pub fn read_rows(alloc: Global, schema: &Schema, at: &Path, json: &Json) -> Result<Rows, DataFault>
+    requires { is_place schema.now at.now ≡ true }
+    ensures read { Gives result (rows_read schema.now at.now (view json.now)) }
+    ensures rows { IfOk result (λ rows. AreWhole schema.now at.now rows) }
+{
+    // what each schema keeps is known from its count
+    let _ = schema.count();
+    let rows = read_place(alloc, schema, at, json)?;
+    Ok(rows)
+}
+
+#[cfg(test)]
+mod tests;

@@ -1,0 +1,284 @@
+use super::*;
+use std::test::Fail;
+use yp_base::atom::Atom;
+use yp_base::txt::Txt;
+
+const INTERFACES: &str =
+    r#"[{"path":"/acme:interfaces","kind":"container"},{"path":"/acme:interfaces/interface","kind":"list","keys":["name"]},{"path":"/acme:interfaces/interface/name","kind":"leaf","type":"string"},{"path":"/acme:interfaces/interface/mtu","kind":"leaf","type":"uint16"},{"path":"/acme:interfaces/interface/enabled","kind":"leaf","type":"boolean"},{"path":"/acme:interfaces/interface/secret","kind":"leaf","type":"string","deny-all":true},{"path":"/acme:interfaces/interface/stats","kind":"container"},{"path":"/acme:interfaces/interface/stats/in","kind":"leaf","type":"uint64"}]"#;
+
+/// Nodes 8 to 14: pair, and below it a, flag, own, depth (below own), tags, z.
+const PAIRS: &str =
+    r#"[{"path":"/acme:pair","kind":"list","keys":["z","a"]},{"path":"/acme:pair/z","kind":"leaf","type":"uint8"},{"path":"/acme:pair/a","kind":"leaf","type":"string"},{"path":"/acme:pair/flag","kind":"leaf","type":"empty"},{"path":"/acme:pair/tags","kind":"leaf-list","type":"string"},{"path":"/acme:pair/own","kind":"container","presence":true},{"path":"/acme:pair/own/other:depth","kind":"leaf","type":"int8"}]"#;
+
+fn schema_of(alloc: Global) -> Result<Schema, Fail> {
+    let mut parts = Vec::new(alloc);
+    parts.push(Json::from_str(alloc, INTERFACES)?)?;
+    parts.push(Json::from_str(alloc, PAIRS)?)?;
+    Ok(Schema::read(alloc, parts.as_slice())?)
+}
+
+fn read_top(alloc: Global, text: &str) -> Result<Result<Rows, DataFault>, Fail> {
+    let schema = schema_of(alloc)?;
+    let top = Series::from_vec(Vec::new(alloc));
+    let json = Json::from_str(alloc, text)?;
+    Ok(read_rows(alloc, &schema, &top, &json))
+}
+
+fn fault_in(alloc: Global, text: &str) -> Result<Option<DataFault>, Fail> {
+    Ok(read_top(alloc, text)?.err())
+}
+
+/// The last node of each row's path.
+fn nodes_of(alloc: Global, rows: &Rows) -> Result<Vec<u32>, Fail> {
+    let mut nodes = Vec::new(alloc);
+    for row in rows.items() {
+        if let Some(last) = row.path.items().last() {
+            nodes.push(last.node)?;
+        }
+    }
+    Ok(nodes)
+}
+
+fn word(alloc: Global, text: &str) -> Result<Atom, Fail> {
+    Ok(Atom::Text(Txt::from_string(String::from_str(alloc, text)?)))
+}
+
+fn key(alloc: Global, text: &str) -> Result<Keys, Fail> {
+    let mut keys = Vec::new(alloc);
+    keys.push(word(alloc, text)?)?;
+    Ok(Series::from_vec(keys))
+}
+
+/// What is read at the entry `eth0` of the interfaces.
+fn read_entry_at(alloc: Global, text: &str) -> Result<Result<Rows, DataFault>, Fail> {
+    read_at(alloc, 0, 1, key(alloc, "eth0")?, text)
+}
+
+/// What is read at a node below another one at the top.
+fn read_at(
+    alloc: Global,
+    top: u32,
+    node: u32,
+    keys: Keys,
+    text: &str,
+) -> Result<Result<Rows, DataFault>, Fail> {
+    let schema = schema_of(alloc)?;
+    let above = path_below(
+        alloc,
+        &Series::from_vec(Vec::new(alloc)),
+        top,
+        Series::from_vec(Vec::new(alloc)),
+    )?;
+    let json = Json::from_str(alloc, text)?;
+    if node < schema.count() {
+        Ok(read_object(alloc, &schema, node, &above, &keys, &json))
+    } else {
+        Err(Fail::from("no such node"))
+    }
+}
+
+#[test]
+fn the_largest_numbers_are_read(rt: HostRuntime) -> Result<(), Fail> {
+    let text =
+        r#"{"acme:interfaces":{"interface":[{"stats":{"in":"18446744073709551615"},"name":"eth0","mtu":65535}]}}"#;
+    let rows = read_top(rt.alloc(), text)??;
+    assert_eq!(rt;
+        nodes_of(rt.alloc(), &rows)?.as_slice(),
+        [1, 3, 7].as_slice()
+    );
+    for row in rows.items() {
+        if let Value::Atom(atom) = &row.value {
+            assert!(rt; *atom == Atom::Uint(65535) || *atom == Atom::Uint(18446744073709551615));
+        }
+    }
+    Ok(())
+}
+
+#[test]
+fn wrong_values_are_invalid(rt: HostRuntime) -> Result<(), Fail> {
+    let alloc = rt.alloc();
+    let invalid = Some(DataFault::InvalidValue);
+    assert_eq!(rt;
+        fault_in(
+            alloc,
+            r#"{"acme:interfaces":{"interface":[{"name":"eth0","mtu":65536}]}}"#
+        )?,
+        invalid
+    );
+    assert_eq!(rt;
+        fault_in(
+            alloc,
+            r#"{"acme:interfaces":{"interface":[{"name":"eth0","stats":{"in":18446744073709551615}}]}}"#
+        )?,
+        invalid
+    );
+    assert_eq!(rt; fault_in(alloc, r#"{"acme:interfaces":[]}"#)?, invalid);
+    assert_eq!(rt;
+        fault_in(
+            alloc,
+            r#"{"acme:interfaces":{"interface":{"name":"eth0"}}}"#
+        )?,
+        invalid
+    );
+    assert_eq!(rt; fault_in(alloc, "[]")?, invalid);
+    Ok(())
+}
+
+#[test]
+fn only_member_forms_are_known(rt: HostRuntime) -> Result<(), Fail> {
+    let alloc = rt.alloc();
+    let unknown = Some(DataFault::UnknownElement);
+    assert_eq!(rt; fault_in(alloc, r#"{"interfaces":{}}"#)?, unknown);
+    assert_eq!(rt;
+        fault_in(
+            alloc,
+            r#"{"acme:interfaces":{"interface":[{"name":"eth0","mtux":1}]}}"#
+        )?,
+        unknown
+    );
+    assert_eq!(rt;
+        fault_in(
+            alloc,
+            r#"{"acme:interfaces":{"acme:interface":[{"name":"eth0"}]}}"#
+        )?,
+        unknown
+    );
+    assert_eq!(rt;
+        fault_in(
+            alloc,
+            r#"{"acme:pair":[{"z":5,"a":"k","own":{"depth":-3}}]}"#
+        )?,
+        unknown
+    );
+    Ok(())
+}
+
+#[test]
+fn the_first_fault_of_the_visit_is_answered(rt: HostRuntime) -> Result<(), Fail> {
+    let alloc = rt.alloc();
+    assert_eq!(rt;
+        fault_in(
+            alloc,
+            r#"{"acme:interfaces":{"interface":[{"name":"e","mtu":"x","zz":1}]}}"#
+        )?,
+        Some(DataFault::InvalidValue)
+    );
+    assert_eq!(rt;
+        fault_in(
+            alloc,
+            r#"{"acme:interfaces":{"interface":[{"name":"e","mtu":"x","aa":1}]}}"#
+        )?,
+        Some(DataFault::UnknownElement)
+    );
+    assert_eq!(rt;
+        fault_in(alloc, r#"{"acme:interfaces":{"interface":[{"aa":1}]}}"#)?,
+        Some(DataFault::MissingKey)
+    );
+    assert_eq!(rt;
+        fault_in(
+            alloc,
+            r#"{"acme:interfaces":{"interface":[{"name":"e"},{"name":"e","aa":1}]}}"#
+        )?,
+        Some(DataFault::RepeatedKey)
+    );
+    assert_eq!(rt;
+        fault_in(alloc, r#"{"acme:pair":[{"z":300}]}"#)?,
+        Some(DataFault::MissingKey)
+    );
+    assert_eq!(rt;
+        fault_in(alloc, r#"{"acme:pair":[{"a":1}]}"#)?,
+        Some(DataFault::InvalidValue)
+    );
+    Ok(())
+}
+
+#[test]
+fn every_kind_of_node_makes_its_rows(rt: HostRuntime) -> Result<(), Fail> {
+    let alloc = rt.alloc();
+    let text =
+        r#"{"acme:pair":[{"tags":["y","x"],"flag":[null],"own":{"other:depth":-3},"a":"k","z":5}]}"#;
+    let rows = read_top(alloc, text)??;
+    assert_eq!(rt;
+        nodes_of(alloc, &rows)?.as_slice(),
+        [8, 10, 11, 12, 13, 13].as_slice()
+    );
+    if let Some(first) = rows.items().first() {
+        if let Some(entry) = first.path.items().last() {
+            let keys = entry.keys.items();
+            assert_eq!(rt; keys.len(), 2);
+            assert!(rt; keys[0] == Atom::Uint(5) && keys[1] == word(alloc, "k")?);
+        }
+    }
+    assert_eq!(rt;
+        fault_in(alloc, r#"{"acme:pair":[{"z":5,"a":"k","tags":["x","x"]}]}"#)?,
+        Some(DataFault::RepeatedKey)
+    );
+    assert_eq!(rt;
+        fault_in(alloc, r#"{"acme:pair":[{"z":5,"a":"k","tags":"x"}]}"#)?,
+        Some(DataFault::InvalidValue)
+    );
+    assert_eq!(rt;
+        fault_in(alloc, r#"{"acme:pair":[{"z":5,"a":"k","flag":null}]}"#)?,
+        Some(DataFault::InvalidValue)
+    );
+    Ok(())
+}
+
+#[test]
+fn an_entry_is_read_at_its_path(rt: HostRuntime) -> Result<(), Fail> {
+    let alloc = rt.alloc();
+    let rows = read_entry_at(alloc, r#"{"acme:interface":[{"mtu":1500,"name":"eth0"}]}"#)??;
+    assert_eq!(rt; nodes_of(alloc, &rows)?.as_slice(), [1, 3].as_slice());
+    let invalid = Some(DataFault::InvalidValue);
+    let unknown = Some(DataFault::UnknownElement);
+    assert_eq!(rt; read_entry_at(alloc, "{}")?.err(), invalid);
+    assert_eq!(rt;
+        read_entry_at(alloc, r#"{"acme:interface":[{"name":"eth1"}]}"#)?.err(),
+        invalid
+    );
+    assert_eq!(rt;
+        read_entry_at(
+            alloc,
+            r#"{"acme:interface":[{"name":"eth0"},{"name":"eth1"}]}"#
+        )?
+        .err(),
+        invalid
+    );
+    assert_eq!(rt;
+        read_entry_at(alloc, r#"{"acme:interface":[]}"#)?.err(),
+        invalid
+    );
+    assert_eq!(rt;
+        read_entry_at(alloc, r#"{"interface":[{"name":"eth0"}]}"#)?.err(),
+        unknown
+    );
+    assert_eq!(rt;
+        read_entry_at(alloc, r#"{"acme:interface":[{"name":"eth0"}],"zz":1}"#)?.err(),
+        unknown
+    );
+    assert_eq!(rt;
+        read_entry_at(
+            alloc,
+            r#"{"acme:interface":[{"name":"eth0","mtu":"x"}],"zz":1}"#
+        )?
+        .err(),
+        invalid
+    );
+    Ok(())
+}
+
+#[test]
+fn leaves_and_leaf_list_entries_are_read_at_their_paths(rt: HostRuntime) -> Result<(), Fail> {
+    let alloc = rt.alloc();
+    let none = Series::from_vec(Vec::new(alloc));
+    let rows = read_at(alloc, 1, 3, none, r#"{"acme:mtu":1500}"#)??;
+    assert_eq!(rt; nodes_of(alloc, &rows)?.as_slice(), [3].as_slice());
+    let rows = read_at(alloc, 8, 13, key(alloc, "x")?, r#"{"acme:tags":["x"]}"#)??;
+    assert_eq!(rt; nodes_of(alloc, &rows)?.as_slice(), [13].as_slice());
+    let other = read_at(alloc, 8, 13, key(alloc, "x")?, r#"{"acme:tags":["y"]}"#)?;
+    assert_eq!(rt; other.err(), Some(DataFault::InvalidValue));
+    let none = Series::from_vec(Vec::new(alloc));
+    let rows = read_at(alloc, 8, 11, none, r#"{"acme:own":{"other:depth":1}}"#)??;
+    assert_eq!(rt; nodes_of(alloc, &rows)?.as_slice(), [11, 12].as_slice());
+    Ok(())
+}

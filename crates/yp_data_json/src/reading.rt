@@ -1,0 +1,237 @@
+//! The rows of a datastore's data.
+ghost use Rattle.std.specs.Prelude.{◌≡◌, ◌<◌, ◌∷◌, [], length, IfSome, IfOk};
+ghost use Rattle.serde_json.specs.View.{view, members_view, items_view};
+ghost use Rattle.yp_schema.specs.Nodes.{node_at};
+ghost use Rattle.yp_schema.specs.WellFormed.{IsSchema};
+ghost use Rattle.yp_data_json.specs.Reading.{Gives, Leaves, below, entered, leaf_read, value_read, values_read, members_read, node_read, entries_read, entry_read, datastore_read};
+
+use crate::fault::DataFault;
+use crate::gathered::Gathered;
+use crate::keys::{read_atom, read_keys, read_value};
+use serde_json::{Map, Value as Json};
+use std::alloc::Global;
+use yp_base::atom::{Atom, Keys};
+use yp_base::memory::{Duplicate, NoMemory};
+use yp_base::path::{Path, Seg};
+use yp_base::row::{Row, Rows, Value};
+use yp_base::series::Series;
+use yp_schema::schema::{Kind, Schema};
+
+/// The path of a node below another.
+pub fn path_below(alloc: Global, path: &Path, node: u32, keys: Keys) -> Result<Path, NoMemory>
+    ensures { IfOk result (λ made. made ≡ below path.now node keys) }
+{
+    let mut segments = path.copy(alloc)?.into_vec();
+    segments.push(Seg { node, keys })?;
+    Ok(Series::from_vec(segments))
+}
+
+/// The keys of a leaf-list entry: its value.
+pub fn only_key(alloc: Global, atom: Atom) -> Result<Keys, NoMemory>
+    ensures { IfOk result (λ keys. keys ≡ atom ∷ []) }
+{
+    let mut keys = Vec::new(alloc);
+    keys.push(atom)?;
+    Ok(Series::from_vec(keys))
+}
+
+/// Puts the row of a leaf.
+fn read_leaf(
+    alloc: Global,
+    schema: &Schema,
+    node: u32,
+    path: &Path,
+    json: &Json,
+    rows: &mut Gathered,
+) -> Result<(), DataFault>
+    requires stands { IsSchema schema.now }
+    requires within { node < length schema.now }
+    ensures { Leaves result rows.new (leaf_read schema.now node path.now (view json.now) rows.old) }
+{
+    let value = read_value(alloc, schema, node, json)?;
+    let path = path_below(alloc, path, node, Series::from_vec(Vec::new(alloc)))?;
+    rows.put(Row { path, value })?;
+    Ok(())
+}
+
+/// Puts the row of an entry, of which there is none yet.
+pub fn enter(alloc: Global, path: &Path, value: Value, rows: &mut Gathered) -> Result<(), DataFault>
+    ensures { Leaves result rows.new (entered path.now value rows.old) }
+{
+    if rows.has(path) {
+        return Err(DataFault::RepeatedKey);
+    }
+    rows.put(Row {
+        path: path.copy(alloc)?,
+        value,
+    })?;
+    Ok(())
+}
+
+/// Puts the row of a leaf-list entry.
+fn read_entry_value(
+    alloc: Global,
+    schema: &Schema,
+    node: u32,
+    path: &Path,
+    json: &Json,
+    rows: &mut Gathered,
+) -> Result<(), DataFault>
+    requires stands { IsSchema schema.now }
+    requires within { node < length schema.now }
+    ensures { Leaves result rows.new (value_read schema.now node path.now (view json.now) rows.old) }
+{
+    let atom = read_atom(alloc, schema, node, json)?;
+    let path = path_below(alloc, path, node, only_key(alloc, atom)?)?;
+    enter(alloc, &path, Value::Member, rows)
+}
+
+/// Puts the rows of a leaf-list.
+fn read_values(
+    alloc: Global,
+    schema: &Schema,
+    node: u32,
+    path: &Path,
+    items: &Vec<Json>,
+    rows: &mut Gathered,
+) -> Result<(), DataFault>
+    requires stands { IsSchema schema.now }
+    requires within { node < length schema.now }
+    ensures { Leaves result rows.new (values_read schema.now node path.now (items_view items.now.items) rows.old) }
+{
+    for item in items {
+        read_entry_value(alloc, schema, node, path, item, rows)?;
+    }
+    Ok(())
+}
+
+/// Puts the rows of an object's members, but for the keys of the entry that it is.
+#[cycle(read)]
+pub fn read_members(
+    alloc: Global,
+    schema: &Schema,
+    parent: Option<u32>,
+    path: &Path,
+    members: &Map<String, Json>,
+    rows: &mut Gathered,
+) -> Result<(), DataFault>
+    requires stands { IsSchema schema.now }
+    requires within { IfSome parent (λ parent. parent < length schema.now) }
+    ensures { Leaves result rows.new (members_read schema.now parent path.now (members_view members.now.entries) rows.old) }
+{
+    for (name, json) in members.iter() {
+        let node = match schema.child(parent, name.as_str()) {
+            Some(node) => node,
+            None => return Err(DataFault::UnknownElement),
+        };
+        if !schema.is_key(node, parent) {
+            read_node(alloc, schema, node, path, json, rows)?;
+        }
+    }
+    Ok(())
+}
+
+/// Puts the rows of a node.
+#[cycle(read)]
+pub fn read_node(
+    alloc: Global,
+    schema: &Schema,
+    node: u32,
+    path: &Path,
+    json: &Json,
+    rows: &mut Gathered,
+) -> Result<(), DataFault>
+    requires stands { IsSchema schema.now }
+    requires within { node < length schema.now }
+    ensures { Leaves result rows.new (node_read schema.now node path.now (view json.now) rows.old) }
+{
+    match json {
+        Json::Object(members) => match schema.kind(node) {
+            Kind::Container => {
+                let path = path_below(alloc, path, node, Series::from_vec(Vec::new(alloc)))?;
+                read_members(alloc, schema, Some(node), &path, members, rows)
+            }
+            Kind::Presence => {
+                let path = path_below(alloc, path, node, Series::from_vec(Vec::new(alloc)))?;
+                rows.put(Row {
+                    path: path.copy(alloc)?,
+                    value: Value::Present,
+                })?;
+                read_members(alloc, schema, Some(node), &path, members, rows)
+            }
+            _ => Err(DataFault::InvalidValue),
+        },
+        Json::Array(items) => match schema.kind(node) {
+            Kind::List => read_entries(alloc, schema, node, path, items, rows),
+            Kind::Leaf => read_leaf(alloc, schema, node, path, json, rows),
+            Kind::LeafList => read_values(alloc, schema, node, path, items, rows),
+            _ => Err(DataFault::InvalidValue),
+        },
+        _ => match schema.kind(node) {
+            Kind::Leaf => read_leaf(alloc, schema, node, path, json, rows),
+            _ => Err(DataFault::InvalidValue),
+        },
+    }
+}
+
+/// Puts the rows of a list's entries.
+#[cycle(read)]
+fn read_entries(
+    alloc: Global,
+    schema: &Schema,
+    node: u32,
+    path: &Path,
+    items: &Vec<Json>,
+    rows: &mut Gathered,
+) -> Result<(), DataFault>
+    requires stands { IsSchema schema.now }
+    requires within { node < length schema.now }
+    ensures { Leaves result rows.new (entries_read schema.now node path.now (items_view items.now.items) rows.old) }
+{
+    for item in items {
+        read_entry(alloc, schema, node, path, item, rows)?;
+    }
+    Ok(())
+}
+
+/// Puts the rows of an entry.
+#[tactic(auto, using(crate::proofs::Schemas::keys_within))]
+#[cycle(read)]
+fn read_entry(
+    alloc: Global,
+    schema: &Schema,
+    node: u32,
+    path: &Path,
+    json: &Json,
+    rows: &mut Gathered,
+) -> Result<(), DataFault>
+    requires stands { IsSchema schema.now }
+    requires within { node < length schema.now }
+    ensures { Leaves result rows.new (entry_read schema.now node path.now (view json.now) rows.old) }
+{
+    match json {
+        Json::Object(members) => {
+            let keys = read_keys(alloc, schema, schema.keys(node), members)?;
+            let path = path_below(alloc, path, node, keys)?;
+            enter(alloc, &path, Value::Present, rows)?;
+            read_members(alloc, schema, Some(node), &path, members, rows)
+        }
+        _ => Err(DataFault::InvalidValue),
+    }
+}
+
+/// The rows that a datastore's data hold, in the order of their paths.
+pub fn read_datastore(alloc: Global, schema: &Schema, json: &Json) -> Result<Rows, DataFault>
+    requires stands { IsSchema schema.now }
+    ensures { Gives result (datastore_read schema.now (view json.now)) }
+{
+    match json {
+        Json::Object(members) => {
+            let mut rows = Gathered::new(alloc);
+            let top = Series::from_vec(Vec::new(alloc));
+            read_members(alloc, schema, None, &top, members, &mut rows)?;
+            Ok(rows.into_rows(alloc)?)
+        }
+        _ => Err(DataFault::InvalidValue),
+    }
+}

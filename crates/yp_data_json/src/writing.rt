@@ -1,0 +1,322 @@
+//! Writing rows as JSON (RFC 7951 sections 4 to 6).
+ghost use Rattle.std.specs.Prelude.{◌≡◌, ◌<◌, ◌≤◌, ◌+◌, ◌^◌, ◌++◌, [], ◌∷◌, length, drop, IfOk, OnOk, Some, Ok, List, map, true, false};
+ghost use Rattle.std.specs.List.{AllByRecursion};
+ghost use Rattle.serde_json.specs.View.{view, members_view};
+ghost use Rattle.yp_schema.specs.Nodes.{node_at, qualified_name};
+ghost use Rattle.serde_json.specs.Data.{object, member, no_members};
+ghost use Rattle.yp_schema.specs.WellFormed.{IsSchema};
+ghost use Rattle.yp_schema.specs.Datastore.{AreWritable, AreWhole, is_segment, keys_fit, atom_fits, typed_fits};
+ghost use Rattle.yp_schema.specs.declared.schema.SchemaNode.{SchemaNode};
+ghost use Rattle.yp_base.specs.declared.row.Row.{Row};
+ghost use Rattle.yp_data_json.specs.AtPath.{rows_read};
+ghost use Rattle.yp_data_json.specs.Forest.{forest_at};
+ghost use Rattle.yp_data_json.specs.Writing.{rows_json, data_at, members_in, with_keys, item_data, key_data, leaf_data};
+ghost use Rattle.yp_data_json.specs.Runs.{EndsIn, goes_through as goes_through_node, AllGoThrough, ends_through, HasSegment, StartsApart, GoOnBelow, AreNodes, AreOneMember, AreItems, has_items};
+
+use serde_json::{Map, Value as Json};
+use std::alloc::Global;
+use yp_base::atom::Atom;
+use yp_base::json::write_json;
+use yp_base::memory::{Duplicate, NoMemory};
+use yp_base::path::{Path, Seg};
+use yp_base::row::{Row, Rows, Value};
+use yp_schema::schema::{Kind, Schema};
+
+/// Writes rows as the JSON that stands at a path. At the empty path it is an object of the top-level
+/// nodes; at any other path an object of one member, the qualified name of the path's last node.
+pub fn write_rows(alloc: Global, schema: &Schema, at: &Path, rows: &Rows) -> Result<Json, NoMemory>
+    requires { AreWritable schema.now at.now rows.now }
+    ensures { IfOk result (λ json. view json ≡ rows_json schema.now at.now rows.now) }
+{
+    let _ = schema.count();
+    match at.items().split_last() {
+        Some((seg, _)) => {
+            let json = write_place(alloc, schema, at, seg, rows.items())?;
+            named(alloc, schema, seg.node, json)
+        }
+        None => Ok(Json::Object(write_members(alloc, schema, 0, rows.items())?)),
+    }
+}
+
+/// What is written of all rows of a datastore is read again as these rows.
+#[tactic(auto, using(crate::proofs::RoundTrip::top_again))]
+pub fn written_is_read()
+    ensures { (nodes : List SchemaNode) (rows : List Row) → IsSchema nodes → AreWhole nodes [] rows
+        → rows_read nodes [] (rows_json nodes [] rows) ≡ Ok rows }
+{}
+
+/// An object of one member, under the qualified name of a node.
+fn named(alloc: Global, schema: &Schema, node: u32, json: Json) -> Result<Json, NoMemory>
+    requires { node < length schema.now }
+    ensures { IfOk result (λ named. view named ≡ object (member (qualified_name (node_at node schema.now)) (view json) no_members)) }
+{
+    let mut name = String::from_str(alloc, schema.module(node))?;
+    name.push_str(":")?;
+    name.push_str(schema.name(node))?;
+    let mut members = Map::new(alloc);
+    drop(members.insert(name, json)?);
+    Ok(Json::Object(members))
+}
+
+/// Writes what stands at a path, whose last segment is handed in beside it.
+fn write_place(
+    alloc: Global,
+    schema: &Schema,
+    at: &Path,
+    seg: &Seg,
+    rows: &[Row],
+) -> Result<Json, NoMemory>
+    requires schema { IsSchema schema.now }
+    requires writable { AreWritable schema.now at.now rows.now }
+    requires last { EndsIn seg.now at.now }
+    ensures { IfOk result (λ json. view json ≡ data_at schema.now seg.now at.now rows.now) }
+{
+    match schema.kind(seg.node) {
+        Kind::Container | Kind::Presence => Ok(Json::Object(write_members(
+            alloc,
+            schema,
+            at.len(),
+            rows,
+        )?)),
+        Kind::List | Kind::LeafList => {
+            let mut items = Vec::new(alloc);
+            items.push(write_item(alloc, schema, seg, at.len(), rows)?)?;
+            Ok(Json::Array(items))
+        }
+        Kind::Leaf => match rows.split_first() {
+            Some((row, _)) => write_leaf(alloc, schema, seg.node, &row.value),
+            None => Ok(Json::Null),
+        },
+    }
+}
+
+/// Writes the members of one object: rows from a depth of their paths on. They are put from the last
+/// to the first.
+#[cycle(write)]
+fn write_members(
+    alloc: Global,
+    schema: &Schema,
+    depth: usize,
+    rows: &[Row],
+) -> Result<Map<String, Json>, NoMemory>
+    requires schema { IsSchema schema.now }
+    requires below { GoOnBelow schema.now depth rows.now }
+    ensures { IfOk result (λ members. members_view members.entries ≡ members_in schema.now (forest_at depth rows.now)) }
+{
+    let mut members = Map::new(alloc);
+    let mut left = rows;
+    while let Some((last, before)) = left.split_last() {
+        if last.path.len() <= depth {
+            // the object's own row
+            left = before;
+        } else {
+            let node = segment(last, depth).node;
+            let (front, run) = split_run(left, depth, node);
+            let json = write_node(alloc, schema, node, depth, run)?;
+            let name = String::from_str(alloc, schema.member_text(node))?;
+            drop(members.insert(name, json)?);
+            left = front;
+        }
+    }
+    Ok(members)
+}
+
+/// Writes the value of one member: rows of one node at a depth.
+#[cycle(write)]
+fn write_node(
+    alloc: Global,
+    schema: &Schema,
+    node: u32,
+    depth: usize,
+    rows: &[Row],
+) -> Result<Json, NoMemory>
+    requires schema { IsSchema schema.now }
+    requires below { GoOnBelow schema.now depth rows.now }
+    requires of_node { AllGoThrough depth node rows.now }
+    requires within { node < length schema.now }
+    requires some { 0 < length rows.now }
+    requires room { depth + 1 < 2 ^ 64 }
+    ensures { IfOk result (λ json. AreOneMember schema.now depth node rows.now (view json)) }
+{
+    match schema.kind(node) {
+        Kind::Container | Kind::Presence => Ok(Json::Object(write_members(
+            alloc,
+            schema,
+            depth + 1,
+            rows,
+        )?)),
+        Kind::List | Kind::LeafList => Ok(Json::Array(write_items(
+            alloc, schema, node, depth, rows,
+        )?)),
+        Kind::Leaf => match rows.split_first() {
+            Some((row, _)) => write_leaf(alloc, schema, node, &row.value),
+            None => Ok(Json::Null),
+        },
+    }
+}
+
+/// Writes the entries of a list or leaf-list: rows of one node at a depth.
+#[cycle(write)]
+fn write_items(
+    alloc: Global,
+    schema: &Schema,
+    node: u32,
+    depth: usize,
+    rows: &[Row],
+) -> Result<Vec<Json>, NoMemory>
+    requires schema { IsSchema schema.now }
+    requires below { GoOnBelow schema.now depth rows.now }
+    requires of_node { AllGoThrough depth node rows.now }
+    requires kind { has_items (node_at node schema.now).kind ≡ true }
+    requires room { depth + 1 < 2 ^ 64 }
+    ensures { IfOk result (λ items. AreItems schema.now depth node rows.now (map view items.items)) }
+{
+    let mut items = Vec::new(alloc);
+    let mut left = rows;
+    while let Some((first, _)) = left.split_first() {
+        let seg = segment(first, depth);
+        let (entry, others) = split_entry(left, depth, seg);
+        items.push(write_item(alloc, schema, seg, depth + 1, entry)?)?;
+        left = others;
+    }
+    Ok(items)
+}
+
+/// Writes an entry of a list with its keys, and what its rows have from a depth on, or the value of an
+/// entry of a leaf-list.
+#[cycle(write)]
+fn write_item(
+    alloc: Global,
+    schema: &Schema,
+    seg: &Seg,
+    depth: usize,
+    rows: &[Row],
+) -> Result<Json, NoMemory>
+    requires schema { IsSchema schema.now }
+    requires segment { is_segment schema.now seg.now ≡ true }
+    requires below { GoOnBelow schema.now depth rows.now }
+    ensures { IfOk result (λ json.
+        view json ≡ item_data schema.now (node_at seg.now.node schema.now).kind (node_at seg.now.node schema.now) seg.now (members_in schema.now (forest_at depth rows.now))) }
+{
+    match schema.kind(seg.node) {
+        Kind::List => {
+            let mut members = write_members(alloc, schema, depth, rows)?;
+            put_keys(
+                alloc,
+                schema,
+                schema.keys(seg.node),
+                seg.keys.items(),
+                &mut members,
+            )?;
+            Ok(Json::Object(members))
+        }
+        Kind::LeafList => match seg.keys.items().split_first() {
+            Some((value, _)) => write_key(alloc, schema, seg.node, value),
+            None => Ok(Json::Null),
+        },
+        _ => Ok(Json::Null),
+    }
+}
+
+/// Puts the keys of an entry among its members.
+fn put_keys(
+    alloc: Global,
+    schema: &Schema,
+    leaves: &[u32],
+    keys: &[Atom],
+    members: &mut Map<String, Json>,
+) -> Result<(), NoMemory>
+    requires nodes { AreNodes schema.now leaves.now }
+    requires fit { keys_fit schema.now leaves.now keys.now ≡ true }
+    ensures { OnOk result (members_view members.new.entries ≡ with_keys schema.now leaves.now keys.now (members_view members.old.entries)) }
+{
+    if let Some((leaf, leaves)) = leaves.split_first() {
+        if let Some((key, keys)) = keys.split_first() {
+            let json = write_key(alloc, schema, *leaf, key)?;
+            let name = String::from_str(alloc, schema.member_text(*leaf))?;
+            drop(members.insert(name, json)?);
+            put_keys(alloc, schema, leaves, keys, members)?;
+        }
+    }
+    Ok(())
+}
+
+/// Writes a key, or the value of a leaf-list entry, by the type of its node.
+fn write_key(alloc: Global, schema: &Schema, node: u32, key: &Atom) -> Result<Json, NoMemory>
+    requires within { node < length schema.now }
+    requires fits { atom_fits (node_at node schema.now).ty key.now ≡ true }
+    ensures { IfOk result (λ json. view json ≡ key_data (node_at node schema.now).ty key.now) }
+{
+    match schema.ty(node) {
+        Some(ty) => write_json(alloc, ty, &Value::Atom(key.copy(alloc)?)),
+        None => Ok(Json::Null),
+    }
+}
+
+/// Writes the value of a leaf by its type.
+fn write_leaf(alloc: Global, schema: &Schema, node: u32, value: &Value) -> Result<Json, NoMemory>
+    requires within { node < length schema.now }
+    requires fits { typed_fits (node_at node schema.now).ty value.now ≡ true }
+    ensures { IfOk result (λ json. view json ≡ leaf_data (node_at node schema.now).ty (Some value.now)) }
+{
+    match schema.ty(node) {
+        Some(ty) => write_json(alloc, ty, value),
+        None => Ok(Json::Null),
+    }
+}
+
+/// The segment of a row's path at a depth.
+fn segment(row: &Row, depth: usize) -> &Seg
+    requires { depth < length row.now.path }
+    ensures is { HasSegment depth result.now row.now }
+    ensures room { depth + 1 < 2 ^ 64 }
+{
+    &row.path.items()[depth]
+}
+
+/// Whether a row's path goes through a node at a depth.
+fn goes_through(row: &Row, depth: usize, node: u32) -> bool
+    ensures { result ≡ goes_through_node depth node row.now }
+{
+    row.path.len() > depth && segment(row, depth).node == node
+}
+
+/// Rows before a run of one node at their end, and that run.
+fn split_run<'a>(rows: &'a [Row], depth: usize, node: u32) -> (&'a [Row], &'a [Row])
+    ensures parts { rows.now ≡ result.0.now ++ result.1.now }
+    ensures run { AllGoThrough depth node result.1.now }
+    ensures front { ends_through depth node result.0.now ≡ false }
+{
+    let mut front = rows;
+    while let Some((last, before)) = front.split_last() {
+        if !goes_through(last, depth, node) {
+            break;
+        }
+        front = before;
+    }
+    rows.split_at(front.len())
+}
+
+/// The rows of one entry at the beginning of rows, and the others.
+fn split_entry<'a>(rows: &'a [Row], depth: usize, seg: &Seg) -> (&'a [Row], &'a [Row])
+    ensures parts { rows.now ≡ result.0.now ++ result.1.now }
+    ensures entry { AllByRecursion (HasSegment depth seg.now) result.0.now }
+    ensures others { StartsApart depth seg.now result.1.now }
+{
+    let mut others = rows;
+    while let Some((first, later)) = others.split_first() {
+        if !has_segment(first, depth, seg) {
+            break;
+        }
+        others = later;
+    }
+    rows.split_at(rows.len() - others.len())
+}
+
+/// Whether a row's path has a segment at a depth.
+fn has_segment(row: &Row, depth: usize, seg: &Seg) -> bool
+    ensures is { result ≡ true → HasSegment depth seg.now row.now }
+    ensures isnt { result ≡ false → HasSegment depth seg.now row.now → ⊥ }
+{
+    row.path.len() > depth && segment(row, depth) == seg
+}
