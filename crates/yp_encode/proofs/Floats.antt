@@ -1,0 +1,176 @@
+-- No floating-point number is written.
+use Rattle.std.proofs.Common.{◌≡◌, ℕ, ◌+◌, Bool, true, false, true≢false, ◌||◌, List, [], ◌∷◌, length, cond, refl, sym, ap, ◌∙◌, Option, Some, None}
+use Rattle.std.specs.Prelude.{ℤ, pos, negsuc, nat_eq}
+use Rattle.std.specs.Ordering.{nat_cmp, match_ordering}
+use Rattle.std.specs.Cmp.Lexicographic.{slice_cmp, pointwise}
+use Rattle.std.specs.declared.cmp.Ordering.{Ordering}
+use Rattle.std.specs.declared.cmp.Ordering.TheVariants.{Less, Equal, Greater}
+use Rattle.serde_json.specs.Data.{Num, unsigned, negative, float, Data, null, boolean, number, string, array, object, Items, no_items, item, Members, no_members, member, put}
+use Rattle.serde_json.specs.Written.{has_float, items_have_float, members_have_float}
+use Rattle.serde_json.specs.Find.{of_integer}
+use Rattle.yp_base.specs.declared.atom.Atom.{Atom}
+use Rattle.yp_base.specs.declared.atom.Atom.TheVariants.{Bool as Truth, Int, Uint, Dec, Text}
+use Rattle.yp_base.specs.declared.leaf_type.LeafType.{LeafType}
+use Rattle.yp_base.specs.declared.path.Seg.{Seg}
+use Rattle.yp_base.specs.declared.row.Row.{Row}
+use Rattle.yp_base.specs.declared.row.Value.{Value}
+use Rattle.yp_base.specs.declared.row.Value.TheVariants.{Atom as Plain, Member, Empty, Present}
+use Rattle.yp_base.specs.Rows.{value_at}
+use Rattle.yp_base.specs.Texts.{atom_text}
+use Rattle.yp_base.specs.Json.{has_string_numbers, atom_data, value_data}
+use Rattle.yp_schema.specs.declared.schema.SchemaNode.{SchemaNode}
+use Rattle.yp_schema.specs.declared.schema.Kind.{Kind}
+use Rattle.yp_schema.specs.declared.schema.Kind.TheVariants.{Container, Presence, List as Listing, Leaf, LeafList}
+use Rattle.yp_schema.specs.Nodes.{node_at}
+use Rattle.yp_base.specs.declared.notice.Change.{Change}
+use Rattle.yp_base.specs.declared.notice.Notice.{Notice}
+use Rattle.yp_base.specs.declared.notice.Notice.TheVariants.{Full, Changes, Started, Modified, Suspended, Resumed, Terminated}
+use Rattle.yp_encode.specs.Lines.{carries_value, value_member, edit_data, edits_from, mark, patch_data, body_of, notification_data}
+use Rattle.yp_data_json.specs.Forest.{Forest, bare, branch, forest_at}
+use Rattle.yp_data_json.specs.Writing.{leaf_data, key_data, one_key_data, with_keys, item_in_front, item_data, branch_members, members_in, last_segment, place_data, data_at, rows_json}
+
+pub none : (a b : Bool) → a ≡ false → b ≡ false → (a || b) ≡ false
+none a b first second = ap (λ t. t || b) first ∙ second
+
+first_none : (a b : Bool) → (a || b) ≡ false → a ≡ false
+first_none true b h = absurd (true≢false h)
+first_none false b h = refl
+
+rest_none : (a b : Bool) → (a || b) ≡ false → b ≡ false
+rest_none true b h = absurd (true≢false h)
+rest_none false b h = h
+
+integer : (z : ℤ) → has_float (number (of_integer z)) ≡ false
+integer (pos n) = refl
+integer (negsuc n) = refl
+
+chosen : (b : Bool) (text : List ℕ) (n : Num) → has_float (number n) ≡ false → has_float (cond b (string text) (number n)) ≡ false
+chosen true text n is = refl
+chosen false text n is = is
+
+atom : (ty : LeafType) (a : Atom) → has_float (atom_data ty a) ≡ false
+atom ty (Truth b) = refl
+atom ty (Int n) = chosen (has_string_numbers ty) (atom_text (Int n)) (of_integer n) (integer n)
+atom ty (Uint n) = chosen (has_string_numbers ty) (atom_text (Uint n)) (unsigned n) refl
+atom ty (Dec units places) = refl
+atom ty (Text text) = refl
+
+value : (ty : LeafType) (v : Value) → has_float (value_data ty v) ≡ false
+value ty (Plain a) = atom ty a
+value ty Member = refl
+value ty Empty = refl
+value ty Present = refl
+
+leaf : (ty : Option LeafType) (own : Option Value) → has_float (leaf_data ty own) ≡ false
+leaf None own = refl
+leaf (Some ty) None = refl
+leaf (Some ty) (Some v) = value ty v
+
+one_key : (ty : Option LeafType) (keys : List Atom) → has_float (one_key_data ty keys) ≡ false
+one_key ty [] = refl
+one_key ty (key ∷ keys) = leaf ty (Some (Plain key))
+
+put_at : (o : Ordering) (k : List ℕ) (d : Data) (l : List ℕ) (e : Data) (ms more : Members) → has_float d ≡ false → has_float e ≡ false → members_have_float ms ≡ false → members_have_float more ≡ false
+    → members_have_float (match_ordering o (member k d (member l e ms)) (member l d ms) (member l e more)) ≡ false
+put_at Less k d l e ms more one two rest later = none (has_float d) (has_float e || members_have_float ms) one (none (has_float e) (members_have_float ms) two rest)
+put_at Equal k d l e ms more one two rest later = none (has_float d) (members_have_float ms) one rest
+put_at Greater k d l e ms more one two rest later = none (has_float e) (members_have_float more) two later
+
+put_none : (k : List ℕ) (d : Data) (ms : Members) → has_float d ≡ false → members_have_float ms ≡ false → members_have_float (put k d ms) ≡ false
+put_none k d no_members one rest = none (has_float d) false one refl
+put_none k d (member l e ms) one rest =
+    let two = first_none (has_float e) (members_have_float ms) rest in
+    let later = rest_none (has_float e) (members_have_float ms) rest in
+    put_at (slice_cmp nat_cmp k l) k d l e ms (put k d ms) one two later (put_none k d ms one later)
+
+keys_none : (nodes : List SchemaNode) (ks : List ℕ) (keys : List Atom) (ms : Members) → members_have_float ms ≡ false → members_have_float (with_keys nodes ks keys ms) ≡ false
+keys_none nodes [] keys ms rest = rest
+keys_none nodes (k ∷ ks) [] ms rest = rest
+keys_none nodes (k ∷ ks) (key ∷ keys) ms rest =
+    keys_none nodes ks keys (put (node_at k nodes).member (key_data (node_at k nodes).ty key) ms) (put_none (node_at k nodes).member (key_data (node_at k nodes).ty key) ms (leaf (node_at k nodes).ty (Some (Plain key))) rest)
+
+new_item : (name : List ℕ) (d : Data) (ms : Members) → has_float d ≡ false → members_have_float ms ≡ false → members_have_float (member name (array (item d no_items)) ms) ≡ false
+new_item name d ms one rest = none (has_float d || false) (members_have_float ms) (none (has_float d) false one refl) rest
+
+item_at : (b : Bool) (name other : List ℕ) (d : Data) (ds : Items) (ms : Members) → has_float d ≡ false → members_have_float (member other (array ds) ms) ≡ false
+    → members_have_float (cond b (member other (array (item d ds)) ms) (member name (array (item d no_items)) (member other (array ds) ms))) ≡ false
+item_at true name other d ds ms one rest =
+    none (has_float d || items_have_float ds) (members_have_float ms) (none (has_float d) (items_have_float ds) one (first_none (items_have_float ds) (members_have_float ms) rest))
+    (rest_none (items_have_float ds) (members_have_float ms) rest)
+item_at false name other d ds ms one rest = new_item name d (member other (array ds) ms) one rest
+
+item_none : (name : List ℕ) (d : Data) (ms : Members) → has_float d ≡ false → members_have_float ms ≡ false → members_have_float (item_in_front name d ms) ≡ false
+item_none name d no_members one rest = new_item name d no_members one rest
+item_none name d (member other null ms) one rest = new_item name d (member other null ms) one rest
+item_none name d (member other (boolean b) ms) one rest = new_item name d (member other (boolean b) ms) one rest
+item_none name d (member other (number n) ms) one rest = new_item name d (member other (number n) ms) one rest
+item_none name d (member other (string s) ms) one rest = new_item name d (member other (string s) ms) one rest
+item_none name d (member other (object os) ms) one rest = new_item name d (member other (object os) ms) one rest
+item_none name d (member other (array ds) ms) one rest = item_at (pointwise nat_eq name other) name other d ds ms one rest
+
+item_data_none : (nodes : List SchemaNode) (k : Kind) (node : SchemaNode) (seg : Seg) (kids : Members) → members_have_float kids ≡ false → has_float (item_data nodes k node seg kids) ≡ false
+item_data_none nodes Container node seg kids below = refl
+item_data_none nodes Presence node seg kids below = refl
+item_data_none nodes Listing node seg kids below = keys_none nodes node.keys seg.keys kids below
+item_data_none nodes Leaf node seg kids below = refl
+item_data_none nodes LeafList node seg kids below = one_key node.ty seg.keys
+
+branch_none : (nodes : List SchemaNode) (k : Kind) (name : List ℕ) (node : SchemaNode) (seg : Seg) (own : Option Value) (kids next : Members) → members_have_float kids ≡ false → members_have_float next ≡ false
+    → members_have_float (branch_members nodes k name node seg own kids next) ≡ false
+branch_none nodes Container name node seg own kids next below later = none (members_have_float kids) (members_have_float next) below later
+branch_none nodes Presence name node seg own kids next below later = none (members_have_float kids) (members_have_float next) below later
+branch_none nodes Listing name node seg own kids next below later = item_none name (item_data nodes Listing node seg kids) next (item_data_none nodes Listing node seg kids below) later
+branch_none nodes Leaf name node seg own kids next below later = none (has_float (leaf_data node.ty own)) (members_have_float next) (leaf node.ty own) later
+branch_none nodes LeafList name node seg own kids next below later = item_none name (item_data nodes LeafList node seg kids) next (item_data_none nodes LeafList node seg kids below) later
+
+place_none : (nodes : List SchemaNode) (k : Kind) (node : SchemaNode) (seg : Seg) (own : Option Value) (kids : Members) → members_have_float kids ≡ false → has_float (place_data nodes k node seg own kids) ≡ false
+place_none nodes Container node seg own kids below = below
+place_none nodes Presence node seg own kids below = below
+place_none nodes Listing node seg own kids below = none (has_float (item_data nodes Listing node seg kids)) false (item_data_none nodes Listing node seg kids below) refl
+place_none nodes Leaf node seg own kids below = leaf node.ty own
+place_none nodes LeafList node seg own kids below = none (has_float (item_data nodes LeafList node seg kids)) false (item_data_none nodes LeafList node seg kids below) refl
+
+members_none : (nodes : List SchemaNode) (f : Forest) → members_have_float (members_in nodes f) ≡ false
+members_none nodes bare = refl
+members_none nodes (branch seg own kids next) =
+    branch_none nodes (node_at seg.node nodes).kind (node_at seg.node nodes).member (node_at seg.node nodes) seg own (members_in nodes kids) (members_in nodes next) (members_none nodes kids) (members_none nodes next)
+
+-- the JSON of rows has none
+pub rows_none : (nodes : List SchemaNode) (at : List Seg) (rows : List Row) → has_float (rows_json nodes at rows) ≡ false
+rows_none nodes [] rows = members_none nodes (forest_at 0 rows)
+rows_none nodes (seg ∷ rest) rows =
+    let last = last_segment seg rest in
+    none (has_float (data_at nodes last (seg ∷ rest) rows)) false
+    (place_none nodes (node_at last.node nodes).kind (node_at last.node nodes) last (value_at (seg ∷ rest) rows) (members_in nodes (forest_at (length (seg ∷ rest)) rows)) (members_none nodes (forest_at (length (seg ∷ rest)) rows)))
+    refl
+
+value_member_none : (b : Bool) (d : Data) → has_float d ≡ false → members_have_float (value_member b d) ≡ false
+value_member_none true d one = none (has_float d) false one refl
+value_member_none false d one = refl
+
+edits_none : (nodes : List SchemaNode) (n : ℕ) (changes : List Change) → items_have_float (edits_from nodes n changes) ≡ false
+edits_none nodes n [] = refl
+edits_none nodes n (change ∷ changes) =
+    none (has_float (edit_data nodes n change)) (items_have_float (edits_from nodes (n + 1) changes))
+    (value_member_none (carries_value change.kind) (rows_json nodes change.target change.rows) (rows_none nodes change.target change.rows)) (edits_none nodes (n + 1) changes)
+
+mark_none : (b : Bool) → members_have_float (mark b) ≡ false
+mark_none true = refl
+mark_none false = refl
+
+patch_none : (nodes : List SchemaNode) (id : ℕ) (changes : List Change) → has_float (patch_data nodes id changes) ≡ false
+patch_none nodes id changes = none (items_have_float (edits_from nodes 1 changes) || false) false (none (items_have_float (edits_from nodes 1 changes)) false (edits_none nodes 1 changes) refl) refl
+
+body_none : (nodes : List SchemaNode) (notice : Notice) → members_have_float (body_of nodes notice) ≡ false
+body_none nodes (Full id rows) = none (has_float (rows_json nodes [] rows)) false (rows_none nodes [] rows) refl
+body_none nodes (Changes id patch_id changes incomplete) = none (has_float (patch_data nodes patch_id changes)) (members_have_float (mark incomplete)) (patch_none nodes patch_id changes) (mark_none incomplete)
+body_none nodes (Started id) = refl
+body_none nodes (Modified id) = refl
+body_none nodes (Suspended id) = refl
+body_none nodes (Resumed id) = refl
+body_none nodes (Terminated id) = refl
+
+-- the JSON of a notification has none
+pub notification_none : (nodes : List SchemaNode) (start tick : ℕ) (notice : Notice) → has_float (notification_data nodes start tick notice) ≡ false
+notification_none nodes start tick notice =
+    none (members_have_float (body_of nodes notice) || false) false (none (members_have_float (body_of nodes notice)) false (body_none nodes notice) refl) refl

@@ -1,0 +1,4 @@
+pub mod Edits
+pub mod Floats
+pub mod Names
+pub mod Values
