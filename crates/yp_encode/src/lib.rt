@@ -6,3 +6,5 @@
 #![tactic(auto)]
 
 pub mod line;
+#[cfg(test)]
+mod tests;
