@@ -1,0 +1,14 @@
+pub mod Collects
+pub mod CommandLaws
+pub mod Commands
+pub mod Created
+pub mod Ends
+pub mod Kept
+pub mod LineLaws
+pub mod Mirror
+pub mod Picks
+pub mod Replies
+pub mod Runs
+pub mod Sendables
+pub mod Showing
+pub mod TopLaws

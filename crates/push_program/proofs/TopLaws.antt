@@ -1,0 +1,58 @@
+-- What was read and written, in the words of a script and its report.
+use Rattle.std.proofs.Common.{◌≡◌, ℕ, zero, suc, ◌+◌, List, [], ◌∷◌, ◌++◌, length, take, drop, Bool, Option, Some, None, Result, Ok, Err, refl, sym, ap, ◌∙◌, subst, min, arith}
+use Rattle.std.proofs.lemmas.List.{take_min}
+use Rattle.std.specs.Prelude.{IfSome, IfOk}
+use Rattle.yp_io.specs.Whole.{ReadsWhole, Appends, AppendsPrefix}
+use Rattle.push_program.specs.declared.fault.ScriptFault.{ScriptFault}
+use Rattle.push_program.specs.declared.script.Script.{Script}
+use Rattle.push_program.specs.Answers.{MirrorsRead}
+use Rattle.push_program.specs.Received.{Mirrors}
+use Rattle.push_program.specs.Report.{report_text}
+use Rattle.push_program.specs.Script.{script_of, script_in}
+use Rattle.push_program.proofs.Commands.{script_commands}
+use Rattle.push_program.proofs.Mirror.{mirrors}
+
+take_twice : (n : ℕ) (xs : List ℕ) → take n (take n xs) ≡ take n xs
+take_twice zero xs = refl
+take_twice (suc n) [] = refl
+take_twice (suc n) (x ∷ xs) = ap (λ t. x ∷ t) (take_twice n xs)
+
+-- so many of the bytes as there are, or as may be
+pub front_is : (n m : ℕ) (bytes : List ℕ) → m ≡ min (length bytes) n → take m bytes ≡ take n bytes
+front_is n m bytes is = ap (λ k. take k bytes) (is ∙ (omega arith)) ∙ take_min n bytes
+
+-- the source was read to its end, or one byte past the most
+pub reads_all : (o after : Option (List ℕ)) (bytes : List ℕ) (over : Bool) → IfSome o (λ before. ReadsWhole 67108864 before after bytes over) → IfSome o (λ before. after ≡ Some (drop 67108865 before))
+reads_all None after bytes over read = read
+reads_all (Some before) after bytes over read = read.rest
+
+front_read : (n : ℕ) (before bytes front : List ℕ) → bytes ≡ take n before → front ≡ take n bytes → front ≡ take n before
+front_read n before bytes front is from = from ∙ ap (λ t. take n t) is ∙ take_twice n before
+
+-- the script of what was read
+pub script_read : (o after : Option (List ℕ)) (bytes front : List ℕ) (over : Bool) (script : Result Script ScriptFault) → IfSome o (λ before. ReadsWhole 67108864 before after bytes over) → front ≡ take 67108865 bytes → script_of front ≡ script
+    → IfSome o (λ before. script_in before ≡ script)
+script_read None after bytes front over script read from is = read
+script_read (Some before) after bytes front over script read from is = sym (ap script_of (front_read 67108865 before bytes front read.front from)) ∙ is
+
+-- the report that was written
+pub report_written : (o w after : Option (List ℕ)) (script : Script) (text : List ℕ) → IfSome o (λ before. script_in before ≡ Ok script) → text ≡ report_text script → IfSome w (λ before. Appends before after text)
+    → IfSome o (λ bytes. IfSome w (λ before. (s : Script) × (script_in bytes ≡ Ok s) × (after ≡ Some (before ++ report_text s))))
+report_written None w after script text is told written = is
+report_written (Some bytes) None after script text is told written = written
+report_written (Some bytes) (Some before) after script text is told written = (script, is, written ∙ ap (λ t. Some (before ++ t)) told)
+
+pub prefix_written : (o w after : Option (List ℕ)) (script : Script) (text : List ℕ) → IfSome o (λ before. script_in before ≡ Ok script) → text ≡ report_text script → IfSome w (λ before. AppendsPrefix before after text)
+    → IfSome o (λ bytes. IfSome w (λ before. (s : Script) × (script_in bytes ≡ Ok s) × AppendsPrefix before after (report_text s)))
+prefix_written None w after script text is told written = is
+prefix_written (Some bytes) None after script text is told written = written
+prefix_written (Some bytes) (Some before) after script text is told written = (script, is, subst (λ (t : List ℕ). AppendsPrefix before after t) told written)
+
+-- every script that is read is mirrored
+mirrors_at : (r : Result Script ScriptFault) (bytes : List ℕ) → script_in bytes ≡ r → IfOk r (λ script. Mirrors script.schema script.commands)
+mirrors_at (Ok script) bytes is = mirrors script.schema script.commands (script_commands (take 67108865 bytes) script is)
+mirrors_at (Err fault) bytes is = tt
+
+pub mirrors_read : (left : Option (List ℕ)) → MirrorsRead left
+mirrors_read None = tt
+mirrors_read (Some bytes) = mirrors_at (script_in bytes) bytes refl

@@ -1,0 +1,16 @@
+pub mod Access
+pub mod Answers
+pub mod Collected
+pub mod Cursor
+pub mod Faults
+pub mod Journal
+pub mod LineForms
+pub mod Lines
+pub mod Notices
+pub mod Progress
+pub mod Readings
+pub mod Received
+pub mod Report
+pub mod Script
+pub mod Shown
+pub mod Words

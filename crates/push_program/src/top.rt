@@ -1,0 +1,112 @@
+//! The call that the program makes.
+ghost use Rattle.std.specs.Prelude.{◌≡◌, ◌≤◌, length, take, IfOk, IfErr, Ok, string_bytes};
+ghost use Rattle.push_program.specs.declared.script.Script.{Script as ReadScript};
+ghost use Rattle.push_program.specs.Answers.{Answers, MirrorsRead, is_run};
+ghost use Rattle.push_program.specs.Readings.{Fails};
+ghost use Rattle.push_program.specs.Report.{report_text};
+ghost use Rattle.push_program.specs.Script.{script_of};
+
+use crate::fault::{ScriptFault, ScriptKind};
+use crate::reading::read_script;
+use crate::report::report;
+use std::alloc::Global;
+use yp_base::txt::Txt;
+use yp_io::sink::Sink;
+use yp_io::source::Source;
+use yp_io::whole::{ReadError, read_whole, write_whole};
+
+/// How a run ended.
+#[derive(Debug, Clone, Copy, PartialEq, Eq, Drop)]
+pub enum Status {
+    /// The report was written, whole.
+    Done,
+    /// The words aren't the one word `run`. Nothing was read.
+    BadWords,
+    /// The first fault of the script: its line, from 1 on, and its kind. Nothing was written.
+    BadScript { line: u32, kind: ScriptKind },
+    /// A read failed. Nothing was written.
+    ReadFault,
+    /// A write failed; a front of the report was written.
+    WriteFault,
+    /// Memory ran out. Nothing was written.
+    NoMemory,
+}
+
+/// The most bytes of a script.
+const MOST_BYTES: usize = 67_108_864;
+
+/// Whether the words are the one word `run`.
+fn are_run(words: &[Txt]) -> bool
+    ensures { result ≡ is_run words.now }
+{
+    match words {
+        [word] => word.as_str() == "run",
+        _ => false,
+    }
+}
+
+/// The bytes up to the first that is too many.
+fn front_of(bytes: &[u8]) -> &[u8]
+    ensures front { result.now ≡ take 67108865 bytes.now }
+    ensures fits { length result.now ≤ 67108865 }
+{
+    let most = bytes.len().min(67_108_865);
+    &bytes[..most]
+}
+
+/// The report of a script, or its first fault.
+#[tactic(auto, using(crate::proofs::Commands::script_commands))]
+fn text_of(alloc: Global, bytes: &[u8]) -> Result<String, ScriptFault>
+    requires { length bytes.now ≤ 67108865 }
+    ensures text { IfOk result (λ text. (script : ReadScript) × (script_of bytes.now ≡ Ok script) × (string_bytes text ≡ report_text script)) }
+    ensures fault { IfErr result (λ fault. Fails fault (script_of bytes.now)) }
+{
+    match read_script(alloc, bytes) {
+        Ok(script) => match report(alloc, &script) {
+            Ok(text) => Ok(text),
+            Err(_) => Err(ScriptFault::Memory),
+        },
+        Err(fault) => Err(fault),
+    }
+}
+
+/// Reads a script, runs it, and writes its report.
+#[tactic(auto, using(crate::proofs::TopLaws::mirrors_read))]
+pub fn push_main<S: Source, K: Sink>(
+    alloc: Global,
+    words: &[Txt],
+    source: &mut S,
+    sink: &mut K,
+) -> Status
+    ensures answers { Answers words.now (record {
+      left_before = S.left source.old;
+      left_after = S.left source.new;
+      written_before = K.written sink.old;
+      written_after = K.written sink.new;
+      read_faults_before = S.faults source.old;
+      read_faults_after = S.faults source.new;
+      write_faults_before = K.faults sink.old;
+      write_faults_after = K.faults sink.new;
+    }) result }
+    ensures mirror { MirrorsRead (S.left source.old) }
+{
+    if !are_run(words) {
+        return Status::BadWords;
+    }
+    let whole = match read_whole(alloc, source, MOST_BYTES) {
+        Ok(whole) => whole,
+        Err(ReadError::Fault) => return Status::ReadFault,
+        Err(ReadError::Memory) => return Status::NoMemory,
+    };
+    let bytes = front_of(whole.bytes.items());
+    match text_of(alloc, bytes) {
+        Ok(text) => match write_whole(sink, text.as_bytes()) {
+            Ok(()) => Status::Done,
+            Err(_) => Status::WriteFault,
+        },
+        Err(fault) => match fault {
+            ScriptFault::At { line, kind } => Status::BadScript { line, kind },
+            ScriptFault::Memory => Status::NoMemory,
+        },
+    }
+}
