@@ -1,5 +1,6 @@
 -- An ordered map's entries and their rows.
 use Rattle.std.proofs.Common.{◌≡◌, List, [], ◌∷◌, ◌++◌, map, refl, sym, ap, subst, ◌∙◌, cond, true, false, append_assoc}
+use Rattle.std.specs.Prelude.{Result, Ok, Err, OnErr}
 use Rattle.std.specs.BTreeMap.{insert_entry, is_at}
 use Rattle.std.specs.Map.{lookup, remove_entry}
 use Rattle.std.specs.Ordering.{is_eq, match_ordering}
@@ -46,3 +47,8 @@ copying_grows all done new e more order so_far put =
     ap (λ rows. rows ++ rows_of more) (put ∙ put_last_row done (row_of e) (rows_of more) (subst AreInOrder (sym so_far) order))
     ∙ append_assoc done (row_of e ∷ []) (rows_of more)
     ∙ so_far
+
+-- what holds, holds after a failure
+pub when_failed : {X E : Type 0} {P : Type 0} (r : Result X E) → P → OnErr r P
+when_failed (Ok x) h = tt
+when_failed (Err e) h = h

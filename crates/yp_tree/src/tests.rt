@@ -209,6 +209,26 @@ fn a_cut_takes_what_is_below_and_leaves_the_rest(rt: HostRuntime) -> Result<(), 
 }
 
 #[test]
+fn a_removed_row_is_gone_and_what_is_below_stays(rt: HostRuntime) -> Result<(), Fail> {
+    let alloc = rt.alloc();
+    let mut tree = tree_of(alloc, entries(alloc, &["a", "b"])?)?;
+    put_number(&mut tree, alloc, leaf(alloc, "a")?, 7)?;
+    let taken = tree.remove(&entry(alloc, "a")?);
+    assert!(rt; matches!(&taken, Some(Value::Present)));
+    assert!(rt;
+        tree.remove(&entry(alloc, "a")?).is_none(),
+        "no row is there twice"
+    );
+    assert_eq!(rt; tree.len(), 2);
+    let under = top(alloc);
+    assert!(rt; is_next(&tree, &under, &under, &leaf(alloc, "a")?));
+    assert!(rt; is_next(&tree, &leaf(alloc, "a")?, &under, &entry(alloc, "b")?));
+    let number = tree.remove(&leaf(alloc, "a")?);
+    assert!(rt; matches!(&number, Some(Value::Atom(Atom::Uint(7)))));
+    Ok(())
+}
+
+#[test]
 fn a_row_put_again_has_its_new_value(rt: HostRuntime) -> Result<(), Fail> {
     let alloc = rt.alloc();
     let mut tree = Tree::new(alloc);

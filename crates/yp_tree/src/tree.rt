@@ -1,5 +1,5 @@
 //! Rows in an ordered map.
-ghost use Rattle.std.specs.Prelude.{◌≡◌, ◌+◌, [], length, map, option_map, option_copied, OnOk, OnErr, IfOk};
+ghost use Rattle.std.specs.Prelude.{◌≡◌, ◌+◌, ◌^◌, ◌<◌, [], None, length, map, option_map, option_copied, OnOk, OnErr, IfOk};
 ghost use Rattle.std.specs.Bound.{bound_map};
 ghost use Rattle.yp_base.specs.Rows.{path_of, value_at, put_row, next_row, rows_within, rows_without, AreInOrder};
 ghost use Rattle.yp_tree.specs.Begins.{Begins};
@@ -48,6 +48,7 @@ impl Tree {
     /// How many rows it has. They are in order, with no path twice.
     pub fn len(&self) -> usize
         ensures count { result ≡ length self.now }
+        ensures small { result < 2 ^ 63 }
         ensures order { AreInOrder self.now }
     {
         self.kept.len()
@@ -80,10 +81,11 @@ impl Tree {
     }
 
     /// Adds the row, or gives its value to the row that has its path. After `NoMemory` the tree is as
-    /// it was, and the row is gone.
+    /// it was, and the row is gone; it comes only where no row has the path.
     pub fn put(&mut self, _alloc: Global, row: Row) -> Result<(), NoMemory>
         ensures rows { OnOk result (self.new ≡ put_row row self.old) }
         ensures unchanged { OnErr result (self.new ≡ self.old) }
+        ensures room { OnErr result (value_at row.path self.old ≡ None) }
     {
         let Row { path, value } = row;
         self.kept.insert(path, value)?;
@@ -100,7 +102,7 @@ impl Tree {
         let paths = self.paths_within(alloc, path)?.into_vec();
         let mut rows = Vec::with_capacity(alloc, paths.len())?;
         for each in paths {
-            match self.take(&each) {
+            match self.remove(&each) {
                 Some(value) => rows.push(Row { path: each, value })?,
                 None => {}
             }
@@ -108,8 +110,9 @@ impl Tree {
         Ok(Series::from_vec(rows))
     }
 
-    // Takes out the row that has this path, and gives its value.
-    fn take(&mut self, path: &Path) -> Option<Value>
+    /// Takes out the row that has this path, and gives its value; `None` where there is no such row. It
+    /// takes no memory.
+    pub fn remove(&mut self, path: &Path) -> Option<Value>
         ensures value { result ≡ value_at path.now self.old }
         ensures rest { self.new ≡ without_row path.now self.old }
     {

@@ -3,8 +3,8 @@ use Rattle.std.specs.List.Sorted.{IsStrictlySortedBy}
 use Rattle.yp_base.specs.Order.{path_cmp}
 use Rattle.yp_base.specs.declared.path.Seg.{Seg}
 use Rattle.std.proofs.Common.{List}
-use Rattle.yp_tree.proofs.Rows.{put_row-insert, paths-rows}
-use Rattle.yp_base.specs.Rows.{put_row}
+use Rattle.yp_tree.proofs.Rows.{put_row-insert, paths-rows, value_at-lookup, when_failed}
+use Rattle.yp_base.specs.Rows.{put_row, value_at}
 use Rattle.yp_tree.specs.Listed.{rows_of}
 use Rattle.yp_tree.proofs.tree.Tree.put.Goals as goal
 
@@ -13,3 +13,6 @@ invariant_of-self-2 c = subst (λ (ps : List (List Seg)). IsStrictlySortedBy pat
 
 pub returns-clause-rows : goal.returns-clause-rows
 returns-clause-rows c = ap rows_of c.in_ok-insert.ensures.entries ∙ put_row-insert c.args.row.path c.args.row.value c.self.inside.kept.entries ∙ ap (put_row c.args.row) c.self.view_is
+
+pub returns-in_err-insert-clause-room : goal.returns-in_err-insert-clause-room
+returns-in_err-insert-clause-room c = when_failed c.from_residual.result (sym (ap (value_at c.args.row.path) c.self.view_is) ∙ sym (value_at-lookup c.args.row.path c.self.inside.kept.entries) ∙ c.in_err-insert.ensures.absent)

@@ -5,7 +5,7 @@ use Rattle.yp_base.specs.Order.{path_cmp}
 use Rattle.yp_base.specs.Rows.{value_at}
 use Rattle.yp_tree.proofs.Rows.{paths-rows, value_at-lookup, without_row-remove}
 use Rattle.yp_tree.specs.Listed.{rows_of, without_row}
-use Rattle.yp_tree.proofs.tree.Tree.take.Goals as goal
+use Rattle.yp_tree.proofs.tree.Tree.remove.Goals as goal
 
 pub invariant_of-self : goal.invariant_of-self
 invariant_of-self c = subst (λ (ps : List (List Seg)). IsStrictlySortedBy path_cmp ps) (sym (paths-rows c.remove.new.self.entries)) c.remove.ensures.ordered
