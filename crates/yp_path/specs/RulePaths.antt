@@ -1,4 +1,4 @@
--- Rule paths (RFC 8341 section 3.4.5): `/` and a name for each node, and predicates `[name='value']` for those of its keys that are given.
+-- Rule paths (RFC 8341 section 3.5.2): `/` and a name for each node, and predicates `[name='value']` for those of its keys that are given.
 use Rattle.std.specs.Prelude.{ℕ, List, [], ◌∷◌, Bool, true, false, ◌&&◌, ◌||◌, ◌==◌, length, nat_lt, if◌then◌else◌, codes, Option, Some, None, option_map, option_and_then, Result, Ok, Err}
 use Rattle.std.specs.List.{position_or_len, before_first, after_first}
 use Rattle.yp_base.specs.Types.{same_text}

@@ -5,14 +5,16 @@ use yp_base::memory::NoMemory;
 /// What is wrong with the leftmost segment that has a fault; of its faults the first in this order.
 #[derive(Debug, Drop, Clone, Copy, PartialEq, Eq, thiserror::Error)]
 pub enum PathFault {
-    /// No leading `/`, an empty name, a `%` without two hexadecimal digits in a key, or a key that
-    /// isn't UTF-8 after decoding.
+    /// No leading `/`, or an empty name. In a target also a `%` without two hexadecimal digits in a key,
+    /// or a key that isn't UTF-8 after decoding; in a rule's path a predicate that is not of the form
+    /// `[name='value']` or `[name="value"]`.
     #[error("the path is malformed")]
     Syntax,
     /// The name is neither the member form nor the qualified name of a child.
     #[error("the path names an unknown node")]
     UnknownNode,
-    /// There are more or fewer keys than the node has.
+    /// In a target there are more or fewer keys than the node has; in a rule's path a predicate names no
+    /// key of the node, or a key twice.
     #[error("the path has a wrong number of keys")]
     KeyCount,
     /// A key isn't a value of its type.

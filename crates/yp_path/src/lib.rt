@@ -1,5 +1,5 @@
 //! Paths as texts: the targets of edits (RFC 8040 section 3.5.3, RFC 8072) and the paths of access
-//! control rules (RFC 8341 section 3.4.5).
+//! control rules (RFC 8341 section 3.5.2).
 //!
 //! Contracts see a text as its bytes and a path as the list of its segments. `specs/Targets.antt` says
 //! which path a target is and which text a path has, `specs/RulePaths.antt` which path a rule's text is,

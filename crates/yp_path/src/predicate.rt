@@ -1,4 +1,4 @@
-//! Predicates of rule paths (RFC 8341 section 3.4.5).
+//! Predicates of rule paths (RFC 8341 section 3.5.2).
 ghost use Rattle.std.specs.Prelude.{◌≡◌, ◌<◌, Some, None, IfOk, MatchOption};
 ghost use Rattle.std.specs.List.{before_first};
 ghost use Rattle.yp_path.specs.RulePaths.{without_spaces, are_spaces, name_in, closed, value_in, predicate_in, predicates_behind, predicates_of, is_bracket};

@@ -237,7 +237,8 @@ fn read_segment(
 /// The segments of a text without its leading `/`, from the top down.
 #[tactic(auto, using(crate::proofs::RuleSegments::one_segment, crate::proofs::RuleSegments::last_segment, crate::proofs::RuleSegments::one_fault, crate::proofs::RuleSegments::last_fault))]
 fn read_segments(alloc: Global, schema: &Schema, text: &str) -> Result<RulePath, PathFault>
-    ensures { Gives result (rule_segments_in schema.now None (pieces 47 Outside text.now)) }
+    ensures read { Gives result (rule_segments_in schema.now None (pieces 47 Outside text.now)) }
+    ensures nodes { IfOk result (λ path. All (λ segment. segment.node < length schema.now) path) }
 {
     let mut segments = Vec::new(alloc);
     let mut parent = None;
@@ -252,12 +253,16 @@ fn read_segments(alloc: Global, schema: &Schema, text: &str) -> Result<RulePath,
     Ok(Series::from_vec(segments))
 }
 
-/// The rule path that a text is (RFC 8341 section 3.4.5). A key that no predicate names stands for all
-/// values. `KeyCount` comes where a predicate names no key, or a key twice. The fault is the first of
-/// the leftmost segment that has one.
+/// The rule path that a text is (RFC 8341 section 3.5.2): segments of `/` and a name, in member form or
+/// qualified, and predicates `[name='value']` or `[name="value"]` for keys, `[.='value']` for the value of
+/// a leaf-list. Spaces may stand around a name, the `=` and a value. Keys stand in any order; one that no
+/// predicate names stands for all values. The fault is the first of the leftmost segment that has one:
+/// `Syntax`, `UnknownNode`, `KeyCount` where a predicate names no key, or a key twice, and `KeyValue`
+/// where a value is not of its key's type.
 #[tactic(auto, using(crate::proofs::RuleSegments::unrooted))]
 pub fn read_rule_path(alloc: Global, schema: &Schema, text: &str) -> Result<RulePath, PathFault>
-    ensures { Gives result (rule_path_in schema.now text.now) }
+    ensures read { Gives result (rule_path_in schema.now text.now) }
+    ensures nodes { IfOk result (λ path. All (λ segment. segment.node < length schema.now) path) }
 {
     match behind(text, '/') {
         Some(rest) => read_segments(alloc, schema, rest),

@@ -23,7 +23,7 @@ use yp_schema::schema::{Kind, Schema};
 
 /// The value of a key's text, by the type of a node.
 #[tactic(auto, using(crate::proofs::Types::type_stands))]
-pub fn read_value(
+pub(crate) fn read_value(
     alloc: Global,
     schema: &Schema,
     node: u32,
