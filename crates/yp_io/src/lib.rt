@@ -7,8 +7,8 @@
 //!
 //! `read_whole` reads a source to its end or one byte past a limit, and `write_whole` writes a list of
 //! bytes. `MemSource` and `MemSink` stand in memory and fail at chosen calls; `SafeSource` and
-//! `SafeSink` never fail; `StdSource` and `StdSink` wrap std's readers and writers and tell nothing of
-//! their bytes.
+//! `SafeSink` never fail; `StdSource` and `StdSink` wrap std's readers and writers and tell the bytes that
+//! these tell: none of a file's, a socket's or a terminal's.
 #![tactic(auto)]
 
 pub mod memory;
