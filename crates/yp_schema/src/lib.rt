@@ -6,10 +6,10 @@
 #![tactic(auto)]
 
 pub mod fault;
-pub mod index;
-pub mod listing;
-pub mod names;
-pub mod numbers;
+mod index;
+mod listing;
+mod names;
+mod numbers;
 pub mod rule_path;
 pub mod schema;
-pub mod stated;
+mod stated;
