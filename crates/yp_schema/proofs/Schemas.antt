@@ -15,11 +15,12 @@ use Rattle.yp_schema.specs.declared.fault.SchemaFault.{SchemaFault}
 use Rattle.yp_schema.specs.declared.listing.Listed.{Listed}
 use Rattle.yp_schema.specs.Names.{Names, names_cmp, front, last}
 use Rattle.yp_schema.specs.Nodes.{node_at, no_node, child_of, is_child, place_from, same_number, is_in, may_hold, qualified_name}
-use Rattle.yp_schema.specs.WellFormed.{is_name, is_identifier, begins_name, go_on_name, is_parent_of, is_at_home, member_form, has_atom_type, has_type, has_none, is_leaf, is_key_leaf, are_key_leaves, is_empty, kind_stands, Stands, SiblingsInOrder, IsSchema}
+use Rattle.yp_schema.specs.WellFormed.{is_name, is_identifier, begins_name, go_on_name, is_parent_of, is_at_home, member_form, has_atom_type, has_type, has_none, is_leaf, is_key_leaf, are_key_leaves, is_empty, kind_stands, Stands, SiblingsInOrder, AreAbove, AreShallow, IsSchema}
 use Rattle.yp_schema.specs.Stated.{are_key_names, all_names}
 use Rattle.yp_schema.specs.Rounds.{Nodes, listed_at, module_of_holder, parent_module, atoms_in, is_typed, is_key_type, may_be_key, keys_fit, parts_in}
 use Rattle.yp_schema.specs.Reading.{Reads, Numbers, numbers_from, number_of, with_number, key_numbers, numbered_node, numbered}
 use Rattle.yp_schema.proofs.Ends.{front_append, last_append}
+use Rattle.yp_schema.proofs.Numbering.{length_more}
 use Rattle.yp_schema.proofs.Rising.{Rising, itself, turned, above_get, listed_get, number_get, get_number, get_listed, less_from_places, get_within, within_get}
 use Rattle.yp_schema.proofs.Sound.{both_true, type_fits, kind_fits, body_fits}
 use Rattle.yp_schema.proofs.Kept.{IsKept, AreKept, AreNodes, member_text, same_itself, same_turned, parts_kept, no_nodes}
@@ -435,9 +436,33 @@ module _ (nodes : Nodes) (are : AreNodes nodes) where
       = sym (λ i. names_cmp ((kept_at m d at_m.1).way i) ((kept_at n e at_n.1).way i)) ∙ ap (λ p. names_cmp (p ++ last d.0 ∷ []) (front e.0 ++ last e.0 ∷ [])) fronts in
       (λ i. slice_cmp nat_cmp (one i).member (two i).member) ∙ sym (siblings_cmp (front e.0) (last d.0) (last e.0)) ∙ sym ways ∙ cmp
 
+  -- ---- ways down
+
+  -- what stands above a node is fewer than the names on the way to it
+  above_fewer : (above : List ℕ) (n : ℕ) (e : Names × Listed) → slice_get nodes n ≡ Some e → AreAbove schema n above → length above < length e.0
+  above_fewer [] n e h up =
+      let way : length (front e.0 ++ last e.0 ∷ []) ≡ length e.0 = ap length (kept_at n e h).way in
+      let one : length (front e.0) + 1 ≡ length (front e.0 ++ last e.0 ∷ []) = length_more (front e.0) (last e.0) in
+      omega arith
+  above_fewer (parent ∷ above) n e h up =
+      let way : length (front e.0 ++ last e.0 ∷ []) ≡ length e.0 = ap length (kept_at n e h).way in
+      let one : length (front e.0) + 1 ≡ length (front e.0 ++ last e.0 ∷ []) = length_more (front e.0) (last e.0) in
+      let number : number_of (front e.0) numbers ≡ Some parent = sym (ap (λ (m : SchemaNode). m.parent) (node_is n e h)) ∙ up.0 in
+      let found = at_number (front e.0) parent number in
+      let fewer : length above < length (front e.0) = above_fewer above parent (front e.0, found.0) found.1 up.1 in
+      omega arith
+
+  are_shallow : AreShallow schema
+  are_shallow n above less up =
+      let found = entry_at n less in
+      let fewer : length above < length found.0.0 = above_fewer above n found.0 found.1 up in
+      let deep : length found.0.0 ≤ 16 = (kept_at n found.0 found.1).depth in
+      omega arith
+
   is_schema : IsSchema schema
   is_schema = record {
     few = omega (arith, map_length (numbered_node numbers) nodes, are.kept.few);
+    shallow = are_shallow;
     each = stands;
     siblings = in_order;
   }

@@ -103,8 +103,18 @@ abbrev pub SiblingsInOrder : List SchemaNode → Type 0
 SiblingsInOrder nodes = (m n : ℕ) → m < n → n < length nodes → same_number (node_at m nodes).parent (node_at n nodes).parent ≡ true
     → slice_cmp nat_cmp (node_at m nodes).member (node_at n nodes).member ≡ Less
 
+-- the numbers on the way up from a node: each is that of the parent of the one before it
+abbrev pub AreAbove : List SchemaNode → ℕ → List ℕ → Type 0
+AreAbove nodes n [] = Unit {0}
+AreAbove nodes n (parent ∷ above) = ((node_at n nodes).parent ≡ Some parent) × AreAbove nodes parent above
+
+-- a way from the top down to a node has at most 16 nodes, itself included
+abbrev pub AreShallow : List SchemaNode → Type 0
+AreShallow nodes = (n : ℕ) (above : List ℕ) → n < length nodes → AreAbove nodes n above → length (n ∷ above) ≤ 16
+
 -- a compiled schema
 pub record IsSchema (nodes : List SchemaNode) : Type 0 where
   pub few : length nodes ≤ 4096
+  pub shallow : AreShallow nodes
   pub each : (n : ℕ) → n < length nodes → Stands nodes n
   pub siblings : SiblingsInOrder nodes
