@@ -193,7 +193,7 @@ pub record Takes (nodes : Nodes) (node : Stated) (after : Nodes) : Type 0 where
   pub parent : parent_module (front node.path) nodes ≡ Some above
   pub own : own_module above node.home ≡ Some home
 
-takes_from : (node : Stated) (nodes after : Nodes) (m : Option (Option (List ℕ))) → parent_module (front node.path) nodes ≡ m
+pub takes_from : (node : Stated) (nodes after : Nodes) (m : Option (Option (List ℕ))) → parent_module (front node.path) nodes ≡ m
     → in_module node (option_and_then (λ above. own_module above node.home) m) nodes ≡ Ok after → Takes nodes node after
 takes_from node nodes after None is h = cc
 takes_from node nodes after (Some above) is h =
@@ -283,7 +283,7 @@ first_kept part place (item d ds) nodes after kept h =
 abbrev pub HasKeys : Nodes → Names → Body → Type 0
 HasKeys nodes path body = keys_fit path body.keys nodes ≡ true
 
-checked_keys : (node : Stated) (nodes after : Nodes) → checked (Some node) nodes ≡ Ok after → HasKeys nodes node.path node.body × (nodes ≡ after)
+pub checked_keys : (node : Stated) (nodes after : Nodes) → checked (Some node) nodes ≡ Ok after → HasKeys nodes node.path node.body × (nodes ≡ after)
 checked_keys node nodes after h =
     let one = past (not (keys_there node.path node.body.keys nodes)) faults.NoKey _ after h in
     let two = past (not (keys_fit node.path node.body.keys nodes)) faults.KeyNotLeaf _ after one.1 in

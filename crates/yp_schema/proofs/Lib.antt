@@ -1,8 +1,13 @@
+pub mod Admitting
+pub mod After
+pub mod Compiling
 pub mod Cuts
 pub mod Ends
+pub mod Entries
 pub mod Indexes
 pub mod Kept
 pub mod Numbering
 pub mod Rising
 pub mod Schemas
 pub mod Sound
+pub mod Stating

@@ -82,7 +82,7 @@ above_insert first (e ∷ es) path node h all =
       | Greater ↦ (all.0, above_insert first es path node h all.1)
     ]
 
-above_all : (path first : Names) (es : Nodes) → names_cmp path first ≡ Less → Above first es → Above path es
+pub above_all : (path first : Names) (es : Nodes) → names_cmp path first ≡ Less → Above first es → Above path es
 above_all path first [] h all = tt
 above_all path first (e ∷ es) h all = (names_total.trans path first e.0 h all.0, above_all path first es h all.1)
 

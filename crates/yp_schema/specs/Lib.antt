@@ -1,3 +1,4 @@
+pub mod Compiled
 pub mod Datastore
 pub mod Index
 pub mod Names

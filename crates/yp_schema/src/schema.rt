@@ -1,6 +1,9 @@
 //! The schema and its accessors.
-ghost use Rattle.std.specs.Prelude.{◌≡◌, ◌<◌, ℕ, length, map, IfSome, option_copied};
+ghost use Rattle.std.specs.Prelude.{◌≡◌, ◌<◌, ◌↔◌, ℕ, List, length, map, IfSome, Ok, option_copied};
+ghost use Rattle.serde_json.specs.Data.{Data};
 ghost use Rattle.serde_json.specs.View.{view};
+ghost use Rattle.yp_schema.specs.declared.schema.SchemaNode.{SchemaNode};
+ghost use Rattle.yp_schema.specs.Compiled.{Compiles};
 ghost use Rattle.yp_schema.specs.Nodes.{node_at, child_of, is_key, is_in};
 ghost use Rattle.yp_schema.specs.Reading.{Reads, schema_of};
 ghost use Rattle.yp_schema.specs.WellFormed.{IsSchema};
@@ -179,6 +182,12 @@ impl Schema {
         self.find(parent, member)
     }
 }
+
+/// Parts are read as a schema exactly where they compile to it, whatever the order in which they are visited
+/// (RFC 7950 section 4.2).
+pub fn accepted_schema_is_compiled()
+    ensures compiled { (parts : List Data) (nodes : List SchemaNode) → schema_of parts ≡ Ok nodes ↔ Compiles parts nodes }
+{}
 
 fn is_among(node: u32, nodes: &[u32]) -> bool
     ensures { result ≡ is_in node nodes.now }
