@@ -2,6 +2,7 @@ pub mod Admitting
 pub mod After
 pub mod Compiling
 pub mod Cuts
+pub mod Distinct
 pub mod Ends
 pub mod Entries
 pub mod Indexes

@@ -2,7 +2,7 @@
 ghost use Rattle.std.specs.Prelude.{◌≡◌, ℕ, IfOk, option_map};
 ghost use Rattle.serde_json.specs.View.{view, items_view, members_view};
 ghost use Rattle.serde_json.specs.Find.{get_member};
-ghost use Rattle.yp_base.specs.Types.{are_names, are_distinct, is_among, are_short};
+ghost use Rattle.yp_base.specs.Types.{are_names, are_distinct, are_short};
 ghost use Rattle.yp_schema.specs.Names.{around_colon};
 ghost use Rattle.yp_schema.specs.Stated.{is_own, may_have, has_only, text_member, flag_of, flag_member, texts_in, texts_member, places_in, decimal_at, integer_in, type_in, all_names, are_key_names, container_kind, container_in, list_in, enumeration_in, typed_in, leaf_in, of_kind, body_in, form_of, form_in, stated_in, node_in, tested};
 
@@ -10,6 +10,7 @@ use crate::names::{Names, around_colon, is_name, last_of, read_path, text_of};
 use crate::schema::Kind;
 use serde_json::{Map, Value as Json};
 use std::alloc::Global;
+use std::collections::BTreeSet;
 use yp_base::leaf_type::LeafType;
 use yp_base::memory::NoMemory;
 use yp_base::series::Series;
@@ -255,46 +256,33 @@ fn read_container(alloc: Global, members: &Map<String, Json>) -> Option<Body>
 }
 
 /// Key names: one or more, each a name, and distinct.
-fn key_names(names: Names) -> Option<Names>
-    ensures { result ≡ tested are_key_names names }
+fn key_names(alloc: Global, names: Names) -> Result<Option<Names>, NoMemory>
+    ensures { IfOk result (λ keys. keys ≡ tested are_key_names names) }
 {
     if names.len() == 0 {
-        return None;
+        return Ok(None);
     }
     if !are_identifiers(names.items()) {
-        return None;
+        return Ok(None);
     }
-    if are_distinct(names.items()) {
-        Some(names)
+    if are_distinct(alloc, names.items())? {
+        Ok(Some(names))
     } else {
-        None
+        Ok(None)
     }
 }
 
-fn is_among(text: &Txt, texts: &[Txt]) -> bool
-    ensures { result ≡ is_among text.now texts.now }
+/// Whether no text stands twice.
+fn are_distinct(alloc: Global, texts: &[Txt]) -> Result<bool, NoMemory>
+    ensures { IfOk result (λ distinct. distinct ≡ are_distinct texts.now) }
 {
-    for other in texts {
-        if text.as_str() == other.as_str() {
-            return true;
+    let mut seen = BTreeSet::new(alloc);
+    for text in texts {
+        if !seen.insert(text.as_str())? {
+            return Ok(false);
         }
     }
-    false
-}
-
-fn are_distinct(texts: &[Txt]) -> bool
-    ensures { result ≡ are_distinct texts.now }
-{
-    match texts.split_first() {
-        Some((text, rest)) => {
-            if is_among(text, rest) {
-                false
-            } else {
-                are_distinct(rest)
-            }
-        }
-        None => true,
-    }
+    Ok(true)
 }
 
 fn are_short(texts: &[Txt]) -> bool
@@ -309,19 +297,19 @@ fn are_short(texts: &[Txt]) -> bool
 }
 
 /// Names of an enumeration: one or more, distinct, none of more than 256 bytes.
-fn enumeration_names(names: Names) -> Option<Names>
-    ensures { result ≡ tested are_names names }
+fn enumeration_names(alloc: Global, names: Names) -> Result<Option<Names>, NoMemory>
+    ensures { IfOk result (λ kept. kept ≡ tested are_names names) }
 {
     if names.len() == 0 {
-        return None;
+        return Ok(None);
     }
-    if !are_distinct(names.items()) {
-        return None;
+    if !are_distinct(alloc, names.items())? {
+        return Ok(None);
     }
     if are_short(names.items()) {
-        Some(names)
+        Ok(Some(names))
     } else {
-        None
+        Ok(None)
     }
 }
 
@@ -333,7 +321,7 @@ fn read_list(alloc: Global, members: &Map<String, Json>) -> Result<Option<Body>,
     }
     match flag_in(members, "deny-all") {
         Some(deny_all) => match texts_of(alloc, members, "keys")? {
-            Some(texts) => match key_names(texts) {
+            Some(texts) => match key_names(alloc, texts)? {
                 Some(keys) => Ok(Some(Body {
                     kind: Kind::List,
                     keys,
@@ -360,7 +348,7 @@ fn read_enumeration(
     }
     match flag_in(members, "deny-all") {
         Some(deny_all) => match texts_of(alloc, members, "names")? {
-            Some(texts) => match enumeration_names(texts) {
+            Some(texts) => match enumeration_names(alloc, texts)? {
                 Some(names) => Ok(Some(Body {
                     kind,
                     keys: Series::from_vec(Vec::new(alloc)),

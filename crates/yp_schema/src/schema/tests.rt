@@ -461,3 +461,9 @@ fn a_step_of_a_rule_is_copied(rt: HostRuntime) -> Result<(), Fail> {
     assert!(rt; matches!(copy.keys.items(), [Some(Atom::Uint(7)), None]));
     Ok(())
 }
+
+#[test]
+fn the_law_is_called(rt: HostRuntime) {
+    let _ = rt;
+    accepted_schema_is_compiled();
+}
