@@ -1,3 +1,6 @@
+pub mod Accepted
+pub mod Accepting
+pub mod Adding
 pub mod Again
 pub mod AtPlace
 pub mod Below
@@ -6,6 +9,8 @@ pub mod Entries
 pub mod Faults
 pub mod Fits
 pub mod Growing
+pub mod Held
+pub mod HoldingLaws
 pub mod KeyLaws
 pub mod KeysPut
 pub mod LastRows
@@ -16,6 +21,7 @@ pub mod Places
 pub mod PutRows
 pub mod ReadStands
 pub mod Readings
+pub mod SameRows
 pub mod Schemas
 pub mod Steps
 pub mod Wholes

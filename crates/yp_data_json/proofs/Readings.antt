@@ -42,7 +42,7 @@ given x y h = cc
 
 -- ---- values
 
-valid_some : (o : Option Value) (v : Value) → valid o ≡ Ok v → o ≡ Some v
+pub valid_some : (o : Option Value) (v : Value) → valid o ≡ Ok v → o ≡ Some v
 valid_some None v h = let no : ⊥ = cc in absurd no
 valid_some (Some w) v h = let same : w ≡ v = cc in ap (λ (x : Value). Some x) same
 
@@ -50,7 +50,7 @@ pub value_typed : (ty : Option LeafType) (d : Data) (v : Value) → typed_value 
 value_typed None d v h = let no : ⊥ = cc in absurd no
 value_typed (Some ty) d v h = json_fits ty d v (valid_some (value_in ty d) v h)
 
-only_is : (v : Value) (a : Atom) → only_atom v ≡ Ok a → v ≡ Plain a
+pub only_is : (v : Value) (a : Atom) → only_atom v ≡ Ok a → v ≡ Plain a
 only_is (Plain b) a h = let same : b ≡ a = cc in ap (λ (x : Atom). Plain x) same
 only_is Member a h = let no : ⊥ = cc in absurd no
 only_is Empty a h = let no : ⊥ = cc in absurd no
@@ -69,11 +69,11 @@ key_typed : (ty : Option LeafType) (o : Option Data) (a : Atom) → key_in ty o 
 key_typed ty None a h = let no : ⊥ = cc in absurd no
 key_typed ty (Some d) a h = atom_typed ty d a h
 
-at_key_ok : (k : ℕ) (r : Result Atom DataFault) (a : Atom) → at_key k r ≡ Ok a → r ≡ Ok a
+pub at_key_ok : (k : ℕ) (r : Result Atom DataFault) (a : Atom) → at_key k r ≡ Ok a → r ≡ Ok a
 at_key_ok k (Ok b) a h = let same : b ≡ a = cc in ap (λ (x : Atom). Ok x) same
 at_key_ok k (Err e) a h = let no : ⊥ = cc in absurd no
 
-both_ok : {C : Type 0} (nodes : List SchemaNode) (r : Result Atom KeyFault) (rest : Result (List Atom) KeyFault) (keys : List Atom) → both nodes r rest ≡ Ok keys →
+pub both_ok : {C : Type 0} (nodes : List SchemaNode) (r : Result Atom KeyFault) (rest : Result (List Atom) KeyFault) (keys : List Atom) → both nodes r rest ≡ Ok keys →
     ((a : Atom) (more : List Atom) → r ≡ Ok a → rest ≡ Ok more → keys ≡ a ∷ more → C) → C
 both_ok nodes (Ok a) (Ok more) keys h go = let same : a ∷ more ≡ keys = cc in go a more refl refl (sym same)
 both_ok nodes (Ok a) (Err f) keys h go = let no : ⊥ = cc in absurd no
@@ -88,7 +88,7 @@ found_fit nodes (k ∷ ks) ms keys h =
     subst (λ (as' : List Atom). keys_fit nodes (k ∷ ks) as' ≡ true) (sym same)
     (and_from _ _ (key_typed (node_at k nodes).ty (get_member (node_at k nodes).member ms) a (at_key_ok k _ a e)) (found_fit nodes ks ms more f)))
 
-alone_ok : (r : Result (List Atom) KeyFault) (keys : List Atom) → fault_alone r ≡ Ok keys → r ≡ Ok keys
+pub alone_ok : (r : Result (List Atom) KeyFault) (keys : List Atom) → fault_alone r ≡ Ok keys → r ≡ Ok keys
 alone_ok (Ok as') keys h = let same : as' ≡ keys = cc in ap (λ (x : List Atom). Ok x) same
 alone_ok (Err f) keys h = let no : ⊥ = cc in absurd no
 
@@ -98,7 +98,7 @@ keys_typed nodes ks ms keys h = found_fit nodes ks ms keys (alone_ok (keys_found
 
 -- ---- children
 
-found_place : (test : SchemaNode → Bool) (from : ℕ) (nodes : List SchemaNode) (n : ℕ) → place_from test from nodes ≡ Some n → (k : ℕ) × (n ≡ from + k) × (k < length nodes) × (test (get_or nodes k no_node) ≡ true)
+pub found_place : (test : SchemaNode → Bool) (from : ℕ) (nodes : List SchemaNode) (n : ℕ) → place_from test from nodes ≡ Some n → (k : ℕ) × (n ≡ from + k) × (k < length nodes) × (test (get_or nodes k no_node) ≡ true)
 found_place test from [] n h = let no : ⊥ = cc in absurd no
 found_place test from (x ∷ nodes) n h =
     elim (test x) as (λ t. test x ≡ t → cond t (Some from) (place_from test (from + 1) nodes) ≡ Some n → (k : ℕ) × (n ≡ from + k) × (k < length (x ∷ nodes)) × (test (get_or (x ∷ nodes) k no_node) ≡ true)) [

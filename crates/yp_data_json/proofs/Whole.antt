@@ -159,7 +159,7 @@ same_option None (Some b) h = absurd (true≢false (sym h))
 same_option (Some a) None h = absurd (true≢false (sym h))
 same_option (Some a) (Some b) h = ap (λ n. Some n) (eqb-true a b h)
 
-not_true : (b : Bool) → not b ≡ true → b ≡ false
+pub not_true : (b : Bool) → not b ≡ true → b ≡ false
 not_true true h = absurd (true≢false (sym h))
 not_true false h = refl
 
@@ -174,11 +174,11 @@ key_among_at : (nodes : List SchemaNode) (p n k : ℕ) (b rest : Bool) → nat_e
 key_among_at nodes p n k true rest e leaf h later = subst (λ j. is_key_leaf p nodes j ≡ true) (sym (eqb-true n k e)) leaf
 key_among_at nodes p n k false rest e leaf h later = later h
 
-key_among : (nodes : List SchemaNode) (p n : ℕ) (ks : List ℕ) → are_key_leaves p nodes ks ≡ true → is_in n ks ≡ true → is_key_leaf p nodes n ≡ true
+pub key_among : (nodes : List SchemaNode) (p n : ℕ) (ks : List ℕ) → are_key_leaves p nodes ks ≡ true → is_in n ks ≡ true → is_key_leaf p nodes n ≡ true
 key_among nodes p n [] all h = absurd (true≢false (sym h))
 key_among nodes p n (k ∷ ks) all h = key_among_at nodes p n k (nat_eq n k) (is_in n ks) refl (and_parts _ _ (and_parts _ _ all).0).0 h (λ later. key_among nodes p n ks (and_parts _ _ all).1 later)
 
-no_key_in : (n : ℕ) (ks : List ℕ) → is_empty ks ≡ true → is_in n ks ≡ false
+pub no_key_in : (n : ℕ) (ks : List ℕ) → is_empty ks ≡ true → is_in n ks ≡ false
 no_key_in n [] h = refl
 no_key_in n (k ∷ ks) h = absurd (true≢false (sym h))
 

@@ -1,6 +1,7 @@
 pub mod AtPath
 pub mod Forest
 pub mod Gathered
+pub mod Holding
 pub mod Reading
 pub mod Runs
 pub mod Writing

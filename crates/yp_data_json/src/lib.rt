@@ -8,6 +8,7 @@
 pub mod at_path;
 pub mod fault;
 mod gathered;
+pub mod holding;
 mod keys;
 mod reading;
 pub mod writing;
