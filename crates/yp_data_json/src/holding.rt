@@ -9,14 +9,17 @@ ghost use Rattle.yp_data_json.specs.AtPath.{rows_read};
 ghost use Rattle.yp_data_json.specs.Holding.{HasNamesOnce, IsDatastoreData, DatastoreHolds};
 
 /// What is read of a whole datastore is data of the schema, and the rows are those that it holds, in
-/// order; and such data is read. No object of it may have two members of one name, as none of a JSON
-/// value has.
-#[tactic(auto, using(crate::proofs::HoldingLaws::accepted_is_data, crate::proofs::HoldingLaws::accepted_rows, crate::proofs::HoldingLaws::is_accepted))]
+/// order; and all such data is read. It is said of data without two members of one name in one
+/// object, as a JSON value is.
+#[tactic(auto, using(crate::proofs::HoldingLaws::accepted_is_data, crate::proofs::HoldingLaws::accepted_in_order, crate::proofs::HoldingLaws::accepted_rows, crate::proofs::HoldingLaws::is_accepted))]
 pub fn accepted_data_holds_its_rows()
-    ensures accepted { (nodes : List SchemaNode) (d : Data) (rows : List Row) → IsSchema nodes → HasNamesOnce d → rows_read nodes [] d ≡ Ok rows
-        → IsDatastoreData nodes d }
-    ensures rows { (nodes : List SchemaNode) (d : Data) (rows : List Row) → IsSchema nodes → HasNamesOnce d → rows_read nodes [] d ≡ Ok rows
-        → AreInOrder rows × ((row : Row) → Contains rows row ↔ DatastoreHolds nodes d row) }
-    ensures read { (nodes : List SchemaNode) (d : Data) (rows : List Row) → IsSchema nodes → HasNamesOnce d → IsDatastoreData nodes d
-        → AreInOrder rows → ((row : Row) → Contains rows row ↔ DatastoreHolds nodes d row) → rows_read nodes [] d ≡ Ok rows }
+    ensures accepted { (nodes : List SchemaNode) (d : Data) (rows : List Row) → IsSchema nodes → HasNamesOnce d
+        → rows_read nodes [] d ≡ Ok rows → IsDatastoreData nodes d }
+    ensures in_order { (nodes : List SchemaNode) (d : Data) (rows : List Row) → IsSchema nodes → HasNamesOnce d
+        → rows_read nodes [] d ≡ Ok rows → AreInOrder rows }
+    ensures rows { (nodes : List SchemaNode) (d : Data) (rows : List Row) → IsSchema nodes → HasNamesOnce d
+        → rows_read nodes [] d ≡ Ok rows → (row : Row) → Contains rows row ↔ DatastoreHolds nodes d row }
+    ensures read { (nodes : List SchemaNode) (d : Data) (rows : List Row) → IsSchema nodes → HasNamesOnce d
+        → IsDatastoreData nodes d → AreInOrder rows → ((row : Row) → Contains rows row ↔ DatastoreHolds nodes d row)
+        → rows_read nodes [] d ≡ Ok rows }
 {}
