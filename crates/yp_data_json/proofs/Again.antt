@@ -60,14 +60,14 @@ value_again_at : (o : Option LeafType) (v : Value) → ((ty : LeafType) → o �
 value_again_at None v typed h = absurd (true≢false (sym h))
 value_again_at (Some ty) v typed h = ap valid (json_again ty v (typed ty refl) h)
 
-value_again : (nodes : List SchemaNode) → IsSchema nodes → (n : ℕ) (v : Value) → n < length nodes → typed_fits (node_at n nodes).ty v ≡ true → typed_value (node_at n nodes).ty (leaf_data (node_at n nodes).ty (Some v)) ≡ Ok v
+pub value_again : (nodes : List SchemaNode) → IsSchema nodes → (n : ℕ) (v : Value) → n < length nodes → typed_fits (node_at n nodes).ty v ≡ true → typed_value (node_at n nodes).ty (leaf_data (node_at n nodes).ty (Some v)) ≡ Ok v
 value_again nodes schema n v within h = value_again_at (node_at n nodes).ty v (λ ty e. type_is nodes n ty schema within e) h
 
 plain_fits : (o : Option LeafType) (a : Atom) → atom_fits o a ≡ true → typed_fits o (Plain a) ≡ true
 plain_fits None a h = h
 plain_fits (Some ty) a h = h
 
-atom_again : (nodes : List SchemaNode) → IsSchema nodes → (n : ℕ) (a : Atom) → n < length nodes → atom_fits (node_at n nodes).ty a ≡ true → typed_atom (node_at n nodes).ty (key_data (node_at n nodes).ty a) ≡ Ok a
+pub atom_again : (nodes : List SchemaNode) → IsSchema nodes → (n : ℕ) (a : Atom) → n < length nodes → atom_fits (node_at n nodes).ty a ≡ true → typed_atom (node_at n nodes).ty (key_data (node_at n nodes).ty a) ≡ Ok a
 atom_again nodes schema n a within h = ap (λ (r : Result Value DataFault). r >>= only_atom) (value_again nodes schema n (Plain a) within (plain_fits (node_at n nodes).ty a h))
 
 -- keys of other names don't touch a member
@@ -91,7 +91,7 @@ found_again nodes schema n (k ∷ ks) (a ∷ keys) ms s h =
     ap (λ (r : Result Atom DataFault). both nodes (at_key k r) (keys_found nodes ks (with_keys nodes ks keys (put name d ms)))) first
     ∙ ap (both nodes (Ok a)) (found_again nodes schema n ks keys (put name d ms) s.4 fits.1)
 
-keys_again : (nodes : List SchemaNode) → IsSchema nodes → (n : ℕ) (ks : List ℕ) (keys : List Atom) (ms : Members) → KeysStand nodes n ks → keys_fit nodes ks keys ≡ true → keys_in nodes ks (with_keys nodes ks keys ms) ≡ Ok keys
+pub keys_again : (nodes : List SchemaNode) → IsSchema nodes → (n : ℕ) (ks : List ℕ) (keys : List Atom) (ms : Members) → KeysStand nodes n ks → keys_fit nodes ks keys ≡ true → keys_in nodes ks (with_keys nodes ks keys ms) ≡ Ok keys
 keys_again nodes schema n ks keys ms s h = ap fault_alone (found_again nodes schema n ks keys ms s h)
 
 -- ---- members that are keys are passed over
@@ -116,7 +116,7 @@ skip nodes n k path name d no_members acc found key = rw (found, key) refl
 skip nodes n k path name d (member l e ms) acc found key =
     skip_at (slice_cmp nat_cmp name l) nodes n k path name l d e ms (put name d ms) acc refl found key (λ a. skip nodes n k path name d ms a found key)
 
-skip_keys : (nodes : List SchemaNode) (n : ℕ) (path : List Seg) (ks : List ℕ) (keys : List Atom) (ms : Members) (acc : List Row) → KeysStand nodes n ks
+pub skip_keys : (nodes : List SchemaNode) (n : ℕ) (path : List Seg) (ks : List ℕ) (keys : List Atom) (ms : Members) (acc : List Row) → KeysStand nodes n ks
     → members_read nodes (Some n) path (with_keys nodes ks keys ms) acc ≡ members_read nodes (Some n) path ms acc
 skip_keys nodes n path [] keys ms acc s = refl
 skip_keys nodes n path (k ∷ ks) [] ms acc s = refl
@@ -203,7 +203,7 @@ value_node ty nodes n path Member acc kind = rw kind refl
 value_node ty nodes n path Empty acc kind = rw kind refl
 value_node ty nodes n path Present acc kind = rw kind refl
 
-leaf_node : (o : Option LeafType) (nodes : List SchemaNode) (n : ℕ) (path : List Seg) (v : Value) (acc : List Row) → (node_at n nodes).kind ≡ Leaf
+pub leaf_node : (o : Option LeafType) (nodes : List SchemaNode) (n : ℕ) (path : List Seg) (v : Value) (acc : List Row) → (node_at n nodes).kind ≡ Leaf
     → node_read nodes n path (leaf_data o (Some v)) acc ≡ leaf_read nodes n path (leaf_data o (Some v)) acc
 leaf_node None nodes n path v acc kind = rw kind refl
 leaf_node (Some ty) nodes n path v acc kind = value_node ty nodes n path v acc kind
@@ -213,7 +213,7 @@ leaf_node (Some ty) nodes n path v acc kind = value_node ty nodes n path v acc k
 regroup : (acc own kids next : List Row) → ((acc ++ own) ++ kids) ++ next ≡ acc ++ ((own ++ kids) ++ next)
 regroup acc own kids next = ap (λ xs. xs ++ next) (append_assoc acc own kids) ∙ append_assoc acc (own ++ kids) next
 
-path_is : (path : List Seg) (seg : Seg) → seg.keys ≡ [] → below path seg.node [] ≡ path ++ seg ∷ []
+pub path_is : (path : List Seg) (seg : Seg) → seg.keys ≡ [] → below path seg.node [] ≡ path ++ seg ∷ []
 path_is path seg e = ap (λ ks. below path seg.node ks) (sym e)
 
 -- what reading a branch's JSON and then the next's gives, where the branch's own row and those below it are read
@@ -307,7 +307,7 @@ leaf_again nodes schema parent path seg v next acc kind within found key fit bar
     ∙ ap (λ xs. Ok xs) (put_here acc [] (rows_in path next) row order ∙ sym (append-nil (acc ++ row ∷ []))))
     later order
 
-keys_path : (path : List Seg) (seg : Seg) (a : Atom) → seg.keys ≡ a ∷ [] → below path seg.node (a ∷ []) ≡ path ++ seg ∷ []
+pub keys_path : (path : List Seg) (seg : Seg) (a : Atom) → seg.keys ≡ a ∷ [] → below path seg.node (a ∷ []) ≡ path ++ seg ∷ []
 keys_path path seg a e = ap (λ ks. below path seg.node ks) (sym e)
 
 value_entry_again : (nodes : List SchemaNode) → IsSchema nodes → (parent : Option ℕ) (path : List Seg) (seg : Seg) (a : Atom) (next : Forest) (acc : List Row)

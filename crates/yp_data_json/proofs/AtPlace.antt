@@ -66,7 +66,7 @@ rest_ends : (nodes : List SchemaNode) (at rest : List Seg) (v : Value) → holds
 rest_ends nodes at [] v h = tt
 rest_ends nodes at (seg ∷ rest) v h = subst (λ n. holds_value nodes n v ≡ true) (last_on at seg rest) h
 
-left_over : (at path rest : List Seg) → path ≡ at ++ rest → drop (length at) path ≡ rest
+pub left_over : (at path rest : List Seg) → path ≡ at ++ rest → drop (length at) path ≡ rest
 left_over at path rest is = ap (drop (length at)) is ∙ drop-append_seam at rest
 
 is_rest : (nodes : List SchemaNode) (at : List Seg) (row : Row) → is_within at row.path ≡ true → IsRowOf nodes row → IsRest nodes (node_after None at) (length at) row

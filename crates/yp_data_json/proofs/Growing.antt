@@ -2,7 +2,9 @@
 use Rattle.std.proofs.Common.{◌≡◌, ℕ, ◌<◌, length, List, [], ◌∷◌, ◌++◌, Bool, true, false, ◌&&◌, refl, sym, ap, subst, ◌∙◌, append_assoc, arith}
 use Rattle.std.specs.Prelude.{Option, Some, None, is_some, Result, Ok, Err, nat_lt, not}
 use Rattle.std.specs.List.{AllByRecursion}
-use Rattle.std.specs.Ordering.{eq_by_cmp}
+use Rattle.std.specs.Ordering.{eq_by_cmp, is_eq}
+use Rattle.std.proofs.lemmas.Cmp.{tied_itself}
+use Rattle.yp_base.specs.OrderLaws.{segments_total}
 use Rattle.std.proofs.lemmas.Bool.{and_parts, and_from}
 use Rattle.yp_base.specs.declared.atom.Atom.{Atom}
 use Rattle.yp_base.specs.declared.path.Seg.{Seg}
@@ -94,3 +96,7 @@ front_more (x ∷ a) (y ∷ b) more h = and_from _ _ (and_parts _ _ h).0 (front_
 
 pub within_more : (at path more : List Seg) → is_within at path ≡ true → is_within at (path ++ more) ≡ true
 within_more at path more h = front_more at path more h
+
+pub within_self : (path : List Seg) → is_within path path ≡ true
+within_self [] = refl
+within_self (s ∷ path) = and_from _ _ (ap is_eq (tied_itself segments_total s)) (within_self path)

@@ -1,6 +1,7 @@
 -- A forest holds the rows that it was made of.
-use Rattle.std.proofs.Common.{◌≡◌, ℕ, List, [], ◌∷◌, ◌++◌, Bool, true, false, true≢false, Option, Some, None, is_some, map, refl, sym, ap, ◌∙◌, subst, Ok, Result, arith, rules, cond, append_assoc, append-nil, Ordering, Less, Equal, Greater}
+use Rattle.std.proofs.Common.{◌≡◌, ℕ, List, [], ◌∷◌, ◌++◌, length, drop, Bool, true, false, true≢false, Option, Some, None, is_some, map, refl, sym, ap, ◌∙◌, subst, Ok, Result, arith, rules, cond, append_assoc, append-nil, Ordering, Less, Equal, Greater}
 use Rattle.std.specs.Ordering.{eq_by_cmp, is_eq, is_lt}
+use Rattle.std.proofs.Math.Seq.{drop-append_seam}
 use Rattle.std.specs.List.{AllByRecursion}
 use Rattle.std.specs.List.Sorted.{IsStrictlySortedBy}
 use Rattle.std.proofs.lemmas.Cmp.{tied_itself}
@@ -16,7 +17,7 @@ use Rattle.yp_data_json.specs.Forest.{Forest, bare, branch, own_of, in_front, la
 use Rattle.yp_data_json.proofs.RowsIn.{own_rows, rows_in, front_cmp}
 
 -- a path isn't before its own front
-not_before : (xs rest : List Seg) → path_cmp (xs ++ rest) xs ≡ Less → ⊥
+pub not_before : (xs rest : List Seg) → path_cmp (xs ++ rest) xs ≡ Less → ⊥
 not_before [] [] h = absurd (true≢false (sym (ap is_lt h)))
 not_before [] (s ∷ rest) h = absurd (true≢false (sym (ap is_lt h)))
 not_before (x ∷ xs) rest h = not_before xs rest (sym (rw (tied_itself segments_total x) refl) ∙ h)
@@ -79,22 +80,22 @@ laid_first path seg [] v (branch first own kids next) order =
 laid_first path seg (s ∷ rest) v (branch first own kids next) order =
     laid_at (eq_by_cmp segment_cmp seg first) path seg (s ∷ rest) v first own kids next refl (λ t more is inner_order. laid_first (path ++ first ∷ []) s rest v kids inner_order) order
 
-laid_row : (row : Row) (path : List Seg) (f : Forest) → row.path ≡ path → (row.path ≡ [] → ⊥) → AreInOrder (row ∷ rows_in [] f) → rows_in [] (laid path row.value f) ≡ row ∷ rows_in [] f
-laid_row row [] f is some order = absurd (some is)
-laid_row row (seg ∷ rest) f is some order =
-    laid_first [] seg rest row.value f (subst (λ p. AreInOrder (row_at p row.value ∷ rows_in [] f)) is order) ∙ ap (λ p. row_at p row.value ∷ rows_in [] f) (sym is)
-
 tail_order : (row : Row) (rows : List Row) → AreInOrder (row ∷ rows) → AreInOrder rows
 unfolding IsStrictlySortedBy
 tail_order row rows h = h.1
 
--- no row has the empty path
-abbrev pub HavePaths : List Row → Type 0
-HavePaths rows = AllByRecursion (λ row. row.path ≡ [] → ⊥) rows
+-- a row stands below a place, and not at it
+abbrev pub StandsUnder : List Seg → Row → Type 0
+StandsUnder at row = (seg : Seg) × (rest : List Seg) × (row.path ≡ at ++ seg ∷ rest)
+
+laid_row : (at : List Seg) (row : Row) (f : Forest) → StandsUnder at row → AreInOrder (row ∷ rows_in at f) → rows_in at (laid (drop (length at) row.path) row.value f) ≡ row ∷ rows_in at f
+laid_row at row f under order =
+    ap (λ path. rows_in at (laid path row.value f)) (ap (drop (length at)) under.2 ∙ drop-append_seam at (under.0 ∷ under.1))
+    ∙ laid_first at under.0 under.1 row.value f (subst (λ p. AreInOrder (row_at p row.value ∷ rows_in at f)) under.2 order) ∙ ap (λ p. row_at p row.value ∷ rows_in at f) (sym under.2)
 
 -- a forest holds the rows that it was made of
-pub forest_rows : (rows : List Row) → AreInOrder rows → HavePaths rows → rows_in [] (forest_at 0 rows) ≡ rows
-forest_rows [] order some = refl
-forest_rows (row ∷ rows) order some =
-    let later = forest_rows rows (tail_order row rows order) some.1 in
-    laid_row row row.path (forest_at 0 rows) refl some.0 (subst (λ (xs : List Row). AreInOrder (row ∷ xs)) (sym later) order) ∙ ap (λ (xs : List Row). row ∷ xs) later
+pub forest_rows : (at : List Seg) (rows : List Row) → AreInOrder rows → AllByRecursion (StandsUnder at) rows → rows_in at (forest_at (length at) rows) ≡ rows
+forest_rows at [] order under = refl
+forest_rows at (row ∷ rows) order under =
+    let later = forest_rows at rows (tail_order row rows order) under.1 in
+    laid_row at row (forest_at (length at) rows) under.0 (subst (λ (xs : List Row). AreInOrder (row ∷ xs)) (sym later) order) ∙ ap (λ (xs : List Row). row ∷ xs) later

@@ -24,6 +24,7 @@ pub mod Readings
 pub mod SameRows
 pub mod Schemas
 pub mod Steps
+pub mod Under
 pub mod Wholes
 pub mod RoundTrip
 pub mod RowsIn

@@ -1,5 +1,5 @@
 -- Whole rows make a forest that fits.
-use Rattle.std.proofs.Common.{◌≡◌, ℕ, ◌<◌, List, [], ◌∷◌, ◌++◌, length, map, Bool, true, false, true≢false, Option, Some, None, is_some, refl, sym, ap, subst, ◌∙◌, cond, arith, append_assoc, append-nil, not, ◌&&◌, ◌||◌, nat_eq, nat_lt, Ordering, Less, Equal, Greater}
+use Rattle.std.proofs.Common.{◌≡◌, ℕ, ◌<◌, List, [], ◌∷◌, ◌++◌, length, drop, map, Bool, true, false, true≢false, Option, Some, None, is_some, refl, sym, ap, subst, ◌∙◌, cond, arith, append_assoc, append-nil, not, ◌&&◌, ◌||◌, nat_eq, nat_lt, Ordering, Less, Equal, Greater}
 use Rattle.std.specs.Ordering.{eq_by_cmp, is_eq, is_lt, ordering_then, ordering_reverse}
 use Rattle.std.specs.List.{AllByRecursion}
 use Rattle.std.specs.List.Sorted.{IsStrictlySortedBy}
@@ -23,7 +23,11 @@ use Rattle.yp_schema.specs.WellFormed.{IsSchema, is_parent_of, is_empty, is_key_
 use Rattle.yp_schema.specs.Datastore.{atom_fits, keys_fit, one_fits, typed_fits, keys_of_kind, is_segment, goes_down, is_path_of, IsRowOf, last_node, is_key_node, is_present, is_member, value_of_kind, holds_value, is_entry_kind, last_kind_is, ends_in_entry, has_row, HaveEntries}
 use Rattle.yp_data_json.specs.Forest.{Forest, bare, branch, own_of, in_front, laid, forest_at}
 use Rattle.yp_data_json.specs.Runs.{EndsWell}
-use Rattle.yp_data_json.proofs.Growing.{last_of}
+use Rattle.std.proofs.Math.Seq.{drop-append_seam}
+use Rattle.yp_base.specs.Order.{is_within}
+use Rattle.yp_data_json.specs.Runs.{IsRest}
+use Rattle.yp_data_json.proofs.Growing.{last_of, within_more, within_self}
+use Rattle.yp_data_json.proofs.Laying.{StandsUnder}
 use Rattle.yp_data_json.proofs.Parts.{less_middle}
 use Rattle.yp_data_json.proofs.AtPlace.{same_front}
 use Rattle.yp_data_json.proofs.Below.{next_parent, next_segment, segment_node}
@@ -32,7 +36,7 @@ use Rattle.yp_data_json.proofs.Fits.{BranchFits, Fits}
 
 -- ---- paths
 
-less_front : (p : List Seg) (s : Seg) (rest : List Seg) → path_cmp p (p ++ s ∷ rest) ≡ Less
+pub less_front : (p : List Seg) (s : Seg) (rest : List Seg) → path_cmp p (p ++ s ∷ rest) ≡ Less
 less_front [] s rest = refl
 less_front (x ∷ p) s rest = ap (λ o. ordering_then o (path_cmp p (p ++ s ∷ rest))) (tied_itself segments_total x) ∙ less_front p s rest
 
@@ -105,19 +109,19 @@ may_none nodes Listing node seg kids never h = absurd (never refl)
 may_none nodes Leaf node seg kids never h = absurd (none_some h.0 h.1)
 may_none nodes LeafList node seg kids never h = absurd (none_some Member h.1)
 
-present_is : (v : Value) → is_present v ≡ true → v ≡ Present
+pub present_is : (v : Value) → is_present v ≡ true → v ≡ Present
 present_is (Plain a) h = absurd (true≢false (sym h))
 present_is Member h = absurd (true≢false (sym h))
 present_is Empty h = absurd (true≢false (sym h))
 present_is Present h = refl
 
-member_is : (v : Value) → is_member v ≡ true → v ≡ Member
+pub member_is : (v : Value) → is_member v ≡ true → v ≡ Member
 member_is (Plain a) h = absurd (true≢false (sym h))
 member_is Member h = refl
 member_is Empty h = absurd (true≢false (sym h))
 member_is Present h = absurd (true≢false (sym h))
 
-one_is : (ty : Option LeafType) (keys : List Atom) → one_fits ty keys ≡ true → (a : Atom) × ((keys ≡ a ∷ []) × (atom_fits ty a ≡ true))
+pub one_is : (ty : Option LeafType) (keys : List Atom) → one_fits ty keys ≡ true → (a : Atom) × ((keys ≡ a ∷ []) × (atom_fits ty a ≡ true))
 one_is ty [] h = absurd (true≢false (sym h))
 one_is ty (a ∷ []) h = (a, (refl, h))
 one_is ty (a ∷ b ∷ keys) h = absurd (true≢false (sym h))
@@ -199,6 +203,11 @@ no_key_at nodes schema n (Some p) h within holds =
     let less : p < n = ltb-true p n (and_parts _ _ h).0 in
     child_no_key nodes p n (node_at p nodes).kind (schema.each p (omega arith)).kind holds
 
+-- each list entry and presence container that is below a place and above a row is itself a row
+abbrev pub EntriesBelow : List SchemaNode → List Seg → List Row → Type 0
+EntriesBelow nodes at rows =
+    (path rest : List Seg) (seg : Seg) → is_within at path ≡ true → ends_in_entry nodes (path ++ seg ∷ []) ≡ true → has_row ((path ++ seg ∷ []) ++ rest) rows ≡ true → has_row (path ++ seg ∷ []) rows ≡ true
+
 module _ (nodes : List SchemaNode) (schema : IsSchema nodes) where
   kind_holds : (seg next : Seg) (rest : List Seg) → goes_down nodes (Some seg.node) (next ∷ rest) ≡ true → may_hold (node_at seg.node nodes).kind ≡ true
   kind_holds seg next rest down =
@@ -258,7 +267,7 @@ module _ (nodes : List SchemaNode) (schema : IsSchema nodes) where
         inner.1,
       )
 
-  module _ (full : List Row) (entries : HaveEntries nodes [] full) where
+  module _ (at : List Seg) (full : List Row) (entries : EntriesBelow nodes at full) where
     abbrev FirstLow : (List Seg → Type 0) → List Seg → Forest → Type 0
     FirstLow low path bare = Unit {0}
     FirstLow low path (branch seg own kids next) = low (path ++ seg ∷ [])
@@ -269,21 +278,21 @@ module _ (nodes : List SchemaNode) (schema : IsSchema nodes) where
 
     -- where no row stands before the first, the first branches have theirs
     close : (low : List Seg → Type 0) → ((p q : List Seg) → path_cmp p q ≡ Less → low p → low q) → (k : List Seg) → has_row k full ≡ true → ((q : List Seg) → low q → path_cmp q k ≡ Less → has_row q full ≡ false)
-        → (parent : Option ℕ) (path : List Seg) (g : Forest) → (IsBranch g → k ≡ first_path path g) → FirstLow low path g → Spine nodes parent g → Fits nodes parent g
-    close low up k there gap parent path bare first lo sp = tt
-    close low up k there gap parent path (branch seg (Some v) kids next) first lo sp =
+        → (parent : Option ℕ) (path : List Seg) (g : Forest) → is_within at path ≡ true → (IsBranch g → k ≡ first_path path g) → FirstLow low path g → Spine nodes parent g → Fits nodes parent g
+    close low up k there gap parent path bare inside first lo sp = tt
+    close low up k there gap parent path (branch seg (Some v) kids next) inside first lo sp =
         (sp.0, sp.1, sp.2, may_some nodes (node_at seg.node nodes).kind (node_at seg.node nodes) seg v kids sp.3, sp.4, sp.5)
-    close low up k there gap parent path (branch seg None kids next) first lo sp =
+    close low up k there gap parent path (branch seg None kids next) inside first lo sp =
         let p = path ++ seg ∷ [] in
         let front = first_front p kids in
         let before : path_cmp p k ≡ Less = ap (path_cmp p) (first tt) ∙ first_beyond p kids sp.4 in
         let never : is_entry_kind (node_at seg.node nodes).kind ≡ true → ⊥ = λ entry.
-        true≢false (sym (entries p front.0 refl (ap (last_kind_is is_entry_kind nodes) (last_of path seg) ∙ entry) (sym (ap (λ q. has_row q full) (first tt ∙ front.1)) ∙ there)) ∙ gap p lo before) in (
+        true≢false (sym (entries path front.0 seg inside (ap (last_kind_is is_entry_kind nodes) (last_of path seg) ∙ entry) (sym (ap (λ q. has_row q full) (first tt ∙ front.1)) ∙ there)) ∙ gap p lo before) in (
           sp.0,
           sp.1,
           sp.2,
           may_none nodes (node_at seg.node nodes).kind (node_at seg.node nodes) seg kids never sp.3,
-          close low up k there gap (Some seg.node) p kids (λ b. first tt) (low_below low up p kids lo) sp.5,
+          close low up k there gap (Some seg.node) p kids (within_more at path (seg ∷ []) inside) (λ b. first tt) (low_below low up p kids lo) sp.5,
           sp.6,
         )
 
@@ -326,14 +335,14 @@ module _ (nodes : List SchemaNode) (schema : IsSchema nodes) where
     abbrev Laid : Option ℕ → List Seg → Forest → List Seg → Type 0
     Laid parent path g r = Spine nodes parent g × (first_path path g ≡ r)
 
-    lay_end : (b : Bool) (parent : Option ℕ) (path : List Seg) (seg : Seg) (v : Value) (first : Seg) (own : Option Value) (kids next : Forest) (r k : List Seg) → eq_by_cmp segment_cmp seg first ≡ b
+    lay_end : (b : Bool) (parent : Option ℕ) (path : List Seg) (seg : Seg) (v : Value) (first : Seg) (own : Option Value) (kids next : Forest) (r k : List Seg) → is_within at path ≡ true → eq_by_cmp segment_cmp seg first ≡ b
         → r ≡ path ++ seg ∷ [] → goes_down nodes parent (seg ∷ []) ≡ true → EndsWell nodes (seg ∷ []) v → Behind r k path (branch first own kids next) → Spine nodes parent (branch first own kids next)
         → Laid parent path (cond b (branch first (Some v) kids next) (branch seg (Some v) bare (branch first own kids next))) r
-    lay_end false parent path seg v first own kids next r k apart is down ends behind sp =
+    lay_end false parent path seg v first own kids next r k inside apart is down ends behind sp =
         fresh parent path seg [] v (branch first own kids next) r is down ends
-        (close (λ q. path_cmp r q ≡ Less) (rises r) k behind.2 behind.3 parent path (branch first own kids next) (λ b. behind.0) (beside path seg first [] own kids next r k is apart behind.0 behind.1) sp)
-    lay_end true parent path seg v first (Some w) kids next r k alike is down ends behind sp = absurd (no_own path seg first [] r k is ((segments_decide seg first).0 alike) behind.0 behind.1)
-    lay_end true parent path seg v first None kids next r k alike is down ends behind sp =
+        (close (λ q. path_cmp r q ≡ Less) (rises r) k behind.2 behind.3 parent path (branch first own kids next) inside (λ b. behind.0) (beside path seg first [] own kids next r k is apart behind.0 behind.1) sp)
+    lay_end true parent path seg v first (Some w) kids next r k inside alike is down ends behind sp = absurd (no_own path seg first [] r k is ((segments_decide seg first).0 alike) behind.0 behind.1)
+    lay_end true parent path seg v first None kids next r k inside alike is down ends behind sp =
         let same = (segments_decide seg first).0 alike in
         let here : r ≡ path ++ first ∷ [] = is ∙ ap (λ (s : Seg). path ++ s ∷ []) same in (
           (
@@ -341,7 +350,7 @@ module _ (nodes : List SchemaNode) (schema : IsSchema nodes) where
             sp.1,
             sp.2,
             end_old nodes (node_at first.node nodes).kind (node_at first.node nodes) first v kids (value_right first v (subst (λ (s : Seg). EndsWell nodes (s ∷ []) v) same ends)) sp.3,
-            close (λ q. path_cmp r q ≡ Less) (rises r) k behind.2 behind.3 (Some first.node) (path ++ first ∷ []) kids (λ b. behind.0) (low_kids (path ++ first ∷ []) r kids here) sp.5,
+            close (λ q. path_cmp r q ≡ Less) (rises r) k behind.2 behind.3 (Some first.node) (path ++ first ∷ []) kids (within_more at path (first ∷ []) inside) (λ b. behind.0) (low_kids (path ++ first ∷ []) r kids here) sp.5,
             sp.6,
           ),
           sym here,
@@ -355,27 +364,27 @@ module _ (nodes : List SchemaNode) (schema : IsSchema nodes) where
     laid_branch s rest v inner bare = tt
     laid_branch s rest v inner (branch first own kids next) = branch_at (eq_by_cmp segment_cmp s first) s first (own_of rest v own) (own_of rest v None) own (inner kids) (inner bare) kids next
 
-    lay_on : (b : Bool) (parent : Option ℕ) (path : List Seg) (seg s : Seg) (rest : List Seg) (v : Value) (first : Seg) (own : Option Value) (kids next : Forest) (r k : List Seg) → eq_by_cmp segment_cmp seg first ≡ b
+    lay_on : (b : Bool) (parent : Option ℕ) (path : List Seg) (seg s : Seg) (rest : List Seg) (v : Value) (first : Seg) (own : Option Value) (kids next : Forest) (r k : List Seg) → is_within at path ≡ true → eq_by_cmp segment_cmp seg first ≡ b
         → r ≡ path ++ seg ∷ s ∷ rest → goes_down nodes parent (seg ∷ s ∷ rest) ≡ true → EndsWell nodes (seg ∷ s ∷ rest) v → Behind r k path (branch first own kids next) → Spine nodes parent (branch first own kids next)
         → (own ≡ None → seg ≡ first → Laid (Some first.node) (path ++ first ∷ []) (laid (s ∷ rest) v kids) r)
         → Laid parent path (cond b (branch first own (laid (s ∷ rest) v kids) next) (branch seg None (laid (s ∷ rest) v bare) (branch first own kids next))) r
-    lay_on false parent path seg s rest v first own kids next r k apart is down ends behind sp inner =
+    lay_on false parent path seg s rest v first own kids next r k inside apart is down ends behind sp inner =
         fresh parent path seg (s ∷ rest) v (branch first own kids next) r is down ends
-        (close (λ q. path_cmp r q ≡ Less) (rises r) k behind.2 behind.3 parent path (branch first own kids next) (λ b. behind.0) (beside path seg first (s ∷ rest) own kids next r k is apart behind.0 behind.1) sp)
-    lay_on true parent path seg s rest v first (Some w) kids next r k alike is down ends behind sp inner = absurd (no_own path seg first (s ∷ rest) r k is ((segments_decide seg first).0 alike) behind.0 behind.1)
-    lay_on true parent path seg s rest v first None kids next r k alike is down ends behind sp inner =
+        (close (λ q. path_cmp r q ≡ Less) (rises r) k behind.2 behind.3 parent path (branch first own kids next) inside (λ b. behind.0) (beside path seg first (s ∷ rest) own kids next r k is apart behind.0 behind.1) sp)
+    lay_on true parent path seg s rest v first (Some w) kids next r k inside alike is down ends behind sp inner = absurd (no_own path seg first (s ∷ rest) r k is ((segments_decide seg first).0 alike) behind.0 behind.1)
+    lay_on true parent path seg s rest v first None kids next r k inside alike is down ends behind sp inner =
         let i = inner refl ((segments_decide seg first).0 alike) in
         ((sp.0, sp.1, sp.2, still nodes (node_at first.node nodes).kind (node_at first.node nodes) first kids (laid (s ∷ rest) v kids) sp.3, laid_branch s rest v (laid rest v) kids, i.0, sp.6), i.1)
 
-    lay : (parent : Option ℕ) (path : List Seg) (seg : Seg) (rest : List Seg) (v : Value) (g : Forest) (r k : List Seg) → r ≡ path ++ seg ∷ rest → goes_down nodes parent (seg ∷ rest) ≡ true → EndsWell nodes (seg ∷ rest) v
+    lay : (parent : Option ℕ) (path : List Seg) (seg : Seg) (rest : List Seg) (v : Value) (g : Forest) (r k : List Seg) → is_within at path ≡ true → r ≡ path ++ seg ∷ rest → goes_down nodes parent (seg ∷ rest) ≡ true → EndsWell nodes (seg ∷ rest) v
         → (IsBranch g → Behind r k path g) → Spine nodes parent g → Laid parent path (laid (seg ∷ rest) v g) r
-    lay parent path seg rest v bare r k is down ends behind sp = fresh parent path seg rest v bare r is down ends tt
-    lay parent path seg [] v (branch first own kids next) r k is down ends behind sp = lay_end (eq_by_cmp segment_cmp seg first) parent path seg v first own kids next r k refl is down ends (behind tt) sp
-    lay parent path seg (s ∷ rest) v (branch first (Some w) kids next) r k is down ends behind sp =
-        lay_on (eq_by_cmp segment_cmp seg first) parent path seg s rest v first (Some w) kids next r k refl is down ends (behind tt) sp (λ none same. absurd (some_none w none))
-    lay parent path seg (s ∷ rest) v (branch first None kids next) r k is down ends behind sp =
-        lay_on (eq_by_cmp segment_cmp seg first) parent path seg s rest v first None kids next r k refl is down ends (behind tt) sp
-        (λ none same. lay (Some first.node) (path ++ first ∷ []) s rest v kids r k
+    lay parent path seg rest v bare r k inside is down ends behind sp = fresh parent path seg rest v bare r is down ends tt
+    lay parent path seg [] v (branch first own kids next) r k inside is down ends behind sp = lay_end (eq_by_cmp segment_cmp seg first) parent path seg v first own kids next r k inside refl is down ends (behind tt) sp
+    lay parent path seg (s ∷ rest) v (branch first (Some w) kids next) r k inside is down ends behind sp =
+        lay_on (eq_by_cmp segment_cmp seg first) parent path seg s rest v first (Some w) kids next r k inside refl is down ends (behind tt) sp (λ none same. absurd (some_none w none))
+    lay parent path seg (s ∷ rest) v (branch first None kids next) r k inside is down ends behind sp =
+        lay_on (eq_by_cmp segment_cmp seg first) parent path seg s rest v first None kids next r k inside refl is down ends (behind tt) sp
+        (λ none same. lay (Some first.node) (path ++ first ∷ []) s rest v kids r k (within_more at path (first ∷ []) inside)
         (is ∙ ap (λ (x : Seg). path ++ x ∷ s ∷ rest) same ∙ sym (append_assoc path (first ∷ []) (s ∷ rest)))
         (subst (λ (x : Seg). goes_down nodes (Some x.node) (s ∷ rest) ≡ true) same (further parent seg (s ∷ rest) down)) ends (λ b. behind tt) sp.5)
 
@@ -412,15 +421,15 @@ module _ (nodes : List SchemaNode) (schema : IsSchema nodes) where
 
     abbrev FirstIs : List Row → Forest → Type 0
     FirstIs [] f = Unit {0}
-    FirstIs (row ∷ rows) f = first_path [] f ≡ row.path
+    FirstIs (row ∷ rows) f = first_path at f ≡ row.path
 
     abbrev first_of : List Row → List Seg
     first_of [] = []
     first_of (row ∷ rows) = row.path
 
-    behind_of : (before : List Row) (row : Row) (rest : List Row) → full ≡ before ++ row ∷ rest → AreInOrder full → FirstIs rest (forest_at 0 rest) → IsBranch (forest_at 0 rest) → Behind row.path (first_of rest) [] (forest_at 0 rest)
-    behind_of before row [] e order first b = absurd b
-    behind_of before row (next ∷ more) e order first b =
+    behind_of : (before : List Row) (row : Row) (rest : List Row) (f : Forest) → full ≡ before ++ row ∷ rest → AreInOrder full → f ≡ forest_at (length at) rest → FirstIs rest f → IsBranch f → Behind row.path (first_of rest) at f
+    behind_of before row [] f e order is first b = absurd (subst IsBranch is b)
+    behind_of before row (next ∷ more) f e order is first b =
         let sorted = subst AreInOrder e order in (
           sym first,
           row_less before row next more sorted,
@@ -428,24 +437,28 @@ module _ (nodes : List SchemaNode) (schema : IsSchema nodes) where
           λ q lo hi. ap (has_row q) e ∙ ap is_some (gap_at before row next more sorted q lo hi),
         )
 
-    lay_row : (row : Row) (path : List Seg) (g : Forest) (k : List Seg) → row.path ≡ path → IsRowOf nodes row → (IsBranch g → Behind row.path k [] g) → Spine nodes None g → Laid None [] (laid path row.value g) row.path
-    lay_row row [] g k is of_schema behind sp = absurd (true≢false (sym (sym (ap (is_path_of nodes) is) ∙ of_schema.path)))
-    lay_row row (seg ∷ rest) g k is of_schema behind sp =
-        lay None [] seg rest row.value g row.path k is (sym (ap (is_path_of nodes) is) ∙ of_schema.path) (subst (λ path. holds_value nodes (last_node path) row.value ≡ true) is of_schema.value) behind sp
+    lay_row : (parent : Option ℕ) (row : Row) (seg : Seg) (rest : List Seg) (g : Forest) (k : List Seg) → row.path ≡ at ++ seg ∷ rest → IsRest nodes parent (length at) row → (IsBranch g → Behind row.path k at g) → Spine nodes parent g
+        → Laid parent at (laid (drop (length at) row.path) row.value g) row.path
+    lay_row parent row seg rest g k is goes behind sp =
+        let left = ap (drop (length at)) is ∙ drop-append_seam at (seg ∷ rest) in
+        subst (λ path. Laid parent at (laid path row.value g) row.path) (sym left)
+        (lay parent at seg rest row.value g row.path k (within_self at) is (subst (λ path. goes_down nodes parent path ≡ true) left goes.0) (subst (λ path. EndsWell nodes path row.value) left goes.1) behind sp)
 
-    spine_rows : (before rows : List Row) → full ≡ before ++ rows → AreInOrder full → AllByRecursion (IsRowOf nodes) rows → Spine nodes None (forest_at 0 rows) × FirstIs rows (forest_at 0 rows)
-    spine_rows before [] e order all = (tt, tt)
-    spine_rows before (row ∷ rest) e order all =
-        let inner = spine_rows (before ++ row ∷ []) rest (e ∙ sym (append_assoc before (row ∷ []) rest)) order all.1 in
-        lay_row row row.path (forest_at 0 rest) (first_of rest) refl all.0 (behind_of before row rest e order inner.1) inner.0
+    spine_rows : (parent : Option ℕ) (before rows : List Row) → full ≡ before ++ rows → AreInOrder full → AllByRecursion (IsRest nodes parent (length at)) rows → AllByRecursion (StandsUnder at) rows
+        → Spine nodes parent (forest_at (length at) rows) × FirstIs rows (forest_at (length at) rows)
+    spine_rows parent before [] e order all under = (tt, tt)
+    spine_rows parent before (row ∷ rest) e order all under =
+        let inner = spine_rows parent (before ++ row ∷ []) rest (e ∙ sym (append_assoc before (row ∷ []) rest)) order all.1 under.1 in
+        lay_row parent row under.0.0 under.0.1 (forest_at (length at) rest) (first_of rest) under.0.2 all.0 (behind_of before row rest (forest_at (length at) rest) e order refl inner.1) inner.0
 
--- the forest of whole rows fits
-pub whole_fits : (nodes : List SchemaNode) → IsSchema nodes → (rows : List Row) → HaveEntries nodes [] rows → AreInOrder rows → AllByRecursion (IsRowOf nodes) rows → Fits nodes None (forest_at 0 rows)
+-- the forest of whole rows below a place fits
+pub whole_fits : (nodes : List SchemaNode) → IsSchema nodes → (at : List Seg) (parent : Option ℕ) (rows : List Row) → EntriesBelow nodes at rows → AreInOrder rows → AllByRecursion (IsRest nodes parent (length at)) rows → AllByRecursion (StandsUnder at) rows
+    → Fits nodes parent (forest_at (length at) rows)
 unfolding IsStrictlySortedBy
-whole_fits nodes schema [] entries order all = tt
-whole_fits nodes schema (row ∷ rest) entries order all =
+whole_fits nodes schema at parent [] entries order all under = tt
+whole_fits nodes schema at parent (row ∷ rest) entries order all under =
     let full = row ∷ rest in
-    let sp = spine_rows nodes schema full entries [] full refl order all in
-    close nodes schema full entries (λ q. Unit {0}) (λ p q h lo. tt) row.path (there_at nodes schema full entries [] row rest)
-    (λ q lo h. ap is_some (none_after nodes schema full entries q full (h, later_all nodes schema full entries q row.path (map path_of rest) h order.0)))
-    None [] (forest_at 0 full) (λ b. sym sp.1) (low_below nodes schema full entries (λ q. Unit {0}) (λ p q h lo. tt) [] (forest_at 0 full) tt) sp.0
+    let sp = spine_rows nodes schema at full entries parent [] full refl order all under in
+    close nodes schema at full entries (λ q. Unit {0}) (λ p q h lo. tt) row.path (there_at nodes schema at full entries [] row rest)
+    (λ q lo h. ap is_some (none_after nodes schema at full entries q full (h, later_all nodes schema at full entries q row.path (map path_of rest) h order.0)))
+    parent at (forest_at (length at) full) (within_self at) (λ b. sym sp.1) (low_below nodes schema at full entries (λ q. Unit {0}) (λ p q h lo. tt) at (forest_at (length at) full) tt) sp.0

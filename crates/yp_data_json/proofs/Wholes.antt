@@ -28,24 +28,20 @@ use Rattle.yp_data_json.specs.Reading.{◌>>=◌, typed_value, typed_atom, keys_
 use Rattle.yp_data_json.specs.AtPath.{are_keys, named_entry, named_value, one_of, array_of_one, by_kind, named_read, outer_read, is_bare, object_read, rows_read}
 use Rattle.yp_data_json.proofs.Places.{rows_last}
 use Rattle.yp_data_json.proofs.PutRows.{put_there}
-use Rattle.yp_data_json.proofs.Growing.{Stand, Grown, Entered, grown_still, grown_on, last_of}
+use Rattle.yp_data_json.proofs.Growing.{Stand, Grown, Entered, grown_still, grown_on, last_of, within_self}
 use Rattle.yp_data_json.proofs.Readings.{bound, ok_rows, given}
 use Rattle.yp_data_json.proofs.ReadStands.{Spot, Here, Under, spot_on, put_spot, under_spot, entered_grown, entered_there, members_grown, node_grown}
 
-within_self : (path : List Seg) → is_within path path ≡ true
-within_self [] = refl
-within_self (s ∷ path) = and_from _ _ (ap is_eq (tied_itself segments_total s)) (within_self path)
-
 -- a path isn't at or below a longer one
-too_short : (front rest : List Seg) (seg : Seg) → is_within ((front ++ rest) ++ seg ∷ []) front ≡ true → ⊥
+pub too_short : (front rest : List Seg) (seg : Seg) → is_within ((front ++ rest) ++ seg ∷ []) front ≡ true → ⊥
 too_short [] [] seg h = cc
 too_short [] (r ∷ rest) seg h = cc
 too_short (s ∷ front) rest seg h = too_short front rest seg (and_parts _ _ h).1
 
-keys_same : (found keys : List Atom) → are_keys found keys ≡ true → found ≡ keys
+pub keys_same : (found keys : List Atom) → are_keys found keys ≡ true → found ≡ keys
 keys_same found keys h = (slice_eq-Decides (order_decides atoms_total atoms_exact) found keys (are_keys found keys) refl).0 h
 
-empty_is : (keys : List Atom) → is_empty keys ≡ true → keys ≡ []
+pub empty_is : (keys : List Atom) → is_empty keys ≡ true → keys ≡ []
 empty_is [] h = refl
 empty_is (a ∷ keys) h = cc
 
@@ -272,7 +268,7 @@ module _ (nodes : List SchemaNode) (above : List Seg) (seg : Seg) where
           entries = stand.entries;
         })
 
-snoc : (s : Seg) (path : List Seg) → (above : List Seg) × (seg : Seg) × (s ∷ path ≡ above ++ seg ∷ [])
+pub snoc : (s : Seg) (path : List Seg) → (above : List Seg) × (seg : Seg) × (s ∷ path ≡ above ++ seg ∷ [])
 snoc s [] = ([], s, refl)
 snoc s (t ∷ path) = let more = snoc t path in (s ∷ more.0, more.1, ap (λ (p : List Seg). s ∷ p) more.2)
 

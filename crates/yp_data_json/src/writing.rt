@@ -7,6 +7,7 @@ ghost use Rattle.serde_json.specs.Data.{object, member, no_members};
 ghost use Rattle.yp_schema.specs.WellFormed.{IsSchema};
 ghost use Rattle.yp_schema.specs.Datastore.{AreWritable, AreWhole, is_segment, keys_fit, atom_fits, typed_fits};
 ghost use Rattle.yp_schema.specs.declared.schema.SchemaNode.{SchemaNode};
+ghost use Rattle.yp_base.specs.declared.path.Seg.{Seg};
 ghost use Rattle.yp_base.specs.declared.row.Row.{Row};
 ghost use Rattle.yp_data_json.specs.AtPath.{rows_read};
 ghost use Rattle.yp_data_json.specs.Forest.{forest_at};
@@ -38,11 +39,11 @@ pub fn write_rows(alloc: Global, schema: &Schema, at: &Path, rows: &Rows) -> Res
     }
 }
 
-/// What is written of all rows of a datastore is read again as these rows.
-#[tactic(auto, using(crate::proofs::RoundTrip::top_again))]
+/// What is written of all rows at a place is read there again as these rows.
+#[tactic(auto, using(crate::proofs::RoundTrip::written_again))]
 pub fn written_is_read()
-    ensures { (nodes : List SchemaNode) (rows : List Row) → IsSchema nodes → AreWhole nodes [] rows
-        → rows_read nodes [] (rows_json nodes [] rows) ≡ Ok rows }
+    ensures { (nodes : List SchemaNode) (at : List Seg) (rows : List Row) → IsSchema nodes → AreWhole nodes at rows
+        → rows_read nodes at (rows_json nodes at rows) ≡ Ok rows }
 {}
 
 /// An object of one member, under the qualified name of a node.
