@@ -51,11 +51,11 @@ unless_is : {A : Type 0} (b : Bool) (o : Option A) (P : A → Type 0) → IfSome
 unless_is true o P is = tt
 unless_is false o P is = is
 
-bind_is : {A B : Type 0} (r : Result A ScriptFault) (f : A → Result B ScriptFault) (Q : A → Type 0) (P : B → Type 0) → IfOk r Q → ((x : A) → Q x → IfOk (f x) P) → IfOk (r >>= f) P
+pub bind_is : {A B : Type 0} (r : Result A ScriptFault) (f : A → Result B ScriptFault) (Q : A → Type 0) (P : B → Type 0) → IfOk r Q → ((x : A) → Q x → IfOk (f x) P) → IfOk (r >>= f) P
 bind_is (Ok x) f Q P is each = each x is
 bind_is (Err fault) f Q P is each = tt
 
-any_ok : {A : Type 0} (r : Result A ScriptFault) → IfOk r (λ x. Unit {0})
+pub any_ok : {A : Type 0} (r : Result A ScriptFault) → IfOk r (λ x. Unit {0})
 any_ok (Ok x) = tt
 any_ok (Err fault) = tt
 

@@ -1,6 +1,7 @@
 pub mod Collects
 pub mod CommandLaws
 pub mod Commands
+pub mod Concealing
 pub mod Created
 pub mod Ends
 pub mod Kept
@@ -11,4 +12,6 @@ pub mod Replies
 pub mod Runs
 pub mod Sendables
 pub mod Showing
+pub mod StatusLaws
 pub mod TopLaws
+pub mod WholeScript

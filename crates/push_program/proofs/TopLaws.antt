@@ -1,16 +1,12 @@
 -- What was read and written, in the words of a script and its report.
 use Rattle.std.proofs.Common.{◌≡◌, ℕ, zero, suc, ◌+◌, List, [], ◌∷◌, ◌++◌, length, take, drop, Bool, Option, Some, None, Result, Ok, Err, refl, sym, ap, ◌∙◌, subst, min, arith}
 use Rattle.std.proofs.lemmas.List.{take_min}
-use Rattle.std.specs.Prelude.{IfSome, IfOk}
+use Rattle.std.specs.Prelude.{IfSome}
 use Rattle.yp_io.specs.Whole.{ReadsWhole, Appends, AppendsPrefix}
 use Rattle.push_program.specs.declared.fault.ScriptFault.{ScriptFault}
 use Rattle.push_program.specs.declared.script.Script.{Script}
-use Rattle.push_program.specs.Answers.{MirrorsRead}
-use Rattle.push_program.specs.Received.{Mirrors}
 use Rattle.push_program.specs.Report.{report_text}
 use Rattle.push_program.specs.Script.{script_of, script_in}
-use Rattle.push_program.proofs.Commands.{script_commands}
-use Rattle.push_program.proofs.Mirror.{mirrors}
 
 take_twice : (n : ℕ) (xs : List ℕ) → take n (take n xs) ≡ take n xs
 take_twice zero xs = refl
@@ -37,22 +33,15 @@ script_read (Some before) after bytes front over script read from is = sym (ap s
 
 -- the report that was written
 pub report_written : (o w after : Option (List ℕ)) (script : Script) (text : List ℕ) → IfSome o (λ before. script_in before ≡ Ok script) → text ≡ report_text script → IfSome w (λ before. Appends before after text)
-    → IfSome o (λ bytes. IfSome w (λ before. (s : Script) × (script_in bytes ≡ Ok s) × (after ≡ Some (before ++ report_text s))))
+    → IfSome o (λ bytes. (s : Script) × (script_in bytes ≡ Ok s) × IfSome w (λ before. after ≡ Some (before ++ report_text s)))
 report_written None w after script text is told written = is
-report_written (Some bytes) None after script text is told written = written
-report_written (Some bytes) (Some before) after script text is told written = (script, is, written ∙ ap (λ t. Some (before ++ t)) told)
+report_written (Some bytes) w after script text is told written = (script, is, appended w written)
+  where
+    appended : (w : Option (List ℕ)) → IfSome w (λ before. Appends before after text) → IfSome w (λ before. after ≡ Some (before ++ report_text script))
+    appended None h = h
+    appended (Some before) h = h ∙ ap (λ t. Some (before ++ t)) told
 
 pub prefix_written : (o w after : Option (List ℕ)) (script : Script) (text : List ℕ) → IfSome o (λ before. script_in before ≡ Ok script) → text ≡ report_text script → IfSome w (λ before. AppendsPrefix before after text)
-    → IfSome o (λ bytes. IfSome w (λ before. (s : Script) × (script_in bytes ≡ Ok s) × AppendsPrefix before after (report_text s)))
+    → IfSome o (λ bytes. (s : Script) × (script_in bytes ≡ Ok s) × IfSome w (λ before. AppendsPrefix before after (report_text s)))
 prefix_written None w after script text is told written = is
-prefix_written (Some bytes) None after script text is told written = written
-prefix_written (Some bytes) (Some before) after script text is told written = (script, is, subst (λ (t : List ℕ). AppendsPrefix before after t) told written)
-
--- every script that is read is mirrored
-mirrors_at : (r : Result Script ScriptFault) (bytes : List ℕ) → script_in bytes ≡ r → IfOk r (λ script. Mirrors script.schema script.commands)
-mirrors_at (Ok script) bytes is = mirrors script.schema script.commands (script_commands (take 67108865 bytes) script is)
-mirrors_at (Err fault) bytes is = tt
-
-pub mirrors_read : (left : Option (List ℕ)) → MirrorsRead left
-mirrors_read None = tt
-mirrors_read (Some bytes) = mirrors_at (script_in bytes) bytes refl
+prefix_written (Some bytes) w after script text is told written = (script, is, subst (λ (t : List ℕ). IfSome w (λ before. AppendsPrefix before after t)) told written)

@@ -1,12 +1,14 @@
 -- What a status says of the words, the source and the sink.
-use Rattle.std.specs.Prelude.{◌≡◌, ℕ, List, [], ◌∷◌, ◌++◌, drop, Bool, true, false, codes, nat_eq, Option, Some, IfSome, IfOk, Ok, Err}
+use Rattle.std.specs.Prelude.{◌≡◌, ℕ, List, [], ◌∷◌, ◌++◌, drop, Bool, true, false, codes, nat_eq, Option, Some, IfSome, Result, Ok, Err}
 use Rattle.std.specs.Cmp.Lexicographic.{pointwise}
 use Rattle.yp_io.specs.Causes.{Rose}
-use Rattle.yp_io.specs.Whole.{LeavesRest, AppendsPrefix}
+use Rattle.yp_io.specs.Whole.{AppendsPrefix}
+use Rattle.push_program.specs.declared.fault.ScriptFault.{ScriptFault}
 use Rattle.push_program.specs.declared.fault.ScriptFault.TheVariants.{At}
 use Rattle.push_program.specs.declared.script.Script.{Script}
 use Rattle.push_program.specs.declared.top.Status.{Status}
 use Rattle.push_program.specs.declared.top.Status.TheVariants.{Done, BadWords, BadScript, ReadFault, WriteFault, NoMemory}
+use Rattle.push_program.specs.Concealed.{Conceals, Rises}
 use Rattle.push_program.specs.Received.{Mirrors}
 use Rattle.push_program.specs.Report.{report_text}
 use Rattle.push_program.specs.Script.{script_in}
@@ -28,7 +30,7 @@ pub record Streams : Type 0 where
   pub write_faults_before : ℕ
   pub write_faults_after : ℕ
 
--- the source was read to its end, or one byte past the most that a script has
+-- the source was read to its end, or one byte past the most that a script has; that byte is a fault of its line
 abbrev pub ReadsAll : Streams → Type 0
 ReadsAll s = IfSome s.left_before (λ bytes. s.left_after ≡ Some (drop 67108865 bytes)) × (s.read_faults_after ≡ s.read_faults_before)
 
@@ -38,13 +40,13 @@ WritesNothing s = (s.written_after ≡ s.written_before) × (s.write_faults_afte
 
 -- the report of the script that was read, whole
 abbrev pub WritesReport : Streams → Type 0
-WritesReport s = IfSome s.left_before (λ bytes. IfSome s.written_before (λ before.
-    (script : Script) × (script_in bytes ≡ Ok script) × (s.written_after ≡ Some (before ++ report_text script))))
+WritesReport s = IfSome s.left_before (λ bytes.
+    (script : Script) × (script_in bytes ≡ Ok script) × IfSome s.written_before (λ before. s.written_after ≡ Some (before ++ report_text script)))
 
 -- a front of the report
 abbrev pub WritesPrefix : Streams → Type 0
-WritesPrefix s = IfSome s.left_before (λ bytes. IfSome s.written_before (λ before.
-    (script : Script) × (script_in bytes ≡ Ok script) × AppendsPrefix before s.written_after (report_text script)))
+WritesPrefix s = IfSome s.left_before (λ bytes.
+    (script : Script) × (script_in bytes ≡ Ok script) × IfSome s.written_before (λ before. AppendsPrefix before s.written_after (report_text script)))
 
 abbrev pub Answers : List (List ℕ) → Streams → Status → Type 0
 Answers words s Done = (is_run words ≡ true) × ReadsAll s × WritesReport s × (s.write_faults_after ≡ s.write_faults_before)
@@ -54,6 +56,89 @@ Answers words s ReadFault = (is_run words ≡ true) × Rose s.read_faults_before
 Answers words s WriteFault = (is_run words ≡ true) × ReadsAll s × WritesPrefix s × Rose s.write_faults_before s.write_faults_after
 Answers words s NoMemory = (is_run words ≡ true) × (s.read_faults_after ≡ s.read_faults_before) × WritesNothing s
 
--- of the script that a source has, the receiver's rows are those of fresh selection after each update
-abbrev pub MirrorsRead : Option (List ℕ) → Type 0
-MirrorsRead left = IfSome left (λ bytes. IfOk (script_in bytes) (λ script. Mirrors script.schema script.commands))
+-- ---- what each status tells a caller, clause by clause
+
+-- whether the words were good
+abbrev pub tells_good_words : Status → Bool
+tells_good_words Done = true
+tells_good_words BadWords = false
+tells_good_words (BadScript line kind) = true
+tells_good_words ReadFault = true
+tells_good_words WriteFault = true
+tells_good_words NoMemory = true
+
+-- what holds of a script whose report is told: after each update the receiver's rows are fresh selection at the update's position, positions rise, and no update names what may not be read
+pub record IsTold (script : Script) : Type 0 where
+  pub mirrored : Mirrors script.schema script.commands
+  pub rising : Rises script.schema script.commands
+  pub concealed : Conceals script.schema script.commands
+
+-- of the bytes that were left, all of which are a script, the report was written, whole
+abbrev pub Reports : Option (List ℕ) → Option (List ℕ) → Option (List ℕ) → Type 0
+Reports left before after = IfSome left (λ bytes.
+    (script : Script) × (script_in bytes ≡ Ok script) × IfSome before (λ front. after ≡ Some (front ++ report_text script)) × IsTold script)
+
+-- a front of it was written
+abbrev pub ReportsFront : Option (List ℕ) → Option (List ℕ) → Option (List ℕ) → Type 0
+ReportsFront left before after = IfSome left (λ bytes.
+    (script : Script) × (script_in bytes ≡ Ok script) × IfSome before (λ front. AppendsPrefix front after (report_text script)))
+
+-- whether the source was read to its end, or past the most that a script has
+abbrev pub tells_whole_reading : Status → Bool
+tells_whole_reading Done = true
+tells_whole_reading BadWords = false
+tells_whole_reading (BadScript line kind) = true
+tells_whole_reading ReadFault = false
+tells_whole_reading WriteFault = true
+tells_whole_reading NoMemory = false
+
+-- the count of the source's faults rose at ReadFault, and there alone
+abbrev pub TellsReading : Status → ℕ → ℕ → Type 0
+TellsReading Done before now = now ≡ before
+TellsReading BadWords before now = now ≡ before
+TellsReading (BadScript line kind) before now = now ≡ before
+TellsReading ReadFault before now = Rose before now
+TellsReading WriteFault before now = now ≡ before
+TellsReading NoMemory before now = now ≡ before
+
+-- the count of the sink's faults rose at WriteFault, and there alone
+abbrev pub TellsWriting : Status → ℕ → ℕ → Type 0
+TellsWriting Done before now = now ≡ before
+TellsWriting BadWords before now = now ≡ before
+TellsWriting (BadScript line kind) before now = now ≡ before
+TellsWriting ReadFault before now = now ≡ before
+TellsWriting WriteFault before now = Rose before now
+TellsWriting NoMemory before now = now ≡ before
+
+-- whether nothing was written
+abbrev pub tells_no_writing : Status → Bool
+tells_no_writing Done = false
+tells_no_writing BadWords = true
+tells_no_writing (BadScript line kind) = true
+tells_no_writing ReadFault = true
+tells_no_writing WriteFault = false
+tells_no_writing NoMemory = true
+
+-- a count that did not rise
+abbrev pub Stays : ℕ → ℕ → Type 0
+Stays before now = Rose before now → ⊥
+
+-- the script of these bytes was run, or its first fault was told, unless memory ran out
+abbrev pub FitsScript : Result Script ScriptFault → Status → Type 0
+FitsScript (Ok script) Done = Unit {0}
+FitsScript (Ok script) BadWords = ⊥
+FitsScript (Ok script) (BadScript line kind) = ⊥
+FitsScript (Ok script) ReadFault = ⊥
+FitsScript (Ok script) WriteFault = ⊥
+FitsScript (Ok script) NoMemory = Unit {0}
+FitsScript (Err fault) Done = ⊥
+FitsScript (Err fault) BadWords = ⊥
+FitsScript (Err fault) (BadScript line kind) = fault ≡ At line kind
+FitsScript (Err fault) ReadFault = ⊥
+FitsScript (Err fault) WriteFault = ⊥
+FitsScript (Err fault) NoMemory = Unit {0}
+
+-- good words, a source whose bytes are told, and no fault of source or sink: the script's answer
+abbrev pub IsComplete : List (List ℕ) → Streams → Status → Type 0
+IsComplete words s status = is_run words ≡ true → Stays s.read_faults_before s.read_faults_after → Stays s.write_faults_before s.write_faults_after
+    → IfSome s.left_before (λ bytes. FitsScript (script_in bytes) status)

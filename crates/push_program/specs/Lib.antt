@@ -1,6 +1,7 @@
 pub mod Access
 pub mod Answers
 pub mod Collected
+pub mod Concealed
 pub mod Cursor
 pub mod Faults
 pub mod Journal

@@ -1,3 +1,6 @@
+mod limits;
+mod malformed;
+
 use crate::fault::ScriptKind;
 use crate::top::{Status, push_main};
 use std::alloc::Global;
@@ -6,18 +9,18 @@ use yp_base::memory::NoMemory;
 use yp_base::txt::Txt;
 use yp_io::memory::{MemSink, MemSource};
 
-const START: &str = "{\"start\":\"2026-01-01T00:00:00Z\"}\n";
+pub(crate) const START: &str = "{\"start\":\"2026-01-01T00:00:00Z\"}\n";
 
-const SCHEMA: &str =
+pub(crate) const SCHEMA: &str =
     "{\"schema\":[{\"path\":\"/acme:interfaces\",\"kind\":\"container\"},{\"path\":\"/acme:interfaces/interface\",\"kind\":\"list\",\"keys\":[\"name\"]},{\"path\":\"/acme:interfaces/interface/name\",\"kind\":\"leaf\",\"type\":\"string\"},{\"path\":\"/acme:interfaces/interface/mtu\",\"kind\":\"leaf\",\"type\":\"uint16\"},{\"path\":\"/acme:interfaces/interface/secret\",\"kind\":\"leaf\",\"type\":\"string\",\"deny-all\":true}]}\n";
 
-const RECEIVER: &str =
+pub(crate) const RECEIVER: &str =
     "{\"receiver\":{\"name\":\"r1\",\"user\":\"ann\",\"queue\":4,\"take\":\"auto\"}}\n";
 
-const ESTABLISH: &str =
+pub(crate) const ESTABLISH: &str =
     "{\"establish\":{\"by\":\"r1\",\"datastore\":\"ietf-datastores:operational\",\"on-change\":{}}}\n";
 
-const CREATE: &str =
+pub(crate) const CREATE: &str =
     "{\"patch\":{\"ietf-yang-patch:yang-patch\":{\"patch-id\":\"p\",\"edit\":[{\"edit-id\":\"e\",\"operation\":\"create\",\"target\":\"/acme:interfaces/interface=eth0\",\"value\":{\"acme:interface\":[{\"name\":\"eth0\",\"mtu\":1500,\"secret\":\"hush\"}]}}]}}}\n";
 
 const LEAF_OF_NONE: &str =
@@ -27,7 +30,7 @@ const SECRET: &str =
     "{\"patch\":{\"ietf-yang-patch:yang-patch\":{\"patch-id\":\"p\",\"edit\":[{\"edit-id\":\"e\",\"operation\":\"create\",\"target\":\"/acme:interfaces/interface=eth0/secret\",\"value\":{\"acme:secret\":\"hush\"}}]}}}\n";
 
 // Lines one after another.
-fn joined(alloc: Global, lines: &[&str]) -> Result<String, NoMemory> {
+pub(crate) fn joined(alloc: Global, lines: &[&str]) -> Result<String, NoMemory> {
     let mut text = String::new(alloc);
     for line in lines {
         text.push_str(*line)?;
@@ -36,7 +39,7 @@ fn joined(alloc: Global, lines: &[&str]) -> Result<String, NoMemory> {
 }
 
 // The word `run`.
-fn run_words(alloc: Global) -> Result<Vec<Txt>, NoMemory> {
+pub(crate) fn run_words(alloc: Global) -> Result<Vec<Txt>, NoMemory> {
     let word = Txt::from_string(String::from_str(alloc, "run")?);
     let mut words = Vec::new(alloc);
     words.push(word)?;
@@ -44,7 +47,7 @@ fn run_words(alloc: Global) -> Result<Vec<Txt>, NoMemory> {
 }
 
 // How a run of these lines ends, with nothing written.
-fn ends(alloc: Global, lines: &[&str], want: Status) -> Result<bool, NoMemory> {
+pub(crate) fn ends(alloc: Global, lines: &[&str], want: Status) -> Result<bool, NoMemory> {
     let text = joined(alloc, lines)?;
     let mut source = MemSource::new(text.into_bytes(), 7, Vec::new(alloc));
     let mut sink = MemSink::with_room(alloc, 1000, 1000, Vec::new(alloc))?;
@@ -54,7 +57,7 @@ fn ends(alloc: Global, lines: &[&str], want: Status) -> Result<bool, NoMemory> {
 }
 
 // Whether a run of these lines writes this report.
-fn reports(alloc: Global, lines: &[&str], want: &[&str]) -> Result<bool, NoMemory> {
+pub(crate) fn reports(alloc: Global, lines: &[&str], want: &[&str]) -> Result<bool, NoMemory> {
     let text = joined(alloc, lines)?;
     let want = joined(alloc, want)?;
     let mut source = MemSource::new(text.into_bytes(), 4096, Vec::new(alloc));

@@ -1,10 +1,13 @@
 //! The call that the program makes.
-ghost use Rattle.std.specs.Prelude.{◌≡◌, ◌≤◌, length, take, IfOk, IfErr, Ok, string_bytes};
+ghost use Rattle.std.specs.Prelude.{◌≡◌, ◌≤◌, ℕ, true, not, length, take, drop, IfSome, IfOk, IfErr, Some, [], Ok, Err, string_bytes};
+ghost use Rattle.push_program.specs.declared.fault.ScriptFault.TheVariants.{At};
+ghost use Rattle.push_program.specs.declared.fault.ScriptKind.{ScriptKind as Kind};
 ghost use Rattle.push_program.specs.declared.script.Script.{Script as ReadScript};
-ghost use Rattle.push_program.specs.Answers.{Answers, MirrorsRead, is_run};
+ghost use Rattle.push_program.specs.declared.top.Status.TheVariants.{Done, BadWords, BadScript, WriteFault};
+ghost use Rattle.push_program.specs.Answers.{Answers, is_run, tells_good_words, tells_whole_reading, tells_no_writing, Reports, ReportsFront, TellsReading, TellsWriting, IsComplete};
 ghost use Rattle.push_program.specs.Readings.{Fails};
 ghost use Rattle.push_program.specs.Report.{report_text};
-ghost use Rattle.push_program.specs.Script.{script_of};
+ghost use Rattle.push_program.specs.Script.{script_of, script_in};
 
 use crate::fault::{ScriptFault, ScriptKind};
 use crate::reading::read_script;
@@ -70,15 +73,14 @@ fn text_of(alloc: Global, bytes: &[u8]) -> Result<String, ScriptFault>
     }
 }
 
-/// Reads a script, runs it, and writes its report.
-#[tactic(auto, using(crate::proofs::TopLaws::mirrors_read))]
-pub fn push_main<S: Source, K: Sink>(
+// Reads a script, runs it, and writes its report: what each status says, in one relation.
+fn answer<S: Source, K: Sink>(
     alloc: Global,
     words: &[Txt],
     source: &mut S,
     sink: &mut K,
 ) -> Status
-    ensures answers { Answers words.now (record {
+    ensures { Answers words.now (record {
       left_before = S.left source.old;
       left_after = S.left source.new;
       written_before = K.written sink.old;
@@ -88,7 +90,6 @@ pub fn push_main<S: Source, K: Sink>(
       write_faults_before = K.faults sink.old;
       write_faults_after = K.faults sink.new;
     }) result }
-    ensures mirror { MirrorsRead (S.left source.old) }
 {
     if !are_run(words) {
         return Status::BadWords;
@@ -109,4 +110,40 @@ pub fn push_main<S: Source, K: Sink>(
             ScriptFault::Memory => Status::NoMemory,
         },
     }
+}
+
+/// Reads a script from a source to its end, runs it, and writes its report to a sink.
+///
+/// `words` are the words of the command line behind the program's name. `Done` says that the report of
+/// the script was written, whole, and that of all that it tells each update left the receiver's rows
+/// equal to fresh selection at its position. A fault of the script is told with its line and kind,
+/// and a failed read or write by a status of its own; want of memory leaves the sink as it was.
+pub fn push_main<S: Source, K: Sink>(
+    alloc: Global,
+    words: &[Txt],
+    source: &mut S,
+    sink: &mut K,
+) -> Status
+    ensures words { tells_good_words result ≡ is_run words.now }
+    ensures unread { result ≡ BadWords → S.left source.new ≡ S.left source.old }
+    ensures done { result ≡ Done → Reports (S.left source.old) (K.written sink.old) (K.written sink.new) }
+    ensures end { result ≡ Done → IfSome (S.left source.old) (λ bytes. S.left source.new ≡ Some []) }
+    ensures read { tells_whole_reading result ≡ true → IfSome (S.left source.old) (λ bytes. S.left source.new ≡ Some (drop 67108865 bytes)) }
+    ensures script { (line : ℕ) (kind : Kind) → result ≡ BadScript line kind → IfSome (S.left source.old) (λ bytes. script_in bytes ≡ Err (At line kind)) }
+    ensures reading { TellsReading result (S.faults source.old) (S.faults source.new) }
+    ensures writing { TellsWriting result (K.faults sink.old) (K.faults sink.new) }
+    ensures front { result ≡ WriteFault → ReportsFront (S.left source.old) (K.written sink.old) (K.written sink.new) }
+    ensures unwritten { tells_no_writing result ≡ true → K.written sink.new ≡ K.written sink.old }
+    ensures complete { IsComplete words.now (record {
+      left_before = S.left source.old;
+      left_after = S.left source.new;
+      written_before = K.written sink.old;
+      written_after = K.written sink.new;
+      read_faults_before = S.faults source.old;
+      read_faults_after = S.faults source.new;
+      write_faults_before = K.faults sink.old;
+      write_faults_after = K.faults sink.new;
+    }) result }
+{
+    answer(alloc, words, source, sink)
 }

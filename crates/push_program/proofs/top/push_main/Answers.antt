@@ -1,36 +1,157 @@
-use Rattle.std.proofs.Common.{◌≡◌, ap, sym, subst, refl, ◌∙◌, take}
-use Rattle.push_program.specs.declared.fault.ScriptFault.{ScriptFault}
-use Rattle.push_program.specs.Readings.{Fails}
-use Rattle.push_program.specs.Script.{script_of}
-use Rattle.push_program.proofs.TopLaws.{reads_all, script_read, report_written, prefix_written}
+use Rattle.push_program.specs.Answers.{Streams}
+use Rattle.push_program.proofs.StatusLaws.{words_told, unread_told, done_told, end_told, read_told, script_told, reading_told, writing_told, front_told, unwritten_told, complete_told}
 use Rattle.push_program.proofs.top.push_main.Goals as goal
 
-pub returns-in-At-clause-answers : goal.returns-in-At-clause-answers
-returns-in-At-clause-answers g c =
-    let from : c.front_of-bytes.result.now ≡ take 67108865 c.in-Ok.whole.bytes = c.front_of-bytes.ensures.front ∙ ap (λ bytes. take 67108865 bytes) c.items.ensures in
-    let fault = subst (λ (f : ScriptFault). Fails f (script_of c.front_of-bytes.result.now)) c.in-At.is c.in-Err.ensures.fault in (
-      sym c.if-not-are_run.ensures,
-      (reads_all _ _ _ _ c.in-Ok.ensures.whole, c.in-Ok.ensures.cause),
-      script_read _ _ _ _ _ _ c.in-Ok.ensures.whole from fault,
-      (refl, refl),
-    )
+pub returns-clause-words : goal.returns-clause-words
+returns-clause-words g c =
+    let s : Streams = record {
+      left_before = g.S.Source.left c.args.source.now;
+      left_after = g.S.Source.left c.answer.new.source;
+      written_before = g.K.Sink.written c.args.sink.now;
+      written_after = g.K.Sink.written c.answer.new.sink;
+      read_faults_before = g.S.Source.faults c.args.source.now;
+      read_faults_after = g.S.Source.faults c.answer.new.source;
+      write_faults_before = g.K.Sink.faults c.args.sink.now;
+      write_faults_after = g.K.Sink.faults c.answer.new.sink;
+    } in
+    words_told c.args.words.now s c.answer.result c.answer.ensures
 
-pub returns-in-Ok-write_whole-clause-answers : goal.returns-in-Ok-write_whole-clause-answers
-returns-in-Ok-write_whole-clause-answers g c =
-    let from : c.front_of-bytes.result.now ≡ take 67108865 c.in-Ok.whole.bytes = c.front_of-bytes.ensures.front ∙ ap (λ bytes. take 67108865 bytes) c.items.ensures in
-    let t = c.in-Ok-text_of.ensures.text in (
-      sym c.if-not-are_run.ensures,
-      (reads_all _ _ _ _ c.in-Ok.ensures.whole, c.in-Ok.ensures.cause),
-      report_written _ _ _ t.0 c.as_bytes.result.now (script_read _ _ _ _ _ _ c.in-Ok.ensures.whole from t.1) (c.as_bytes.ensures.value ∙ t.2) c.in-Ok-write_whole.ensures.whole,
-      c.in-Ok-write_whole.ensures.cause,
-    )
+pub returns-clause-unread : goal.returns-clause-unread
+returns-clause-unread g c =
+    let s : Streams = record {
+      left_before = g.S.Source.left c.args.source.now;
+      left_after = g.S.Source.left c.answer.new.source;
+      written_before = g.K.Sink.written c.args.sink.now;
+      written_after = g.K.Sink.written c.answer.new.sink;
+      read_faults_before = g.S.Source.faults c.args.source.now;
+      read_faults_after = g.S.Source.faults c.answer.new.source;
+      write_faults_before = g.K.Sink.faults c.args.sink.now;
+      write_faults_after = g.K.Sink.faults c.answer.new.sink;
+    } in
+    unread_told c.args.words.now s c.answer.result c.answer.ensures
 
-pub returns-in-Ok-text_of-clause-answers : goal.returns-in-Ok-text_of-clause-answers
-returns-in-Ok-text_of-clause-answers g c =
-    let from : c.front_of-bytes.result.now ≡ take 67108865 c.in-Ok.whole.bytes = c.front_of-bytes.ensures.front ∙ ap (λ bytes. take 67108865 bytes) c.items.ensures in
-    let t = c.in-Ok-text_of.ensures.text in (
-      sym c.if-not-are_run.ensures,
-      (reads_all _ _ _ _ c.in-Ok.ensures.whole, c.in-Ok.ensures.cause),
-      prefix_written _ _ _ t.0 c.as_bytes.result.now (script_read _ _ _ _ _ _ c.in-Ok.ensures.whole from t.1) (c.as_bytes.ensures.value ∙ t.2) c.in-Err-write_whole.ensures.prefix,
-      c.in-Err-write_whole.ensures.cause,
-    )
+pub returns-clause-done : goal.returns-clause-done
+returns-clause-done g c =
+    let s : Streams = record {
+      left_before = g.S.Source.left c.args.source.now;
+      left_after = g.S.Source.left c.answer.new.source;
+      written_before = g.K.Sink.written c.args.sink.now;
+      written_after = g.K.Sink.written c.answer.new.sink;
+      read_faults_before = g.S.Source.faults c.args.source.now;
+      read_faults_after = g.S.Source.faults c.answer.new.source;
+      write_faults_before = g.K.Sink.faults c.args.sink.now;
+      write_faults_after = g.K.Sink.faults c.answer.new.sink;
+    } in
+    done_told c.args.words.now s c.answer.result c.answer.ensures
+
+pub returns-clause-end : goal.returns-clause-end
+returns-clause-end g c =
+    let s : Streams = record {
+      left_before = g.S.Source.left c.args.source.now;
+      left_after = g.S.Source.left c.answer.new.source;
+      written_before = g.K.Sink.written c.args.sink.now;
+      written_after = g.K.Sink.written c.answer.new.sink;
+      read_faults_before = g.S.Source.faults c.args.source.now;
+      read_faults_after = g.S.Source.faults c.answer.new.source;
+      write_faults_before = g.K.Sink.faults c.args.sink.now;
+      write_faults_after = g.K.Sink.faults c.answer.new.sink;
+    } in
+    end_told c.args.words.now s c.answer.result c.answer.ensures
+
+pub returns-clause-read : goal.returns-clause-read
+returns-clause-read g c =
+    let s : Streams = record {
+      left_before = g.S.Source.left c.args.source.now;
+      left_after = g.S.Source.left c.answer.new.source;
+      written_before = g.K.Sink.written c.args.sink.now;
+      written_after = g.K.Sink.written c.answer.new.sink;
+      read_faults_before = g.S.Source.faults c.args.source.now;
+      read_faults_after = g.S.Source.faults c.answer.new.source;
+      write_faults_before = g.K.Sink.faults c.args.sink.now;
+      write_faults_after = g.K.Sink.faults c.answer.new.sink;
+    } in
+    read_told c.args.words.now s c.answer.result c.answer.ensures
+
+pub returns-clause-script : goal.returns-clause-script
+returns-clause-script g c =
+    let s : Streams = record {
+      left_before = g.S.Source.left c.args.source.now;
+      left_after = g.S.Source.left c.answer.new.source;
+      written_before = g.K.Sink.written c.args.sink.now;
+      written_after = g.K.Sink.written c.answer.new.sink;
+      read_faults_before = g.S.Source.faults c.args.source.now;
+      read_faults_after = g.S.Source.faults c.answer.new.source;
+      write_faults_before = g.K.Sink.faults c.args.sink.now;
+      write_faults_after = g.K.Sink.faults c.answer.new.sink;
+    } in
+    script_told c.args.words.now s c.answer.result c.answer.ensures
+
+pub returns-clause-reading : goal.returns-clause-reading
+returns-clause-reading g c =
+    let s : Streams = record {
+      left_before = g.S.Source.left c.args.source.now;
+      left_after = g.S.Source.left c.answer.new.source;
+      written_before = g.K.Sink.written c.args.sink.now;
+      written_after = g.K.Sink.written c.answer.new.sink;
+      read_faults_before = g.S.Source.faults c.args.source.now;
+      read_faults_after = g.S.Source.faults c.answer.new.source;
+      write_faults_before = g.K.Sink.faults c.args.sink.now;
+      write_faults_after = g.K.Sink.faults c.answer.new.sink;
+    } in
+    reading_told c.args.words.now s c.answer.result c.answer.ensures
+
+pub returns-clause-writing : goal.returns-clause-writing
+returns-clause-writing g c =
+    let s : Streams = record {
+      left_before = g.S.Source.left c.args.source.now;
+      left_after = g.S.Source.left c.answer.new.source;
+      written_before = g.K.Sink.written c.args.sink.now;
+      written_after = g.K.Sink.written c.answer.new.sink;
+      read_faults_before = g.S.Source.faults c.args.source.now;
+      read_faults_after = g.S.Source.faults c.answer.new.source;
+      write_faults_before = g.K.Sink.faults c.args.sink.now;
+      write_faults_after = g.K.Sink.faults c.answer.new.sink;
+    } in
+    writing_told c.args.words.now s c.answer.result c.answer.ensures
+
+pub returns-clause-front : goal.returns-clause-front
+returns-clause-front g c =
+    let s : Streams = record {
+      left_before = g.S.Source.left c.args.source.now;
+      left_after = g.S.Source.left c.answer.new.source;
+      written_before = g.K.Sink.written c.args.sink.now;
+      written_after = g.K.Sink.written c.answer.new.sink;
+      read_faults_before = g.S.Source.faults c.args.source.now;
+      read_faults_after = g.S.Source.faults c.answer.new.source;
+      write_faults_before = g.K.Sink.faults c.args.sink.now;
+      write_faults_after = g.K.Sink.faults c.answer.new.sink;
+    } in
+    front_told c.args.words.now s c.answer.result c.answer.ensures
+
+pub returns-clause-unwritten : goal.returns-clause-unwritten
+returns-clause-unwritten g c =
+    let s : Streams = record {
+      left_before = g.S.Source.left c.args.source.now;
+      left_after = g.S.Source.left c.answer.new.source;
+      written_before = g.K.Sink.written c.args.sink.now;
+      written_after = g.K.Sink.written c.answer.new.sink;
+      read_faults_before = g.S.Source.faults c.args.source.now;
+      read_faults_after = g.S.Source.faults c.answer.new.source;
+      write_faults_before = g.K.Sink.faults c.args.sink.now;
+      write_faults_after = g.K.Sink.faults c.answer.new.sink;
+    } in
+    unwritten_told c.args.words.now s c.answer.result c.answer.ensures
+
+pub returns-clause-complete : goal.returns-clause-complete
+returns-clause-complete g c =
+    let s : Streams = record {
+      left_before = g.S.Source.left c.args.source.now;
+      left_after = g.S.Source.left c.answer.new.source;
+      written_before = g.K.Sink.written c.args.sink.now;
+      written_after = g.K.Sink.written c.answer.new.sink;
+      read_faults_before = g.S.Source.faults c.args.source.now;
+      read_faults_after = g.S.Source.faults c.answer.new.source;
+      write_faults_before = g.K.Sink.faults c.args.sink.now;
+      write_faults_after = g.K.Sink.faults c.answer.new.sink;
+    } in
+    complete_told c.args.words.now s c.answer.result c.answer.ensures
