@@ -94,7 +94,7 @@ said_within false number end text is h = h
 
 here_within : (a b : Bool) (number at : ℕ) (piece : List ℕ) (pieces : List (List ℕ)) → is_in_script (number + 1) (at + length piece) ≡ a
     → AllSaid (cond (a && b) (lines_from (number + 1) (at + length piece) pieces)
-        (record { number = number + 1; json = json_in (number + 1) (at + length piece) (without_feed piece) } ∷ lines_from (number + 1) (at + length piece) pieces))
+    (record { number = number + 1; json = json_in (number + 1) (at + length piece) (without_feed piece) } ∷ lines_from (number + 1) (at + length piece) pieces))
     → (a ≡ true) × AllSaid (lines_from (number + 1) (at + length piece) pieces)
 here_within true true number at piece pieces is all = (refl, all)
 here_within true false number at piece pieces is all = (refl, all.1)

@@ -74,12 +74,7 @@ fn text_of(alloc: Global, bytes: &[u8]) -> Result<String, ScriptFault>
 }
 
 // Reads a script, runs it, and writes its report: what each status says, in one relation.
-fn answer<S: Source, K: Sink>(
-    alloc: Global,
-    words: &[Txt],
-    source: &mut S,
-    sink: &mut K,
-) -> Status
+fn answer<S: Source, K: Sink>(alloc: Global, words: &[Txt], source: &mut S, sink: &mut K) -> Status
     ensures { Answers words.now (record {
       left_before = S.left source.old;
       left_after = S.left source.new;

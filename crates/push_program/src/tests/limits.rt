@@ -19,7 +19,9 @@ fn repeated(alloc: Global, text: &str, count: u32) -> Result<String, NoMemory> {
 // The receiver's line with so many blanks before its line feed.
 fn padded(alloc: Global, blanks: u32) -> Result<String, NoMemory> {
     let mut line = String::new(alloc);
-    line.push_str("{\"receiver\":{\"name\":\"r1\",\"user\":\"ann\",\"queue\":4,\"take\":\"auto\"}}")?;
+    line.push_str(
+        "{\"receiver\":{\"name\":\"r1\",\"user\":\"ann\",\"queue\":4,\"take\":\"auto\"}}",
+    )?;
     line.push_str(repeated(alloc, " ", blanks)?.as_str())?;
     line.push_str("\n")?;
     Ok(line)
@@ -63,7 +65,9 @@ fn a_name_has_at_most_64_bytes(rt: HostRuntime) -> Result<(), Fail> {
 fn keyed_creation(alloc: Global, bytes: u32) -> Result<String, NoMemory> {
     let key = repeated(alloc, "k", bytes)?;
     let mut line = String::new(alloc);
-    line.push_str("{\"patch\":{\"ietf-yang-patch:yang-patch\":{\"patch-id\":\"p\",\"edit\":[{\"edit-id\":\"e\",\"operation\":\"create\",\"target\":\"/acme:interfaces/interface=")?;
+    line.push_str(
+        "{\"patch\":{\"ietf-yang-patch:yang-patch\":{\"patch-id\":\"p\",\"edit\":[{\"edit-id\":\"e\",\"operation\":\"create\",\"target\":\"/acme:interfaces/interface=",
+    )?;
     line.push_str(key.as_str())?;
     line.push_str("\",\"value\":{\"acme:interface\":[{\"name\":\"")?;
     line.push_str(key.as_str())?;
@@ -90,13 +94,19 @@ const GROUPS: &str =
 // The creation of a group of so many members.
 fn group(alloc: Global, name: u32, members: u32) -> Result<String, NoMemory> {
     let mut line = String::new(alloc);
-    line.push_str("{\"patch\":{\"ietf-yang-patch:yang-patch\":{\"patch-id\":\"p\",\"edit\":[{\"edit-id\":\"e\",\"operation\":\"create\",\"target\":\"/acme:group=")?;
+    line.push_str(
+        "{\"patch\":{\"ietf-yang-patch:yang-patch\":{\"patch-id\":\"p\",\"edit\":[{\"edit-id\":\"e\",\"operation\":\"create\",\"target\":\"/acme:group=",
+    )?;
     line.push_str(name.to_string(alloc)?.as_str())?;
     line.push_str("\",\"value\":{\"acme:group\":[{\"name\":\"")?;
     line.push_str(name.to_string(alloc)?.as_str())?;
     line.push_str("\",\"member\":[")?;
     for member in 0..members {
-        line.push_str(if member == 0 { "{\"name\":\"" } else { ",{\"name\":\"" })?;
+        line.push_str(if member == 0 {
+            "{\"name\":\""
+        } else {
+            ",{\"name\":\""
+        })?;
         line.push_str(member.to_string(alloc)?.as_str())?;
         line.push_str("\"}")?;
     }
@@ -139,7 +149,13 @@ fn a_blank_line_is_counted(rt: HostRuntime) -> Result<(), Fail> {
     let alloc = rt.alloc();
     let kind = ScriptKind::UnknownCommand;
     let status = Status::BadScript { line: 6, kind };
-    assert!(rt; ends(alloc, &[START, "\n", SCHEMA, " \t\r\n", RECEIVER, "x\n"], status)?);
+    assert!(rt;
+        ends(
+            alloc,
+            &[START, "\n", SCHEMA, " \t\r\n", RECEIVER, "x\n"],
+            status
+        )?
+    );
     let blank = repeated(alloc, " ", 70_000)?;
     let told = reports(
         alloc,
@@ -161,7 +177,13 @@ fn has_lines(alloc: Global, blanks: u32) -> Result<String, NoMemory> {
 #[test]
 fn a_script_has_at_most_100000_lines(rt: HostRuntime) -> Result<(), Fail> {
     let alloc = rt.alloc();
-    assert!(rt; has_end(alloc, has_lines(alloc, 99_996)?, "tree r1 2147483648 {}\nend\n")?);
+    assert!(rt;
+        has_end(
+            alloc,
+            has_lines(alloc, 99_996)?,
+            "tree r1 2147483648 {}\nend\n"
+        )?
+    );
     let text = has_lines(alloc, 99_997)?;
     let kind = ScriptKind::UnknownCommand;
     let status = Status::BadScript {

@@ -122,7 +122,9 @@ fn an_establishment_is_of_everything(rt: HostRuntime) -> Result<(), Fail> {
 // The line of a patch whose one edit is a creation with this target and value.
 fn creation(alloc: Global, target: &str, value: &str) -> Result<String, NoMemory> {
     let mut line = String::new(alloc);
-    line.push_str("{\"patch\":{\"ietf-yang-patch:yang-patch\":{\"patch-id\":\"p\",\"edit\":[{\"edit-id\":\"e\",\"operation\":\"create\",\"target\":\"")?;
+    line.push_str(
+        "{\"patch\":{\"ietf-yang-patch:yang-patch\":{\"patch-id\":\"p\",\"edit\":[{\"edit-id\":\"e\",\"operation\":\"create\",\"target\":\"",
+    )?;
     line.push_str(target)?;
     line.push_str("\",\"value\":")?;
     line.push_str(value)?;
@@ -136,18 +138,51 @@ fn a_creation_has_a_target_and_the_data_of_it(rt: HostRuntime) -> Result<(), Fai
     for (target, value) in [
         ("", "{\"acme:interfaces\":{}}"),
         ("/acme:interfaces", "{\"acme:interfaces\":{}}"),
-        ("/acme:interfaces/interface", "{\"acme:interface\":[{\"name\":\"a\"}]}"),
-        ("/acme:interfaces/interface=a,b", "{\"acme:interface\":[{\"name\":\"a\"}]}"),
+        (
+            "/acme:interfaces/interface",
+            "{\"acme:interface\":[{\"name\":\"a\"}]}",
+        ),
+        (
+            "/acme:interfaces/interface=a,b",
+            "{\"acme:interface\":[{\"name\":\"a\"}]}",
+        ),
         ("/acme:interfaces/interface=a/name", "{\"acme:name\":\"a\"}"),
-        ("/acme:interfaces/interface=%zz", "{\"acme:interface\":[{\"name\":\"a\"}]}"),
-        ("/acme:interfaces/port=a", "{\"acme:port\":[{\"name\":\"a\"}]}"),
-        ("/acme:interfaces/interface=a", "{\"acme:interface\":[{\"name\":\"b\"}]}"),
-        ("/acme:interfaces/interface=a", "{\"acme:interface\":[{\"mtu\":1}]}"),
-        ("/acme:interfaces/interface=a", "{\"acme:interface\":[{\"name\":\"a\",\"mtu\":65536}]}"),
-        ("/acme:interfaces/interface=a", "{\"acme:interface\":[{\"name\":\"a\",\"mtu\":\"1\"}]}"),
-        ("/acme:interfaces/interface=a", "{\"acme:interface\":[{\"name\":\"a\",\"speed\":1}]}"),
-        ("/acme:interfaces/interface=a", "{\"interface\":[{\"name\":\"a\"}]}"),
-        ("/acme:interfaces/interface=a", "{\"acme:interface\":{\"name\":\"a\"}}"),
+        (
+            "/acme:interfaces/interface=%zz",
+            "{\"acme:interface\":[{\"name\":\"a\"}]}",
+        ),
+        (
+            "/acme:interfaces/port=a",
+            "{\"acme:port\":[{\"name\":\"a\"}]}",
+        ),
+        (
+            "/acme:interfaces/interface=a",
+            "{\"acme:interface\":[{\"name\":\"b\"}]}",
+        ),
+        (
+            "/acme:interfaces/interface=a",
+            "{\"acme:interface\":[{\"mtu\":1}]}",
+        ),
+        (
+            "/acme:interfaces/interface=a",
+            "{\"acme:interface\":[{\"name\":\"a\",\"mtu\":65536}]}",
+        ),
+        (
+            "/acme:interfaces/interface=a",
+            "{\"acme:interface\":[{\"name\":\"a\",\"mtu\":\"1\"}]}",
+        ),
+        (
+            "/acme:interfaces/interface=a",
+            "{\"acme:interface\":[{\"name\":\"a\",\"speed\":1}]}",
+        ),
+        (
+            "/acme:interfaces/interface=a",
+            "{\"interface\":[{\"name\":\"a\"}]}",
+        ),
+        (
+            "/acme:interfaces/interface=a",
+            "{\"acme:interface\":{\"name\":\"a\"}}",
+        ),
         ("/acme:interfaces/interface=a", "{}"),
         ("/acme:interfaces/interface=a", "null"),
     ] {
