@@ -5,6 +5,7 @@ use Rattle.std.specs.BTreeMap.{insert_entry}
 use Rattle.std.specs.List.{AllByRecursion, AllZip, Contains}
 use Rattle.std.specs.List.Sorted.{IsPermutation}
 use Rattle.std.proofs.lemmas.Bool.Decides.{nat_tests}
+use Rattle.std.proofs.lemmas.List.{length-map, map-append}
 use Rattle.std.proofs.lemmas.List.Elements.{Contains-push_cases}
 use Rattle.std.proofs.lemmas.List.Sorted.{IsPermutation-refl, IsPermutation-sym, Contains-permutation, length_permutation, IsPermutation-push_more}
 use Rattle.serde_json.specs.Data.{Data, Items, no_items, item}
@@ -26,14 +27,6 @@ use Rattle.yp_schema.proofs.After.{AllAfter}
 use Rattle.yp_schema.proofs.Entries.{contains_map, map_contains, listed_contains, contains_listed, entries_more}
 use Rattle.yp_schema.proofs.Stating.{IsRead, node_read, has_module, module_own}
 
-map_more : {X Y : Type 0} (f : X → Y) (xs : List X) (x : X) → map f xs ++ f x ∷ [] ≡ map f (xs ++ x ∷ [])
-map_more f [] x = refl
-map_more f (y ∷ ys) x = ap (λ zs. f y ∷ zs) (map_more f ys x)
-
-map_length : {X Y : Type 0} (f : X → Y) (xs : List X) → length (map f xs) ≡ length xs
-map_length f [] = refl
-map_length f (x ∷ xs) = omega (arith, map_length f xs)
-
 -- ---- what is listed of the stated nodes
 
 -- the listed nodes are those that were stated so far
@@ -53,7 +46,7 @@ listed_holds before nodes h path x is =
     map_contains placed_node before (path, x) (Contains-permutation nodes (map placed_node before) (path, x) (IsPermutation-sym (map placed_node before) nodes h.all) (listed_contains nodes path x is))
 
 holds_length : (before : List Stated) (nodes : Nodes) → Holds before nodes → length nodes ≡ length before
-holds_length before nodes h = length_permutation (map placed_node before) nodes h.all ∙ map_length placed_node before
+holds_length before nodes h = length_permutation (map placed_node before) nodes h.all ∙ length-map before placed_node
 
 placed_home : (node : Stated) (home : List ℕ) → module_of node.path ≡ Some home → (placed_node node).1.home ≡ home
 placed_home node home is = ap (λ o. unwrap_or o []) is
@@ -118,7 +111,7 @@ one_more before nodes h node m fresh after is =
     = IsPermutation-push_more (map placed_node before) nodes after (placed_node node) h.all (subst (λ (e : Names × Listed). IsPermutation (e ∷ nodes) after) entry put) in
     record {
       rising = subst Rising (sym is) (rising_insert nodes node.path (listed_of node m.home) h.rising);
-      all = subst (λ es. IsPermutation es after) (map_more placed_node before node) more;
+      all = subst (λ es. IsPermutation es after) (sym (map-append placed_node before (node ∷ []))) more;
       modules = λ other c. elim (Contains-push_cases before node other c) [ inl old ↦ h.modules other old | inr new ↦ subst HasModule new m ];
     }
 
@@ -303,9 +296,12 @@ held_all_keys all nodes h (node ∷ stated) has = (held_keys all nodes h node no
 
 -- ---- a part
 
+pub nodes_append : (parts more : List (List Stated)) → nodes_in parts ++ nodes_in more ≡ nodes_in (parts ++ more)
+nodes_append [] more = refl
+nodes_append (part ∷ parts) more = append_assoc part (nodes_in parts) (nodes_in more) ∙ ap (λ ns. part ++ ns) (nodes_append parts more)
+
 pub nodes_more : (parts : List (List Stated)) (part : List Stated) → nodes_in parts ++ part ≡ nodes_in (parts ++ part ∷ [])
-nodes_more [] part = sym (append-nil part)
-nodes_more (first ∷ parts) part = append_assoc first (nodes_in parts) part ∙ ap (λ ns. first ++ ns) (nodes_more parts part)
+nodes_more parts part = ap (λ ns. nodes_in parts ++ ns) (sym (append-nil part)) ∙ nodes_append parts (part ∷ [])
 
 pub record AdmitsPart (before : List (List Stated)) (part : List Stated) : Type 0 where
   pub nodes : AllAfter Admits (nodes_in before) part

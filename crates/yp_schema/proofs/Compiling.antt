@@ -13,11 +13,7 @@ use Rattle.yp_schema.specs.Reading.{numbered, schema_of}
 use Rattle.yp_schema.specs.Compiled.{PartStates, nodes_in, EachAfter, HasNewPath, HasParent, HasModule, HasKeys, placed_node, Compiles}
 use Rattle.yp_schema.proofs.After.{AllAfter, each_after, all_after, after_weaker, after_append, each_alone, all_at}
 use Rattle.yp_schema.proofs.Entries.{sorted_of, rising_of, same_entries}
-use Rattle.yp_schema.proofs.Admitting.{Holds, no_nodes_hold, Admits, AdmitsPart, AllParts, nodes_more, parts_admit, admit_parts}
-
-nodes_append : (xs ys : List (List Stated)) → nodes_in xs ++ nodes_in ys ≡ nodes_in (xs ++ ys)
-nodes_append [] ys = refl
-nodes_append (x ∷ xs) ys = append_assoc x (nodes_in xs) (nodes_in ys) ∙ ap (λ ns. x ++ ns) (nodes_append xs ys)
+use Rattle.yp_schema.proofs.Admitting.{Holds, no_nodes_hold, Admits, AdmitsPart, AllParts, nodes_append, nodes_more, parts_admit, admit_parts}
 
 -- ---- from the steps to the rules
 
@@ -50,7 +46,7 @@ compiles ds listed is =
       depth = each_alone Admits (λ node. length node.path ≤ 16) (λ before node a. a.depth) [] (nodes_in all.stated) nodes;
       keys = each_after HasKeys all.stated (after_weaker AdmitsPart HasKeys (λ before part a. a.keys) [] all.stated all.admits);
       listed = listed;
-      all = all.holds.all;
+      each_once = all.holds.all;
       in_order = sorted_of listed all.holds.rising;
       compiled = refl;
     }
@@ -85,8 +81,8 @@ accepted ds nodes c =
     let stated = map placed_node (nodes_in c.stated) in
     let same : listed ≡ c.listed
     = same_entries listed c.listed held.rising (rising_of c.listed c.in_order)
-    (λ e there. Contains-permutation stated c.listed e c.all (Contains-permutation listed stated e (IsPermutation-sym stated listed held.all) there))
-    (λ e there. Contains-permutation stated listed e held.all (Contains-permutation c.listed stated e (IsPermutation-sym stated c.listed c.all) there)) in
+    (λ e there. Contains-permutation stated c.listed e c.each_once (Contains-permutation listed stated e (IsPermutation-sym stated listed held.all) there))
+    (λ e there. Contains-permutation stated listed e held.all (Contains-permutation c.listed stated e (IsPermutation-sym stated c.listed c.each_once) there)) in
     ap (λ r. r >>= λ after. Ok (numbered after)) read.1 ∙ ap (λ after. Ok (numbered after)) same ∙ ap Ok (sym c.compiled)
 
 pub accepted_compiles : (parts : List Data) (nodes : List SchemaNode) → schema_of parts ≡ Ok nodes ↔ Compiles parts nodes

@@ -11,29 +11,26 @@ use Rattle.std.proofs.lemmas.Map.Lookups.{exact_bytes}
 use Rattle.std.proofs.lemmas.Map.Text.{is_eq-slice_cmp}
 use denote.Ref.{Bor}
 use Rattle.yp_base.specs.Types.{same_text, is_among, are_distinct}
+use Rattle.yp_schema.proofs.Sound.{both_true}
 use Rattle.yp_schema.proofs.Kept.{same_turned}
+
+or_turned : (r s t : Bool) → (r || (s || t)) ≡ (s || (r || t))
+or_turned true true t = refl
+or_turned true false t = refl
+or_turned false s t = refl
 
 among_more : (q : List ℕ) (xs : List (List ℕ)) (x : List ℕ) → is_among q (xs ++ x ∷ []) ≡ (same_text q x || is_among q xs)
 among_more q [] x = refl
-among_more q (y ∷ ys) x = ap (λ t. same_text q y || t) (among_more q ys x) ∙ turned (same_text q y) (same_text q x) (is_among q ys)
-  where
-    turned : (r s t : Bool) → (r || (s || t)) ≡ (s || (r || t))
-    turned true true t = refl
-    turned true false t = refl
-    turned false s t = refl
+among_more q (y ∷ ys) x = ap (λ t. same_text q y || t) (among_more q ys x) ∙ or_turned (same_text q y) (same_text q x) (is_among q ys)
 
 both_false : (s t : Bool) → (s || t) ≡ false → (s ≡ false) × (t ≡ false)
 both_false true t h = cc
 both_false false t h = (refl, h)
 
-both_hold : (s t : Bool) → (s && t) ≡ true → (s ≡ true) × (t ≡ true)
-both_hold true t h = (refl, h)
-both_hold false t h = cc
-
 distinct_more : (xs : List (List ℕ)) (x : List ℕ) → are_distinct xs ≡ true → is_among x xs ≡ false → are_distinct (xs ++ x ∷ []) ≡ true
 distinct_more [] x h apart = refl
 distinct_more (y ∷ ys) x h apart =
-    let both = both_hold (not (is_among y ys)) (are_distinct ys) h in
+    let both = both_true (not (is_among y ys)) (are_distinct ys) h in
     let parts = both_false (same_text x y) (is_among x ys) apart in
     ap (λ t. not t && are_distinct (ys ++ x ∷ [])) (among_more y ys x ∙ ap (λ t. t || is_among y ys) (same_turned y x ∙ parts.0))
     ∙ ap (λ t. t && are_distinct (ys ++ x ∷ [])) both.0 ∙ distinct_more ys x both.1 parts.1
@@ -76,17 +73,12 @@ has_more q (x ∷ xs) k =
       | Equal ↦ λ is.
           let texts : k.now ≡ x.now = exact_bytes k.now x.now is in
           sym (ap (λ t. t || (is_eq (slice_cmp nat_cmp q x.now) || has_text q xs)) (ap (same_text q) texts ∙ sym (is_eq-slice_cmp q x.now)) ∙ again (is_eq (slice_cmp nat_cmp q x.now)) (has_text q xs))
-      | Greater ↦ λ is. ap (λ t. is_eq (slice_cmp nat_cmp q x.now) || t) (has_more q xs k) ∙ turned (is_eq (slice_cmp nat_cmp q x.now)) (same_text q k.now) (has_text q xs)
+      | Greater ↦ λ is. ap (λ t. is_eq (slice_cmp nat_cmp q x.now) || t) (has_more q xs k) ∙ or_turned (is_eq (slice_cmp nat_cmp q x.now)) (same_text q k.now) (has_text q xs)
     ] refl
   where
     again : (s t : Bool) → (s || (s || t)) ≡ (s || t)
     again true t = refl
     again false t = refl
-
-    turned : (r s t : Bool) → (r || (s || t)) ≡ (s || (r || t))
-    turned true true t = refl
-    turned true false t = refl
-    turned false s t = refl
 
 -- a text that stood before
 pub seen_twice : (texts : List (List ℕ)) (i : ℕ) (x key : List ℕ) (keys : List (Bor (List ℕ))) (added : Bool) → i < length texts → x ≡ get_or texts i x → key ≡ x

@@ -1,11 +1,11 @@
 -- Entries in order of their paths: what is among them, what is put in, and that what is among them determines them.
-use Rattle.std.proofs.Common.{◌≡◌, ℕ, zero, suc, ◌<◌, List, [], ◌∷◌, ◌++◌, map, length, Bool, true, false, cond, refl, sym, ap, ◌∙◌, subst, Option, Some, None, Ordering, Less, Equal, Greater, arith}
+use Rattle.std.proofs.Common.{◌≡◌, ℕ, zero, suc, ◌<◌, List, [], ◌∷◌, ◌++◌, map, length, Bool, true, false, cond, refl, sym, ap, ◌∙◌, subst, Option, Some, None, option_map, Ordering, Less, Equal, Greater, arith}
 use Rattle.std.specs.Ordering.{is_eq, match_ordering}
 use Rattle.std.specs.BTreeMap.{insert_entry}
 use Rattle.std.specs.List.{slice_get, Contains, AllByRecursion}
 use Rattle.std.specs.List.Sorted.{IsPermutation, IsStrictlySortedBy}
 use Rattle.std.specs.Map.{keys_of}
-use Rattle.std.proofs.lemmas.Option.{slice_get_within, get_or_from_slice_get, slice_get-get_or}
+use Rattle.std.proofs.lemmas.Option.{slice_get_within, get_or_from_slice_get, slice_get-get_or, slice_get-map}
 use Rattle.std.proofs.lemmas.List.Sorted.{IsPermutation-refl, IsPermutation-trans, IsPermutation-cons, IsPermutation-middle}
 use Rattle.yp_schema.specs.declared.listing.Listed.{Listed}
 use Rattle.yp_schema.specs.Names.{Names, names_cmp}
@@ -20,18 +20,15 @@ get_contains xs n x h = (n, slice_get_within xs n x h, get_or_from_slice_get xs 
 contains_get : {X : Type 0} (xs : List X) (x : X) → Contains xs x → (n : ℕ) × (slice_get xs n ≡ Some x)
 contains_get xs x c = (c.0, slice_get-get_or xs c.0 x c.1 ∙ ap Some c.2)
 
-map_get : {X Y : Type 0} (f : X → Y) (xs : List X) (n : ℕ) (x : X) → slice_get xs n ≡ Some x → slice_get (map f xs) n ≡ Some (f x)
-map_get f [] n x h = cc
-map_get f (y ∷ ys) zero x h = let one : y ≡ x = cc in ap (λ z. Some (f z)) one
-map_get f (y ∷ ys) (suc n) x h = map_get f ys n x h
-
 get_map : {X Y : Type 0} (f : X → Y) (xs : List X) (n : ℕ) (y : Y) → slice_get (map f xs) n ≡ Some y → (x : X) × (slice_get xs n ≡ Some x) × (f x ≡ y)
-get_map f [] n y h = cc
-get_map f (x ∷ xs) zero y h = (x, refl, (cc))
-get_map f (x ∷ xs) (suc n) y h = get_map f xs n y h
+get_map {X} {Y} f xs n y h = got (slice_get xs n) refl (sym (slice_get-map f xs n) ∙ h)
+  where
+    got : (o : Option X) → slice_get xs n ≡ o → option_map f o ≡ Some y → (x : X) × (slice_get xs n ≡ Some x) × (f x ≡ y)
+    got None is k = cc
+    got (Some x) is k = (x, is, (cc))
 
 pub contains_map : {X Y : Type 0} (f : X → Y) (xs : List X) (x : X) → Contains xs x → Contains (map f xs) (f x)
-contains_map f xs x c = let at = contains_get xs x c in get_contains (map f xs) at.0 (f x) (map_get f xs at.0 x at.1)
+contains_map f xs x c = let at = contains_get xs x c in get_contains (map f xs) at.0 (f x) (slice_get-map f xs at.0 ∙ ap (option_map f) at.1)
 
 pub map_contains : {X Y : Type 0} (f : X → Y) (xs : List X) (y : Y) → Contains (map f xs) y → (x : X) × Contains xs x × (f x ≡ y)
 map_contains f xs y c =

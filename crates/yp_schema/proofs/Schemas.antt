@@ -3,6 +3,7 @@ use Rattle.std.proofs.Common.{◌≡◌, ℕ, zero, suc, ◌+◌, ◌<◌, ◌�
 use Rattle.std.specs.Ordering.{is_eq, nat_cmp, ordering_then}
 use Rattle.std.specs.Cmp.Lexicographic.{slice_cmp, pointwise}
 use Rattle.std.specs.List.{slice_get}
+use Rattle.std.proofs.lemmas.List.{length-map}
 use Rattle.std.proofs.lemmas.Cmp.{tied_itself, nat_list_cmp_total}
 use Rattle.std.proofs.lemmas.Bool.Decides.{nat_tests}
 use Rattle.serde_json.specs.Data.{Data}
@@ -85,10 +86,6 @@ map_get f [] n x d h = cc
 map_get f (y ∷ ys) zero x d h = let one : y ≡ x = cc in ap f one
 map_get f (y ∷ ys) (suc n) x d h = map_get f ys n x d h
 
-map_length : {X Y : Type 0} (f : X → Y) (xs : List X) → length (map f xs) ≡ length xs
-map_length f [] = refl
-map_length f (x ∷ xs) = omega (arith, map_length f xs)
-
 -- the only place where a test holds is the first
 only_place : {X : Type 0} (test : X → Bool) (d : X) (from : ℕ) (xs : List X) (n : ℕ) → n < length xs → test (get_or xs n d) ≡ true
     → ((m : ℕ) → m < length xs → test (get_or xs m d) ≡ true → m ≡ n) → place_from test from xs ≡ Some (from + n)
@@ -123,10 +120,10 @@ module _ (nodes : Nodes) (are : AreNodes nodes) where
   node_is n e h = map_get (numbered_node numbers) nodes n e no_node h
 
   entry_at : (n : ℕ) → n < length schema → (e : Names × Listed) × (slice_get nodes n ≡ Some e)
-  entry_at n h = get_within nodes n (omega (arith, map_length (numbered_node numbers) nodes))
+  entry_at n h = get_within nodes n (omega (arith, length-map nodes (numbered_node numbers)))
 
   within : (n : ℕ) (e : Names × Listed) → slice_get nodes n ≡ Some e → n < length schema
-  within n e h = omega (arith, map_length (numbered_node numbers) nodes, within_get nodes n e h)
+  within n e h = omega (arith, length-map nodes (numbered_node numbers), within_get nodes n e h)
 
   kept_at : (n : ℕ) (e : Names × Listed) → slice_get nodes n ≡ Some e → IsKept nodes e.0 e.1
   kept_at n e h = are.kept.each e.0 e.1 (listed_get nodes n e rise h)
@@ -461,7 +458,7 @@ module _ (nodes : Nodes) (are : AreNodes nodes) where
 
   is_schema : IsSchema schema
   is_schema = record {
-    few = omega (arith, map_length (numbered_node numbers) nodes, are.kept.few);
+    few = omega (arith, length-map nodes (numbered_node numbers), are.kept.few);
     shallow = are_shallow;
     each = stands;
     siblings = in_order;

@@ -36,13 +36,13 @@ abbrev pub nodes_in : List (List Stated) → List Stated
 nodes_in [] = []
 nodes_in (part ∷ parts) = part ++ nodes_in parts
 
--- R holds of each element and those before it
+-- R holds of each element and those before it, wherever the list is cut
 abbrev pub EachAfter : {X : Type 0} → (List X → X → Type 0) → List X → Type 0
 EachAfter {X} R xs = (before : List X) (x : X) (after : List X) → xs ≡ before ++ x ∷ after → R before x
 
 -- ---- paths
 
--- no node before has its path
+-- no node that stands before has its path
 abbrev pub HasNewPath : List Stated → Stated → Type 0
 HasNewPath before node = (other : Stated) → Contains before other → other.path ≢ node.path
 
@@ -83,7 +83,7 @@ pub record HasModule (node : Stated) : Type 0 where
 
 -- ---- keys (RFC 7950 section 7.8.2)
 
--- among some nodes a leaf with values is the child of a list that has this name
+-- among some nodes a leaf with values is the child of a list that has this name; the name carries no module, so the leaf is of the list's
 pub record HasKey (nodes : List Stated) (list : Stated) (key : List ℕ) : Type 0 where
   pub leaf : Stated
   pub there : Contains nodes leaf
@@ -100,20 +100,25 @@ HasKeys before part = AllByRecursion (λ list. AllByRecursion (HasKey (nodes_in 
 abbrev pub placed_node : Stated → Names × Listed
 placed_node node = (node.path, record { home = unwrap_or (module_of node.path) []; name = node.name; body = node.body })
 
+-- parts compile to nodes
 pub record Compiles (parts : List Data) (nodes : List SchemaNode) : Type 0 where
   -- the nodes that each part states
   pub stated : List (List Stated)
   pub states : AllZip PartStates parts stated
-  -- the rules
-  pub few : length (nodes_in stated) ≤ 4096
+  -- no two have one path, and each stands below one that was stated before
   pub paths : EachAfter HasNewPath (nodes_in stated)
   pub parents : EachAfter HasParent (nodes_in stated)
+  -- each has a module, which its name carries where it must
   pub modules : AllByRecursion HasModule (nodes_in stated)
+  -- a leaf has a type, and a leaf-list one with values
   pub types : AllByRecursion (λ node. is_typed node.body.kind node.body.ty ≡ true) (nodes_in stated)
+  -- the limits
   pub depth : AllByRecursion (λ node. length node.path ≤ 16) (nodes_in stated)
+  pub few : length (nodes_in stated) ≤ 4096
+  -- the keys of lists are leaves of theirs
   pub keys : EachAfter HasKeys stated
-  -- the stated nodes in order of their paths, and their numbers
+  -- the nodes are the stated ones in order of their paths, with the numbers that are their places there
   pub listed : Nodes
-  pub all : IsPermutation (map placed_node (nodes_in stated)) listed
+  pub each_once : IsPermutation (map placed_node (nodes_in stated)) listed
   pub in_order : IsStrictlySortedBy names_cmp (keys_of listed)
   pub compiled : nodes ≡ numbered listed

@@ -2,7 +2,8 @@
 //!
 //! Contracts see a `Schema` as the list of its nodes, whose places are the nodes' numbers
 //! (`specs/Nodes.antt`). A member form is `module:name` at the top and where the module changes, and
-//! `name` elsewhere (RFC 7951 section 4).
+//! `name` elsewhere (RFC 7951 section 4). Which parts are a schema, and which nodes they give, stands in
+//! `specs/Compiled.antt`, and `Schema::read` answers the first fault in the order of `specs/Rounds.antt`.
 #![tactic(auto)]
 
 pub mod fault;

@@ -183,8 +183,8 @@ impl Schema {
     }
 }
 
-/// Parts are read as a schema exactly where they compile to it, whatever the order in which they are visited
-/// (RFC 7950 section 4.2).
+/// Parts are read as a schema exactly where they compile to its nodes: the rules of RFC 7950 section 4.2 and
+/// RFC 7951 section 4 hold of them, in whatever order they are visited.
 pub fn accepted_schema_is_compiled()
     ensures compiled { (parts : List Data) (nodes : List SchemaNode) → schema_of parts ≡ Ok nodes ↔ Compiles parts nodes }
 {}
