@@ -1,11 +1,18 @@
 -- A path as its last segment and those above it.
 use Rattle.std.proofs.Common.{◌≡◌, ℕ, ◌<◌, length, List, [], ◌∷◌, ◌++◌, Bool, true, false, ◌&&◌, refl, sym, ap, ◌∙◌, append_assoc}
-use Rattle.std.specs.Prelude.{Option, Some, None, nat_lt, not}
-use Rattle.std.proofs.lemmas.Bool.{and_parts, ltb-true}
+use Rattle.std.specs.Prelude.{Option, Some, None, nat_lt, not, All}
+use Rattle.std.specs.List.{AllByRecursion}
+use Rattle.std.proofs.lemmas.Bool.{and_parts, and_from, ltb-true, lt-ltb}
+use Rattle.std.proofs.lemmas.List.Elements.{All-from_recursion}
+use Rattle.yp_base.specs.declared.row.Value.{Value}
+use Rattle.yp_schema.specs.declared.schema.Kind.TheVariants.{Container}
+use Rattle.yp_schema.specs.Nodes.{node_at, same_number, is_key}
+use Rattle.yp_data_json.specs.Reading.{below}
 use Rattle.serde_json.specs.Data.{Data}
 use Rattle.yp_base.specs.declared.path.Seg.{Seg}
 use Rattle.yp_schema.specs.declared.schema.SchemaNode.{SchemaNode}
-use Rattle.yp_schema.specs.Datastore.{is_segment, goes_down, is_path_of, is_place}
+use Rattle.yp_base.specs.declared.row.Row.{Row}
+use Rattle.yp_schema.specs.Datastore.{keys_of_kind, is_segment, goes_down, is_path_of, last_node, is_key_at, ends_in_key, is_place, holds_value, IsRowOf, AreWritable, AreWhole}
 use Rattle.yp_data_json.specs.AtPath.{object_read, last_read, rows_read}
 
 last_is : (nodes : List SchemaNode) (front : List Seg) (s : Seg) (above : List Seg) (seg : Seg) (d : Data) → last_read nodes front s (above ++ seg ∷ []) d ≡ object_read nodes seg.node (front ++ s ∷ above) seg.keys d
@@ -28,3 +35,32 @@ down_within nodes parent (s ∷ above) seg h = down_within nodes (Some s.node) a
 pub place_within : (nodes : List SchemaNode) (above : List Seg) (seg : Seg) → is_place nodes (above ++ seg ∷ []) ≡ true → seg.node < length nodes
 place_within nodes [] seg h = down_within nodes None [] seg (and_parts _ _ h).0
 place_within nodes (s ∷ above) seg h = down_within nodes None (s ∷ above) seg (and_parts _ _ h).0
+
+-- ---- where data may stand
+
+-- the rows of what stands at a place can be written there
+pub whole_writable : (nodes : List SchemaNode) (at : List Seg) (rows : List Row) → AreWhole nodes at rows → AreWritable nodes at rows
+whole_writable nodes at rows whole = whole.writable
+
+open_end : (nodes : List SchemaNode) (end : Option ℕ) (value : Value) → holds_value nodes end value ≡ true → not (is_key_at nodes end) ≡ true
+open_end nodes None value h = refl
+open_end nodes (Some n) value h = (and_parts _ _ h).0
+
+open_path : (nodes : List SchemaNode) (path : List Seg) → is_path_of nodes path ≡ true → not (ends_in_key nodes path) ≡ true → is_place nodes path ≡ true
+open_path nodes [] is free = refl
+open_path nodes (seg ∷ path) is free = and_from _ _ is free
+
+each_place : (nodes : List SchemaNode) (rows : List Row) → AllByRecursion (IsRowOf nodes) rows → AllByRecursion (λ row. is_place nodes row.path ≡ true) rows
+each_place nodes [] all = tt
+each_place nodes (row ∷ rows) all = (open_path nodes row.path all.0.path (open_end nodes (last_node row.path) row.value all.0.value), each_place nodes rows all.1)
+
+-- data may stand at the path of each row
+pub row_places : (nodes : List SchemaNode) (rows : List Row) → AreWhole nodes [] rows → All (λ row. is_place nodes row.path ≡ true) rows
+row_places nodes rows whole = All-from_recursion (λ (row : Row). is_place nodes row.path ≡ true) rows (each_place nodes rows whole.writable.of_schema)
+
+-- and at a container at the top
+pub top_container : (nodes : List SchemaNode) (n : ℕ) → n < length nodes → (node_at n nodes).parent ≡ None → (node_at n nodes).kind ≡ Container → is_place nodes (below [] n []) ≡ true
+top_container nodes n low top kind =
+    and_from _ _
+    (and_from _ _ (and_from _ _ (ap (λ p. same_number p None) top) (and_from _ _ (lt-ltb n (length nodes) low) (ap (λ k. keys_of_kind k nodes (node_at n nodes) []) kind))) refl)
+    (ap (λ p. not (is_key n p nodes)) top)

@@ -321,3 +321,6 @@ fn has_segment(row: &Row, depth: usize, seg: &Seg) -> bool
 {
     row.path.len() > depth && segment(row, depth) == seg
 }
+
+#[cfg(test)]
+mod tests;
