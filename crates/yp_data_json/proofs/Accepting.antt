@@ -30,7 +30,7 @@ use Rattle.yp_data_json.proofs.Accepted.{Fresh, one_accepted, fresh_later, fresh
 abbrev pub Gives : Result (List Row) DataFault → Type 0
 Gives read = (after : List Row) × (read ≡ Ok after)
 
-next : {A : Type 0} (r : Result A DataFault) (x : A) (f : A → Result (List Row) DataFault) → r ≡ Ok x → Gives (f x) → Gives (r >>= f)
+pub next : {A : Type 0} (r : Result A DataFault) (x : A) (f : A → Result (List Row) DataFault) → r ≡ Ok x → Gives (f x) → Gives (r >>= f)
 next r x f e g = (g.0, ap (λ (s : Result _ DataFault). s >>= f) e ∙ g.1)
 
 entered_free : (path : List Seg) (value : Value) (rows : List Row) → value_at path rows ≡ None → entered path value rows ≡ Ok (put_row (row_at path value) rows)
@@ -97,7 +97,7 @@ module _ (nodes : List SchemaNode) where
         | LeafList ↦ λ k. absurd k
       ] is
 
-  value_gives : (n : ℕ) (path : List Seg) (d : Data) (rows : List Row) (a : Atom) → IsAtomOf nodes n d a → value_at (below path n (a ∷ [])) rows ≡ None → Gives (value_read nodes n path d rows)
+  pub value_gives : (n : ℕ) (path : List Seg) (d : Data) (rows : List Row) (a : Atom) → IsAtomOf nodes n d a → value_at (below path n (a ∷ [])) rows ≡ None → Gives (value_read nodes n path d rows)
   value_gives n path d rows a is none =
       next (typed_atom (node_at n nodes).ty d) a (λ atom. entered (below path n (atom ∷ [])) Member rows) (atom_of (node_at n nodes).ty d a is)
       (put_row (row_at (below path n (a ∷ [])) Member) rows, entered_free (below path n (a ∷ [])) Member rows none)

@@ -47,10 +47,10 @@ Reading = Result (List Row) DataFault
 abbrev ok : List Row → Reading
 ok rows = Ok rows
 
-keys_tie : (keys : List Atom) → are_keys keys keys ≡ true
+pub keys_tie : (keys : List Atom) → are_keys keys keys ≡ true
 keys_tie keys = (slice_eq-Decides (order_decides atoms_total atoms_exact) keys keys (are_keys keys keys) refl).1 refl
 
-name_ties : (name : List ℕ) → pointwise nat_eq name name ≡ true
+pub name_ties : (name : List ℕ) → pointwise nat_eq name name ≡ true
 name_ties name = (bytes_eq-Decides name name).1 refl
 
 module _ (nodes : List SchemaNode) (schema : IsSchema nodes) where

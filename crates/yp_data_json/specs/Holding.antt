@@ -10,10 +10,11 @@ use Rattle.yp_base.specs.Json.{value_in}
 use Rattle.yp_schema.specs.declared.schema.SchemaNode.{SchemaNode}
 use Rattle.yp_schema.specs.declared.schema.Kind.{Kind}
 use Rattle.yp_schema.specs.declared.schema.Kind.TheVariants.{Container, Presence, List as Listing, Leaf, LeafList}
-use Rattle.yp_schema.specs.Nodes.{node_at, child_of, is_key}
+use Rattle.yp_schema.specs.Nodes.{node_at, child_of, is_key, qualified_name}
 use Rattle.serde_json.specs.Data.{Data, null, boolean, number, string, array, object, Items, no_items, item, Members, no_members, member}
 use Rattle.serde_json.specs.Find.{get_member}
 use Rattle.yp_data_json.specs.Reading.{below, row_at}
+use Rattle.yp_data_json.specs.Writing.{last_segment}
 
 -- ---- names
 
@@ -126,15 +127,6 @@ abbrev mutual
   IsEntryOf nodes n (string s) = ⊥
   IsEntryOf nodes n (array ds) = ⊥
 
--- data of a whole datastore
-abbrev pub IsDatastoreData : List SchemaNode → Data → Type 0
-IsDatastoreData nodes (object ms) = AreMembersOf nodes None ms
-IsDatastoreData nodes null = ⊥
-IsDatastoreData nodes (boolean b) = ⊥
-IsDatastoreData nodes (number x) = ⊥
-IsDatastoreData nodes (string s) = ⊥
-IsDatastoreData nodes (array ds) = ⊥
-
 -- ---- rows
 
 -- a leaf's row
@@ -177,11 +169,59 @@ abbrev mutual
   EntryHolds nodes n path (string s) row = ⊥
   EntryHolds nodes n path (array ds) row = ⊥
 
--- a row of a whole datastore's data
-abbrev pub DatastoreHolds : List SchemaNode → Data → Row → Type 0
-DatastoreHolds nodes (object ms) row = MembersHold nodes None [] ms row
-DatastoreHolds nodes null row = ⊥
-DatastoreHolds nodes (boolean b) row = ⊥
-DatastoreHolds nodes (number x) row = ⊥
-DatastoreHolds nodes (string s) row = ⊥
-DatastoreHolds nodes (array ds) row = ⊥
+-- ---- at a place
+
+-- an array of one item
+abbrev pub IsOneItem : (Data → Type 0) → Data → Type 0
+IsOneItem is (array no_items) = ⊥
+IsOneItem is (array (item d no_items)) = is d
+IsOneItem is (array (item d (item e ds))) = ⊥
+IsOneItem is null = ⊥
+IsOneItem is (boolean b) = ⊥
+IsOneItem is (number x) = ⊥
+IsOneItem is (string s) = ⊥
+IsOneItem is (object ms) = ⊥
+
+-- data of what a path's last segment names: of a list one entry with its keys, of a leaf-list one entry with its value (RFC 8040 section 3.5.3)
+abbrev pub IsNamed : List SchemaNode → Seg → Data → Type 0
+IsNamed nodes seg d =
+    OfKind (node_at seg.node nodes).kind
+    (IsDataOf nodes seg.node d)
+    (IsOneItem (λ e. IsEntryOf nodes seg.node e × IsEntryWith nodes seg.node e seg.keys) d)
+    (IsDataOf nodes seg.node d)
+    (IsOneItem (λ e. (atom : Atom) × IsAtomOf nodes seg.node e atom × (seg.keys ≡ atom ∷ [])) d)
+
+-- one member, of the node's qualified name
+abbrev pub IsOneMember : List SchemaNode → Seg → Members → Type 0
+IsOneMember nodes seg no_members = ⊥
+IsOneMember nodes seg (member name d no_members) = (name ≡ qualified_name (node_at seg.node nodes)) × IsNamed nodes seg d
+IsOneMember nodes seg (member name d (member other e ms)) = ⊥
+
+-- a row of some member
+abbrev pub SomeHolds : List SchemaNode → ℕ → List Seg → Members → Row → Type 0
+SomeHolds nodes n above no_members row = ⊥
+SomeHolds nodes n above (member name d ms) row = DataHolds nodes n above d row ⊎ SomeHolds nodes n above ms row
+
+-- what is so of an object's members
+abbrev pub IsObject : (Members → Type 0) → Data → Type 0
+IsObject is (object ms) = is ms
+IsObject is null = ⊥
+IsObject is (boolean b) = ⊥
+IsObject is (number x) = ⊥
+IsObject is (string s) = ⊥
+IsObject is (array ds) = ⊥
+
+-- the segments above the last
+abbrev pub above_last : Seg → List Seg → List Seg
+above_last seg [] = []
+above_last seg (next ∷ rest) = seg ∷ above_last next rest
+
+-- data at a place: at the empty path of a whole datastore, an object of nodes at the top; at any other an object of the node that the path names
+abbrev pub IsDataAt : List SchemaNode → List Seg → Data → Type 0
+IsDataAt nodes [] d = IsObject (λ ms. AreMembersOf nodes None ms) d
+IsDataAt nodes (seg ∷ rest) d = IsObject (λ ms. IsOneMember nodes (last_segment seg rest) ms) d
+
+-- a row of data at a place
+abbrev pub HoldsAt : List SchemaNode → List Seg → Data → Row → Type 0
+HoldsAt nodes [] d row = IsObject (λ ms. MembersHold nodes None [] ms row) d
+HoldsAt nodes (seg ∷ rest) d row = IsObject (λ ms. SomeHolds nodes (last_segment seg rest).node (above_last seg rest) ms row) d
