@@ -16,6 +16,7 @@ pub mod KeysPut
 pub mod LastRows
 pub mod Laying
 pub mod Members
+pub mod Names
 pub mod Parts
 pub mod Places
 pub mod PutRows
