@@ -51,9 +51,9 @@ module _ (nodes : List SchemaNode) where
       let is = typed_is (node_at n nodes).ty d value e in (
         (value, is),
         adds_as (λ row. row ≡ row_at (below path n []) value) (IsLeafRow nodes n path d) rows after
-        (λ row k. (value, is, k))
-        (λ row k. k.2 ∙ ap (λ (v : Value). row_at (below path n []) v) (one_value (node_at n nodes).ty d k.0 value k.1 is))
-        (subst (λ (rs : List Row). Adds (λ row. row ≡ row_at (below path n []) value) rows rs) (given _ after g) (adds_put (below path n []) value rows (none_here (below path n []) rows (free [])))),
+            (λ row k. (value, is, k))
+            (λ row k. k.2 ∙ ap (λ (v : Value). row_at (below path n []) v) (one_value (node_at n nodes).ty d k.0 value k.1 is))
+            (subst (λ (rs : List Row). Adds (λ row. row ≡ row_at (below path n []) value) rows rs) (given _ after g) (adds_put (below path n []) value rows (none_here (below path n []) rows (free [])))),
       ))
 
   plain_accepted : (n : ℕ) (path : List Seg) (d : Data) (rows after : List Row) → Free path n rows → plain_read nodes n path d rows ≡ Ok after
@@ -170,7 +170,7 @@ module _ (nodes : List SchemaNode) where
                   let one = inner n low (fresh n here) i in (
                     (n, c, one.0),
                     adds_as (DataHolds nodes n path d) (OneHolds parent path name d) rows after (λ row x. (n, c, k, x))
-                    (λ row x. subst (λ (m : ℕ). DataHolds nodes m path d row) (same_child parent name x.0 n x.1 c) x.3) one.1,
+                        (λ row x. subst (λ (m : ℕ). DataHolds nodes m path d row) (same_child parent name x.0 n x.1 c) x.3) one.1,
                   ))
             ] refl f
       ] refl h
@@ -267,7 +267,7 @@ module _ (nodes : List SchemaNode) where
                 (fresh_inside (below path n []) ms rows (free [])) e in (
                   inner.0,
                   adds_as (MembersHold nodes (Some n) (below path n []) ms) (λ row. ((Container ≡ Presence) × (row ≡ row_at (below path n []) Present)) ⊎ MembersHold nodes (Some n) (below path n []) ms row) rows after
-                  (λ row x. inr x) (λ row x. ⊎_elim (λ y. let other : Container ≡ Presence = y.0 in let no : ⊥ = cc in absurd no) (λ y. y) x) inner.1,
+                      (λ row x. inr x) (λ row x. ⊎_elim (λ y. let other : Container ≡ Presence = y.0 in let no : ⊥ = cc in absurd no) (λ y. y) x) inner.1,
                 )
             | Presence ↦ λ k e.
                 let put = put_row (row_at (below path n []) Present) rows in
@@ -276,9 +276,9 @@ module _ (nodes : List SchemaNode) where
                 (fresh_put (below path n []) Present ms rows put refl (free [])) e in (
                   inner.0,
                   adds_as (λ row. (row ≡ row_at (below path n []) Present) ⊎ MembersHold nodes (Some n) (below path n []) ms row)
-                  (λ row. ((Presence ≡ Presence) × (row ≡ row_at (below path n []) Present)) ⊎ MembersHold nodes (Some n) (below path n []) ms row) rows after
-                  (λ row x. ⊎_elim (λ y. inl (refl, y)) (λ y. inr y) x) (λ row x. ⊎_elim (λ y. inl y.1) (λ y. inr y) x)
-                  (adds_on (λ row. row ≡ row_at (below path n []) Present) (MembersHold nodes (Some n) (below path n []) ms) rows put after own inner.1),
+                      (λ row. ((Presence ≡ Presence) × (row ≡ row_at (below path n []) Present)) ⊎ MembersHold nodes (Some n) (below path n []) ms row) rows after
+                      (λ row x. ⊎_elim (λ y. inl (refl, y)) (λ y. inr y) x) (λ row x. ⊎_elim (λ y. inl y.1) (λ y. inr y) x)
+                      (adds_on (λ row. row ≡ row_at (below path n []) Present) (MembersHold nodes (Some n) (below path n []) ms) rows put after own inner.1),
                 )
             | Listing ↦ λ k e. let no : ⊥ = cc in absurd no
             | Leaf ↦ λ k e. let no : ⊥ = cc in absurd no

@@ -83,7 +83,7 @@ module _ (nodes : List SchemaNode) (schema : IsSchema nodes) where
         tested (are_keys found seg.keys) InvalidValue (entered (below above seg.node found) Present []) mid f
         (λ t j. (
           ap (λ (r : Result (List Atom) DataFault). r >>= λ ks. entered (below above seg.node ks) Present [] >>= λ next. members_read nodes (Some seg.node) (below above seg.node ks) ms next) e
-          ∙ ap (λ (r : Result (List Row) DataFault). r >>= λ next. members_read nodes (Some seg.node) (below above seg.node found) ms next) j ∙ i,
+              ∙ ap (λ (r : Result (List Row) DataFault). r >>= λ next. members_read nodes (Some seg.node) (below above seg.node found) ms next) j ∙ i,
           subst (λ (ks : List Atom). IsEntryWith nodes seg.node (object ms) ks) (keys_same found seg.keys t) (keys_are nodes (node_at seg.node nodes).keys ms found e),
         ))))
 

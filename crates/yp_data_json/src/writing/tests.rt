@@ -64,12 +64,7 @@ fn writes(
 
 /// The path of a container at the top.
 #[tactic(auto, using(crate::proofs::Places::top_container))]
-fn top_container(
-    rt: &impl Abort,
-    alloc: Global,
-    schema: &Schema,
-    node: u32,
-) -> Result<Path, Fail>
+fn top_container(rt: &impl Abort, alloc: Global, schema: &Schema, node: u32) -> Result<Path, Fail>
     ensures { IfOk result (λ path. is_place schema.now path ≡ true) }
 {
     assert!(rt; node < schema.count());
@@ -120,7 +115,14 @@ fn a_container_without_rows_is_left_out_unless_it_has_presence(
     let alloc = rt.alloc();
     let schema = schema(alloc)?;
     let top = Series::from_vec(Vec::new(alloc));
-    writes(&rt, alloc, &schema, &top, r#"{"acme:box":{"inner":{}}}"#, "{}")?;
+    writes(
+        &rt,
+        alloc,
+        &schema,
+        &top,
+        r#"{"acme:box":{"inner":{}}}"#,
+        "{}",
+    )?;
     writes(
         &rt,
         alloc,
