@@ -3,9 +3,8 @@ use Rattle.std.proofs.Common.{◌≡◌, ℕ, ◌+◌, ◌<◌, Bool, true, fals
 use Rattle.std.specs.List.{AllByRecursion}
 use Rattle.yp_base.specs.declared.path.Seg.{Seg}
 use Rattle.yp_base.specs.declared.row.Row.{Row}
-use Rattle.yp_base.specs.declared.notice.Notice.TheVariants.{Full, Changes}
+use Rattle.yp_base.specs.declared.notice.Notice.TheVariants.{Changes}
 use Rattle.yp_base.specs.Order.{is_within}
-use Rattle.yp_base.specs.Rows.{rows_within}
 use Rattle.yp_base.proofs.RowLaws.{picked}
 use Rattle.yp_schema.specs.declared.schema.SchemaNode.{SchemaNode}
 use Rattle.push_program.specs.declared.command.Command.{Command}

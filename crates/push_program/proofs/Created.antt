@@ -1,58 +1,38 @@
 -- Creations, and what is left where one is refused.
-use Rattle.std.proofs.Common.{◌≡◌, ℕ, ◌<◌, Bool, true, false, true≢false, not, ◌||◌, ◌&&◌, List, [], ◌∷◌, length, Option, Some, None, is_some, Result, Ok, Err, refl, sym, ap, ◌∙◌, cond, arith, nat_lt}
+use Rattle.std.proofs.Common.{◌≡◌, Bool, true, false, true≢false, not, ◌||◌, List, [], ◌∷◌, length, Option, Some, is_some, Ok, Err, refl, sym, ap, ◌∙◌, cond, nat_lt}
 use Rattle.std.specs.List.{AllByRecursion}
-use Rattle.std.specs.Ordering.{is_eq, is_lt, is_gt, eq_by_cmp}
-use Rattle.std.specs.declared.cmp.Ordering.{Ordering}
-use Rattle.std.specs.declared.cmp.Ordering.TheVariants.{Less, Equal, Greater}
-use Rattle.std.proofs.lemmas.Cmp.{tied_itself}
 use Rattle.yp_base.specs.declared.path.Seg.{Seg}
 use Rattle.yp_base.specs.declared.row.Row.{Row}
-use Rattle.yp_base.specs.Order.{segment_cmp, path_cmp, is_front, is_within}
-use Rattle.yp_base.specs.OrderLaws.{segments_total}
-use Rattle.yp_base.specs.Rows.{AreInOrder, value_at, next_row, has_within, put_rows, rows_without}
-use Rattle.yp_base.proofs.Exact.{paths_exact}
+use Rattle.yp_base.specs.Order.{is_within}
+use Rattle.yp_base.specs.Rows.{AreInOrder, next_row, has_within, put_rows, rows_without}
 use Rattle.yp_base.proofs.RowLaws.{picked-puts}
-use Rattle.yp_base.proofs.Fronts.{front_not_after}
 use Rattle.yp_schema.specs.declared.schema.SchemaNode.{SchemaNode}
-use Rattle.push_program.specs.declared.command.Tag.{Tag}
+use Rattle.yp_schema.specs.Datastore.{is_path_of}
+use Rattle.push_program.specs.Collected.{is_below_top}
 use Rattle.push_program.specs.declared.command.Tag.TheVariants.{DataMissing, DataExists, TooBig}
-use Rattle.push_program.specs.Journal.{stand_above, within_limit, row_limit, created}
+use Rattle.push_program.specs.Journal.{stand_above, within_limit, created}
 use Rattle.push_program.specs.Received.{AllWithin}
 use Rattle.push_program.proofs.Picks.{dropped, all_without}
 
-within_itself : (path : List Seg) → is_within path path ≡ true
-within_itself [] = refl
-within_itself (seg ∷ path) = ap (λ b. b && is_within path path) (ap is_eq (tied_itself segments_total seg)) ∙ within_itself path
+either : (w h : Bool) (row : Row) (next : Option Row) → is_some next ≡ h → is_some (cond w (Some row) next) ≡ (w || h)
+either true h row next is = refl
+either false h row next is = is
 
--- what is found at a path, or past it and below it, is what is at or below it
-there_at : (o : Ordering) (path : List Seg) (row : Row) (rows : List Row) → path_cmp path row.path ≡ o
-    → (is_some (value_at path rows) || is_some (next_row path path rows)) ≡ has_within path rows
-    → (is_some (value_at path (row ∷ rows)) || is_some (next_row path path (row ∷ rows))) ≡ has_within path (row ∷ rows)
-there_at Less path row rows is later = less_at (is_within path row.path) path row rows is refl later
-  where
-    less_at : (w : Bool) (path : List Seg) (row : Row) (rows : List Row) → path_cmp path row.path ≡ Less → is_within path row.path ≡ w
-        → (is_some (value_at path rows) || is_some (next_row path path rows)) ≡ has_within path rows
-        → (is_some (value_at path (row ∷ rows)) || is_some (next_row path path (row ∷ rows))) ≡ has_within path (row ∷ rows)
-    less_at true path row rows is within later = rw (is, within) (either (is_some (value_at path rows)))
-      where
-        either : (b : Bool) → (b || true) ≡ true
-        either true = refl
-        either false = refl
-    less_at false path row rows is within later = rw (is, within) later
-there_at Equal path row rows is later =
-    let within : is_within path row.path ≡ true = ap (is_within path) (sym (paths_exact path row.path is)) ∙ within_itself path in
-    rw (is, within) refl
-there_at Greater path row rows is later = greater_at (is_within path row.path) path row rows is refl later
-  where
-    greater_at : (w : Bool) (path : List Seg) (row : Row) (rows : List Row) → path_cmp path row.path ≡ Greater → is_within path row.path ≡ w
-        → (is_some (value_at path rows) || is_some (next_row path path rows)) ≡ has_within path rows
-        → (is_some (value_at path (row ∷ rows)) || is_some (next_row path path (row ∷ rows))) ≡ has_within path (row ∷ rows)
-    greater_at true path row rows is within later = absurd (true≢false (sym (ap is_gt is) ∙ front_not_after segment_cmp path row.path within))
-    greater_at false path row rows is within later = rw (is, within) later
+found_at : (p : List Seg) (seg : Seg) (path : List Seg) (row : Row) (rows : List Row) → row.path ≡ p → is_some (next_row [] (seg ∷ path) rows) ≡ has_within (seg ∷ path) rows
+    → is_some (next_row [] (seg ∷ path) (row ∷ rows)) ≡ has_within (seg ∷ path) (row ∷ rows)
+found_at [] seg path row rows is later = rw (is) later
+found_at (b ∷ bs) seg path row rows is later = rw (is) (either (is_within (seg ∷ path) (b ∷ bs)) (has_within (seg ∷ path) rows) (record { path = b ∷ bs; value = row.value }) (next_row [] (seg ∷ path) rows) later)
 
-pub is_within_there : (path : List Seg) (rows : List Row) → (is_some (value_at path rows) || is_some (next_row path path rows)) ≡ has_within path rows
-is_within_there path [] = refl
-is_within_there path (row ∷ rows) = there_at (path_cmp path row.path) path row rows refl (is_within_there path rows)
+-- what is at or below a path is found past the top
+pub found_from_top : (path : List Seg) (rows : List Row) → is_below_top path ≡ true → is_some (next_row [] path rows) ≡ has_within path rows
+found_from_top [] rows below = absurd (true≢false (sym below))
+found_from_top (seg ∷ path) [] below = refl
+found_from_top (seg ∷ path) (row ∷ rows) below = found_at row.path seg path row rows refl (found_from_top (seg ∷ path) rows below)
+
+-- a path of a schema is below the top
+pub below_top : (nodes : List SchemaNode) (path : List Seg) → is_path_of nodes path ≡ true → is_below_top path ≡ true
+below_top nodes [] is = is
+below_top nodes (seg ∷ path) is = refl
 
 none_without : (target : List Seg) (rows : List Row) → AllWithin target rows → AllByRecursion (λ row. not (is_within target row.path) ≡ false) rows
 none_without target [] all = tt

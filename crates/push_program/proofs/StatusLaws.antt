@@ -1,5 +1,5 @@
 -- What each status tells a caller follows from the one relation of a call.
-use Rattle.std.proofs.Common.{◌≡◌, ℕ, Bool, true, false, true≢false, List, [], Option, Some, None, take, drop, Result, Ok, Err, refl, sym, ap, ◌∙◌, subst}
+use Rattle.std.proofs.Common.{◌≡◌, ℕ, true, false, true≢false, List, [], Option, Some, None, take, drop, Result, Ok, Err, refl, sym, ap, ◌∙◌, subst}
 use Rattle.std.specs.Prelude.{IfSome, ◌++◌}
 use Rattle.push_program.specs.declared.fault.ScriptFault.{ScriptFault}
 use Rattle.push_program.specs.declared.fault.ScriptFault.TheVariants.{At}

@@ -1,7 +1,6 @@
 -- A script has no byte past the most that it may have.
-use Rattle.std.proofs.Common.{◌≡◌, ℕ, zero, suc, ◌+◌, ◌≤◌, ◌<◌, ◌==◌, ◌&&◌, ◌||◌, Bool, true, false, true≢false, List, [], ◌∷◌, length, take, drop, Option, Some, None, is_some, Result, Ok, Err, refl, sym, ap, subst, ◌∙◌, cond, arith, nat_le, min}
-use Rattle.std.proofs.lemmas.List.{length-take}
-use Rattle.std.specs.Prelude.{IfSome, IfOk, option_and_then, option_map}
+use Rattle.std.proofs.Common.{◌≡◌, ℕ, zero, suc, ◌+◌, ◌≤◌, ◌==◌, ◌&&◌, ◌||◌, Bool, true, false, true≢false, List, [], ◌∷◌, length, take, drop, Option, Some, None, is_some, Result, Ok, refl, sym, subst, ◌∙◌, cond, arith, nat_le}
+use Rattle.std.specs.Prelude.{IfOk, option_and_then}
 use Rattle.std.specs.List.{AllByRecursion}
 use Rattle.serde_json.specs.Data.{Data}
 use Rattle.yp_schema.specs.declared.schema.SchemaNode.{SchemaNode}
@@ -10,7 +9,7 @@ use Rattle.push_program.specs.declared.fault.ScriptFault.{ScriptFault}
 use Rattle.push_program.specs.declared.script.Script.{Script}
 use Rattle.push_program.specs.Lines.{Line, onto, pieces_of, without_feed, is_blank, json_of, is_in_script, json_in, lines_from}
 use Rattle.push_program.specs.LineForms.{start_said, part_said, receiver_said, command_said}
-use Rattle.push_program.specs.Script.{◌>>=◌, known, next_said, part_of, part_numbers, parts_in_front, behind, behind_parts, at_line, schema_there, schema_said, establishes, commands_said, script_said, script_of, script_in}
+use Rattle.push_program.specs.Script.{known, next_said, part_of, part_numbers, parts_in_front, behind, behind_parts, at_line, schema_there, schema_said, establishes, commands_said, script_said, script_of, script_in}
 use Rattle.push_program.proofs.Commands.{bind_is, any_ok}
 use Rattle.push_program.proofs.Picks.{both}
 

@@ -3,6 +3,7 @@ ghost use Rattle.std.specs.Prelude.{◌≡◌, ◌<◌, ◌++◌, ◌∷◌, [],
 ghost use Rattle.std.specs.List.{AllByRecursion};
 ghost use Rattle.yp_base.specs.Rows.{put_rows, has_within, next_row, value_at};
 ghost use Rattle.yp_schema.specs.Datastore.{is_path_of, AreWhole};
+ghost use Rattle.push_program.specs.Collected.{is_below_top};
 ghost use Rattle.push_program.specs.Journal.{has_own_row, stand_above, created, Creates};
 
 use crate::command::Tag;
@@ -70,21 +71,20 @@ fn stands_on<L: Ledger>(
     }
 }
 
-/// Whether a row is below a path.
-fn is_past<L: Ledger>(rows: &Tree, path: &Path, steps: &mut Steps<L>) -> bool
-    ensures { result ≡ is_some (next_row path.now path.now rows.now) }
+/// Whether a row is past one path, and at or below another.
+fn is_behind<L: Ledger>(rows: &Tree, after: &Path, under: &Path, steps: &mut Steps<L>) -> bool
+    ensures { result ≡ is_some (next_row after.now under.now rows.now) }
 {
-    rows.next(path, path, steps).is_some()
+    rows.next(after, under, steps).is_some()
 }
 
-/// Whether a row is at or below a path.
-fn is_there<L: Ledger>(rows: &Tree, path: &Path, steps: &mut Steps<L>) -> bool
+/// Whether a row is at or below a path: it would be the first past the top.
+fn is_there<L: Ledger>(alloc: Global, rows: &Tree, path: &Path, steps: &mut Steps<L>) -> bool
+    requires { is_below_top path.now ≡ true }
     ensures { result ≡ has_within path.now rows.now }
 {
-    if has_row(rows, path, steps) {
-        return true;
-    }
-    is_past(rows, path, steps)
+    let top = Series::from_vec(Vec::new(alloc));
+    is_behind(rows, &top, path, steps)
 }
 
 /// Puts rows, one after another.
@@ -115,7 +115,7 @@ pub fn create<L: Ledger>(
     if !stands_on(alloc, schema, rows, top, target.items(), steps)? {
         return Ok(Some(Tag::DataMissing));
     }
-    if is_there(rows, target, steps) {
+    if is_there(alloc, rows, target, steps) {
         return Ok(Some(Tag::DataExists));
     }
     put_all(alloc, rows, new)?;

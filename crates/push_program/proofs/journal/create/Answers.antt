@@ -3,7 +3,7 @@ use Rattle.std.proofs.lemmas.Bool.{lt-ltb}
 use Rattle.yp_base.specs.Rows.{rows_without, put_rows, has_within}
 use Rattle.push_program.specs.Journal.{stand_above}
 use Rattle.push_program.proofs.Ends.{each_within}
-use Rattle.push_program.proofs.Created.{too_big, taken_back}
+use Rattle.push_program.proofs.Created.{too_big, taken_back, below_top}
 use Rattle.push_program.proofs.journal.create.Goals as goal
 
 pub stands_on-requires : goal.stands_on-requires
@@ -19,3 +19,6 @@ returns-then-len-gt-MOST_ROWS g c =
       c.in_ok-cut.ensures.rest ∙ ap (rows_without c.args.target.now) c.in_ok-put_all.ensures
           ∙ taken_back c.args.target.now c.args.new.now c.args.rows.now c.len-before.ensures.order c.requires.whole.writable.within apart,
     )
+
+pub is_there-requires : goal.is_there-requires
+is_there-requires g c = below_top c.args.schema.now c.args.target.now c.requires.path
