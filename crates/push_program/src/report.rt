@@ -57,7 +57,8 @@ fn report_with<L: Ledger>(alloc: Global, script: &Script, blank: Blank) -> Resul
         commands,
         &mut steps,
     )?;
-    let mut text = String::new(alloc);
+    let bytes = run.replies.len().saturating_add(run.sent.len());
+    let mut text = String::with_capacity(alloc, bytes)?;
     text.push_str(run.replies.as_str())?;
     text.push_str(run.sent.as_str())?;
     push_end(alloc, script, &run, &mut text, &mut steps)?;
