@@ -58,15 +58,20 @@ HasKeys nodes [] ms (atom ∷ atoms) = ⊥
 HasKeys nodes (k ∷ ks) ms [] = ⊥
 HasKeys nodes (k ∷ ks) ms (atom ∷ atoms) = HasKey nodes k ms atom × HasKeys nodes ks ms atoms
 
--- what tells an item from the others of its array: of a list entry its keys (RFC 7950 section 7.8.2), of a leaf-list entry its value (section 7.7)
-abbrev pub IsEntryWith : List SchemaNode → ℕ → Data → List Atom → Type 0
-IsEntryWith nodes n (object ms) keys = HasKeys nodes (node_at n nodes).keys ms keys
-IsEntryWith nodes n null keys = ⊥
-IsEntryWith nodes n (boolean b) keys = ⊥
-IsEntryWith nodes n (number x) keys = ⊥
-IsEntryWith nodes n (string s) keys = ⊥
-IsEntryWith nodes n (array ds) keys = ⊥
+-- what is so of an object's members
+abbrev pub IsObject : (Members → Type 0) → Data → Type 0
+IsObject is (object ms) = is ms
+IsObject is null = ⊥
+IsObject is (boolean b) = ⊥
+IsObject is (number x) = ⊥
+IsObject is (string s) = ⊥
+IsObject is (array ds) = ⊥
 
+-- an entry of a list is told from the others by its keys (RFC 7950 section 7.8.2)
+abbrev pub IsEntryWith : List SchemaNode → ℕ → Data → List Atom → Type 0
+IsEntryWith nodes n d keys = IsObject (λ ms. HasKeys nodes (node_at n nodes).keys ms keys) d
+
+-- and one of a leaf-list by its value (section 7.7)
 abbrev pub IsAtomOf : List SchemaNode → ℕ → Data → Atom → Type 0
 IsAtomOf nodes n d atom = IsOfType (node_at n nodes).ty d (Plain atom)
 
@@ -201,15 +206,6 @@ IsOneMember nodes seg (member name d (member other e ms)) = ⊥
 abbrev pub SomeHolds : List SchemaNode → ℕ → List Seg → Members → Row → Type 0
 SomeHolds nodes n above no_members row = ⊥
 SomeHolds nodes n above (member name d ms) row = DataHolds nodes n above d row ⊎ SomeHolds nodes n above ms row
-
--- what is so of an object's members
-abbrev pub IsObject : (Members → Type 0) → Data → Type 0
-IsObject is (object ms) = is ms
-IsObject is null = ⊥
-IsObject is (boolean b) = ⊥
-IsObject is (number x) = ⊥
-IsObject is (string s) = ⊥
-IsObject is (array ds) = ⊥
 
 -- the segments above the last
 abbrev pub above_last : Seg → List Seg → List Seg
