@@ -106,7 +106,7 @@ abbrev mutual
   AreMembersOf nodes parent no_members = Unit {0}
   AreMembersOf nodes parent (member name d ms) = ((n : ℕ) × (child_of parent name nodes ≡ Some n) × IsDataOf nodes n d) × AreMembersOf nodes parent ms
 
-  -- a container is an object (section 5.1), a list an array of entries (5.4), a leaf a value of its type (5.2), a leaf-list an array of values (5.3)
+  -- a leaf is a value of its type (RFC 7951 section 5.1), a container an object (5.2), a leaf-list an array of values (5.3), a list an array of entries (5.4)
   pub IsDataOf : List SchemaNode → ℕ → Data → Type 0
   IsDataOf nodes n (object ms) = OfKind (node_at n nodes).kind (AreMembersOf nodes (Some n) ms) ⊥ (IsValue nodes n (object ms)) ⊥
   IsDataOf nodes n (array ds) =
