@@ -8,7 +8,7 @@ import json
 import sys
 
 
-def main():
+def main() -> None:
     count = 0
     for line in sys.stdin.buffer:
         if line.strip(b" \t\r\n"):

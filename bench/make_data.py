@@ -6,9 +6,12 @@
 A slot has nine cards, a card 55 ports, a port its speed: 1 + 9 * (1 + 55 * 2) rows.
 """
 
-import sys
+from __future__ import annotations
 
-from make_script import creation, head, write
+import sys
+from typing import Any
+
+from make_script import creation, establish, head, write
 
 SCHEMA = [
     {"path": "/acme:chassis", "kind": "container"},
@@ -23,7 +26,7 @@ SCHEMA = [
 SLOT_ROWS = 1_000
 
 
-def slot(number):
+def slot(number: int) -> dict[str, Any]:
     """A slot, with its cards and ports in falling order, which the program has to put in order."""
     cards = [
         {"id": card, "port": [{"id": port, "speed": 100_000 + number + card + port} for port in range(55, 0, -1)]}
@@ -31,13 +34,13 @@ def slot(number):
     return {"acme:slot": [{"id": number, "card": cards}]}
 
 
-def main():
+def main() -> None:
     if len(sys.argv) != 2 or not sys.argv[1].isdigit():
         sys.exit(__doc__)
     slots, rest = divmod(int(sys.argv[1]), SLOT_ROWS)
     if rest or not 1 <= slots <= 20:
         sys.exit(__doc__)
-    write(head([SCHEMA]))
+    write([*head([SCHEMA]), establish()])
     write(creation(k, f"/acme:chassis/slot={k}", slot(k)) for k in range(1, slots + 1))
 
 

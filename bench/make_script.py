@@ -7,8 +7,12 @@
 A datastore holds 20,000 rows at most, so N is at most 20,000, or 5,000 with --whole.
 """
 
+from __future__ import annotations
+
 import json
 import sys
+from collections.abc import Iterable, Iterator
+from typing import Any
 
 SCHEMA = [
     {"path": "/acme:interfaces", "kind": "container"},
@@ -21,34 +25,40 @@ SCHEMA = [
     {"path": "/acme:interfaces/interface/stats/in", "kind": "leaf", "type": "uint64"},
 ]
 MOST_ROWS = 20_000
+MOST_BYTES = 65_536
+RECEIVER = "collector"
 
 
-def compact(value):
+def compact(value: Any) -> str:
     return json.dumps(value, separators=(",", ":"))
 
 
-def head(schema_parts, name="r1"):
-    """The lines up to the first creation."""
+def head(schema_parts: list[list[dict[str, Any]]]) -> list[dict[str, Any]]:
+    """The lines up to the first command."""
     return [
         {"start": "2026-01-01T00:00:00Z"},
         *({"schema": part} for part in schema_parts),
-        {"receiver": {"name": name, "user": "ann", "queue": 4, "take": "auto"}},
-        {"establish": {"by": name, "datastore": "ietf-datastores:operational", "on-change": {}}},
+        {"receiver": {"name": RECEIVER, "user": "ann", "queue": 4, "take": "auto"}},
     ]
 
 
-def creation(number, target, value):
+def establish() -> dict[str, Any]:
+    """The subscription of everything."""
+    return {"establish": {"by": RECEIVER, "datastore": "ietf-datastores:operational", "on-change": {}}}
+
+
+def creation(number: int, target: str, value: Any) -> dict[str, Any]:
     edit = {"edit-id": "1", "operation": "create", "target": target, "value": value}
     return {"patch": {"ietf-yang-patch:yang-patch": {"patch-id": str(number), "edit": [edit]}}}
 
 
-def scattered(count):
+def scattered(count: int) -> Iterator[int]:
     """The numbers below count in an order that is neither rising nor falling."""
     step = next(s for s in (7919, 104729) if count % s)
     return (k * step % count for k in range(count))
 
 
-def entries(count, whole):
+def entries(count: int, whole: bool) -> Iterator[tuple[str, Any]]:
     """So many creations, each with its target and value."""
     each = 1 if whole else 4
     for place, number in enumerate(scattered((count + each - 1) // each)):
@@ -67,15 +77,16 @@ def entries(count, whole):
         yield from steps[:count - place * each]
 
 
-def write(lines):
+def write(lines: Iterable[dict[str, Any]]) -> None:
+    """The lines on standard output, none of them too long for a script."""
     for line in lines:
         text = compact(line)
-        if len(text) > 65_536:
+        if len(text) > MOST_BYTES:
             sys.exit(f"a line of {len(text)} bytes is too long")
         print(text)
 
 
-def main():
+def main() -> None:
     words = [word for word in sys.argv[1:] if word != "--whole"]
     whole = "--whole" in sys.argv
     if len(words) != 1 or not words[0].isdigit():
@@ -83,7 +94,7 @@ def main():
     count = int(words[0])
     if not 1 <= count * (4 if whole else 1) <= MOST_ROWS:
         sys.exit(f"{count} creations: from 1 to {MOST_ROWS // (4 if whole else 1)}")
-    write(head([SCHEMA]))
+    write([*head([SCHEMA]), establish()])
     write(creation(k, target, value) for k, (target, value) in enumerate(entries(count, whole), 1))
 
 
