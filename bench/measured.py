@@ -4,8 +4,8 @@
     python3 -I -S measured.py FILE WORD..
 
 FILE gets one line: the status, the seconds on the clock, the seconds on the processors, the peak memory in
-KiB, and what this script itself has in KiB. A process begins with the peak of the one that starts it, so a
-peak of no more than that isn't known; this script is small, for the sake of small peaks.
+KiB, and the least peak in KiB that can be seen. A process has at least the peak of what it was before it
+became its program; this script is small, for the sake of small peaks, and runs `true` to learn the least.
 """
 
 import os
@@ -13,22 +13,26 @@ import sys
 import time
 
 
-def own_memory() -> int:
-    """The peak memory of this process in KiB."""
-    with open("/proc/self/status", encoding="ascii") as status:
-        return next(int(line.split()[1]) for line in status if line.startswith("VmHWM:"))
+def run(words: list[str]) -> tuple[int, float, int]:
+    """The status of a program, its seconds on the processors and its peak memory in KiB."""
+    child = os.fork()
+    if child == 0:
+        try:
+            os.execvp(words[0], words)
+        finally:
+            os._exit(127)
+    _, status, usage = os.wait4(child, 0)
+    return os.waitstatus_to_exitcode(status), usage.ru_utime + usage.ru_stime, usage.ru_maxrss
 
 
 def main() -> None:
     result, *words = sys.argv[1:]
-    own = own_memory()
     begun = time.perf_counter()
-    child = os.posix_spawn(words[0], words, os.environ)
-    _, status, usage = os.wait4(child, 0)
+    status, processors, peak = run(words)
     took = time.perf_counter() - begun
+    _, _, least = run(["true"])
     with open(result, "w", encoding="ascii") as out:
-        processors = usage.ru_utime + usage.ru_stime
-        out.write(f"{os.waitstatus_to_exitcode(status)} {took} {processors} {usage.ru_maxrss} {own}\n")
+        out.write(f"{status} {took} {processors} {peak} {least}\n")
 
 
 if __name__ == "__main__":

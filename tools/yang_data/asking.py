@@ -42,6 +42,9 @@ class Instance:
     def data(self) -> str:
         return compact(around(self.path, self.value))
 
+    def __str__(self) -> str:
+        return f"{target_text(self.path)} {compact(self.value)}"
+
 
 def creation(path: Path, value: Json) -> Json:
     edit = {"edit-id": "1", "operation": "create", "target": target_text(path), "value": value}
@@ -85,7 +88,7 @@ class Program:
     def run(self, script: list[str]) -> Report:
         text = "".join(line + "\n" for line in script).encode()
         done = subprocess.run([str(self.path), "run"], input=text, capture_output=True, check=False)
-        return Report(done.returncode, done.stdout.decode().splitlines(), done.stderr.decode().strip())
+        return Report(done.returncode, done.stdout.decode().split("\n"), done.stderr.decode().strip())
 
     def ask(self, head: list[str], receiver: str, instance: Instance) -> Answer:
         """Whether the value can be created at its path, and the data that a subscriber is shown then."""
@@ -142,7 +145,12 @@ def written(root: Node, report: Report) -> list[str]:
             found.append(compact(notice["ietf-yang-push:push-update"]["datastore-contents"]))
         else:
             changes = notice["ietf-yang-push:push-change-update"]["datastore-changes"]["yang-patch"]["edit"]
-            found += [
-                compact(around(read_target(root, edit["target"]), edit["value"]))
-                for edit in changes if "value" in edit]
+            found += [compact(changed_data(root, edit)) for edit in changes if "value" in edit]
     return found
+
+
+def changed_data(root: Node, edit: dict[str, Any]) -> Json:
+    """The data of a whole datastore that an edit's value stands for, in member forms."""
+    path = read_target(root, edit["target"])
+    node = path[-1].node
+    return around(path, {node.member: edit["value"][node.qualified]})

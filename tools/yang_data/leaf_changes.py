@@ -6,7 +6,7 @@ from collections.abc import Iterator
 from dataclasses import dataclass
 
 from .json_text import Json, Literal, compact
-from .rules import BLANKS, BYTES, CHARACTERS, FRACTION, HEXADECIMAL, LEADING_ZERO, SURROGATES, WHOLE, Rule
+from .rules import BLANKS, BYTES, CHARACTERS, DIGITS, FRACTION, HEXADECIMAL, LEADING_ZERO, SURROGATES, WHOLE, Rule
 from .schema import LARGE_INTEGERS, SMALL_INTEGERS, Node
 
 WRONG_TYPE = "wrong type"
@@ -48,8 +48,8 @@ def small_integer(kind: str) -> Iterator[Change]:
     """A JSON number (RFC 7951 section 6.1)."""
     yield from each(WRONG_TYPE, [None, [None], [], {}, [1], {"x": 1}, True, False, "1", "0", "", "x", "0x1", " 1 "])
     yield from each(RANGE, numbers_near(kind))
-    yield from each(FORM, [Literal("1e1"), Literal("1E0"), Literal("10e-1"), Literal("-0")], WHOLE)
-    yield from each(FORM, [Literal("1.0"), Literal("0.0"), Literal("1.5"), Literal("1e-1"), Literal("1e30")])
+    yield from each(FORM, [Literal("1e1"), Literal("1E0"), Literal("10e-1"), Literal("-0"), Literal("0.0")], WHOLE)
+    yield from each(FORM, [Literal("1.0"), Literal("1.5"), Literal("1e-1"), Literal("1e30")])
     yield from each(NO_JSON, [Literal(text) for text in ("+1", "01", ".5", "1.", "0x1", "1e", "--1", "NaN", "nul")])
 
 
@@ -78,8 +78,9 @@ def decimal(places: int) -> Iterator[Change]:
     yield from each(FORM, ["5", "+5", "-5", "5.5", "05.5", "007.5", "-0", "-0.0", "+0.0", "0" * 30 + "5.5"])
     yield from each(FORM, ["5." + "0" * (places + 1), "0." + "0" * (places + 2)], FRACTION)
     yield from each(FORM, [" 5.5", "5.5 ", "\t5.5", "5.5\n"], BLANKS)
+    yield from each(FORM, ["+", "-", "-.5", "+.5"], DIGITS)
     yield from each(FORM, [
-        "5." + "0" * places + "1", "", "+", "-", ".", " ", "5.", ".5", "-.5", "5..5", "5.5.5", "5,5", "--5", "5e0",
+        "5." + "0" * places + "1", "", ".", "-.", " ", "5.", ".5", "5..5", "5.5.5", "5,5", "--5", "5e0",
         "0x5", "5.x", "5. 5", "5 .5", "5.-5", "\u0665.5", "5.5\u0000", "INF"])
 
 

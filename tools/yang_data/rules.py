@@ -34,7 +34,10 @@ BLANKS = Rule(
     "9.2.1 and 9.3.1). yanglint leaves out white space around it.", (Way.PROGRAM_REFUSES,))
 WHOLE = Rule(
     "a float for a whole number", "A JSON number with a point or an exponent, and -0, is a float to the JSON reader "
-    "and no whole number, whatever its value.", (Way.PROGRAM_REFUSES,))
+    "and no whole number, whatever its value. yanglint takes some of these.", (Way.PROGRAM_REFUSES,))
+DIGITS = Rule(
+    "no digit before the point", "A decimal64 has a digit at least before its point (RFC 7950 section 9.3.1). After a "
+    "sign yanglint wants none, and takes a sign alone for zero.", (Way.PROGRAM_REFUSES,))
 FRACTION = Rule(
     "zeros past the fraction digits", "A decimal64 has at most its fraction-digits behind the point, zeros counted "
     "too. yanglint leaves out zeros at the end first.", (Way.PROGRAM_REFUSES,))
@@ -48,10 +51,11 @@ SURROGATES = Rule(
     "This yanglint reads no such pair.", (Way.PROGRAM_ACCEPTS,))
 MEMBER_FORM = Rule(
     "member form", "A member has its module's name exactly where the module changes (RFC 7951 section 4). yanglint "
-    "takes the module's name everywhere.", (Way.PROGRAM_REFUSES,))
+    "takes the module's name everywhere, and an empty one for none.", (Way.PROGRAM_REFUSES,))
 TWICE = Rule(
     "a member twice", "Of a member that stands twice in an object the JSON reader decides (RFC 8259 section 4 leaves "
-    "it open): it takes the later one.", (Way.PROGRAM_ACCEPTS,))
+    "it open): it takes the later one. yanglint refuses it, but for a leaf-list of state data, of which it takes both.",
+    (Way.PROGRAM_ACCEPTS, Way.OTHER_DATA))
 STATE = Rule(
     "equal values of state data", "Two equal values of a leaf-list are refused wherever they stand, since a row is "
     "named by its path. YANG allows them in state data (RFC 7950 section 7.7).", (Way.PROGRAM_REFUSES,))

@@ -62,8 +62,9 @@ def names(node: Node, value: Object) -> Iterator[Placed]:
         child = node.children[member]
         rest = {name: other for name, other in value.items() if name != member}
         changed = child.name.swapcase()
-        for name in (f"{child.name}-x", changed, f"no-such:{child.name}", f"{child.name}:", f":{child.name}", ""):
+        for name in (f"{child.name}-x", changed, f"no-such:{child.name}", f"{child.name}:", ""):
             yield here(NAME, f"{member} as '{name}'", {**rest, name: below})
+        yield here(NAME, f"{member} as ':{child.name}'", {**rest, f":{child.name}": below}, MEMBER_FORM)
         if ":" in member:
             yield here(NAME, f"{member} as '{child.name}'", {**rest, child.name: below})
         else:
@@ -132,7 +133,7 @@ def changes(node: Node, value: Json) -> Iterator[Placed]:
 def outer_names(path: Path, value: Json, beside: Object) -> Iterator[Placed]:
     """The object at a path with its one member under another name, with others beside it, or without it."""
     node = path[-1].node
-    local = OUTER_NAME if node.member == node.name else None
+    local = OUTER_NAME if node.parent and node.name in node.parent.children else None
     yield here(AT_PATH, "its local name", {node.name: value}, local)
     for name in (f"{node.qualified}-x", f"no-such:{node.name}", f"{node.module}:", node.qualified.swapcase(), ""):
         yield here(AT_PATH, f"the name '{name}'", {name: value})
