@@ -12,7 +12,7 @@ use yp_io::memory::{MemSink, MemSource};
 pub(crate) const START: &str = "{\"start\":\"2026-01-01T00:00:00Z\"}\n";
 
 pub(crate) const SCHEMA: &str =
-    "{\"schema\":[{\"path\":\"/acme:interfaces\",\"kind\":\"container\"},{\"path\":\"/acme:interfaces/interface\",\"kind\":\"list\",\"keys\":[\"name\"]},{\"path\":\"/acme:interfaces/interface/name\",\"kind\":\"leaf\",\"type\":\"string\"},{\"path\":\"/acme:interfaces/interface/mtu\",\"kind\":\"leaf\",\"type\":\"uint16\"},{\"path\":\"/acme:interfaces/interface/secret\",\"kind\":\"leaf\",\"type\":\"string\",\"deny-all\":true}]}\n";
+    "{\"schema\":[{\"path\":\"/acme:interfaces\",\"kind\":\"container\"},{\"path\":\"/acme:interfaces/interface\",\"kind\":\"list\",\"keys\":[\"name\"]},{\"path\":\"/acme:interfaces/interface/name\",\"kind\":\"leaf\",\"type\":\"string\"},{\"path\":\"/acme:interfaces/interface/mtu\",\"kind\":\"leaf\",\"type\":\"uint16\"},{\"path\":\"/acme:interfaces/interface/enabled\",\"kind\":\"leaf\",\"type\":\"boolean\"},{\"path\":\"/acme:interfaces/interface/secret\",\"kind\":\"leaf\",\"type\":\"string\",\"deny-all\":true},{\"path\":\"/acme:interfaces/interface/stats\",\"kind\":\"container\"},{\"path\":\"/acme:interfaces/interface/stats/in\",\"kind\":\"leaf\",\"type\":\"uint64\"}]}\n";
 
 pub(crate) const RECEIVER: &str =
     "{\"receiver\":{\"name\":\"r1\",\"user\":\"ann\",\"queue\":4,\"take\":\"auto\"}}\n";
@@ -22,6 +22,9 @@ pub(crate) const ESTABLISH: &str =
 
 pub(crate) const CREATE: &str =
     "{\"patch\":{\"ietf-yang-patch:yang-patch\":{\"patch-id\":\"p\",\"edit\":[{\"edit-id\":\"e\",\"operation\":\"create\",\"target\":\"/acme:interfaces/interface=eth0\",\"value\":{\"acme:interface\":[{\"name\":\"eth0\",\"mtu\":1500,\"secret\":\"hush\"}]}}]}}}\n";
+
+const OPEN_CREATE: &str =
+    "{\"patch\":{\"ietf-yang-patch:yang-patch\":{\"patch-id\":\"p\",\"edit\":[{\"edit-id\":\"e\",\"operation\":\"create\",\"target\":\"/acme:interfaces/interface=eth0\",\"value\":{\"acme:interface\":[{\"name\":\"eth0\",\"mtu\":1500}]}}]}}}\n";
 
 const LEAF_OF_NONE: &str =
     "{\"patch\":{\"ietf-yang-patch:yang-patch\":{\"patch-id\":\"p\",\"edit\":[{\"edit-id\":\"e\",\"operation\":\"create\",\"target\":\"/acme:interfaces/interface=lo/mtu\",\"value\":{\"acme:mtu\":9}}]}}}\n";
@@ -70,6 +73,12 @@ pub(crate) fn reports(alloc: Global, lines: &[&str], want: &[&str]) -> Result<bo
 const FULL: &str =
     "to r1 {\"ietf-restconf:notification\":{\"eventTime\":\"2026-01-01T00:00:00.00Z\",\"ietf-yang-push:push-update\":{\"datastore-contents\":{},\"id\":2147483648}}}\n";
 
+const CHANGE: &str =
+    "to r1 {\"ietf-restconf:notification\":{\"eventTime\":\"2026-01-01T00:00:00.00Z\",\"ietf-yang-push:push-change-update\":{\"datastore-changes\":{\"yang-patch\":{\"edit\":[{\"edit-id\":\"1\",\"operation\":\"create\",\"target\":\"/acme:interfaces/interface=eth0\",\"value\":{\"acme:interface\":[{\"mtu\":1500,\"name\":\"eth0\"}]}}],\"patch-id\":\"2\"}},\"id\":2147483648}}}\n";
+
+const TREE: &str =
+    "tree r1 2147483648 {\"acme:interfaces\":{\"interface\":[{\"mtu\":1500,\"name\":\"eth0\"}]}}\n";
+
 #[test]
 fn an_empty_datastore_is_told_whole(rt: HostRuntime) -> Result<(), Fail> {
     let told = reports(
@@ -83,6 +92,19 @@ fn an_empty_datastore_is_told_whole(rt: HostRuntime) -> Result<(), Fail> {
         ],
     )?;
     assert!(rt; told);
+    Ok(())
+}
+
+#[test]
+fn a_creation_is_told_and_a_second_one_is_refused(rt: HostRuntime) -> Result<(), Fail> {
+    let alloc = rt.alloc();
+    let id = "reply 1 0 1 {\"id\":2147483648}\n";
+    let ok = "reply 2 0 2 {\"ok\":true}\n";
+    let there = "reply 3 0 3 {\"edit-id\":\"e\",\"error\":\"data-exists\"}\n";
+    let one = [START, SCHEMA, RECEIVER, ESTABLISH, OPEN_CREATE];
+    assert!(rt; reports(alloc, &one, &[id, ok, FULL, CHANGE, TREE, "end\n"])?);
+    let two = [START, SCHEMA, RECEIVER, ESTABLISH, OPEN_CREATE, OPEN_CREATE];
+    assert!(rt; reports(alloc, &two, &[id, ok, there, FULL, CHANGE, TREE, "end\n"])?);
     Ok(())
 }
 
@@ -105,8 +127,8 @@ fn a_creation_is_told_without_what_is_hidden(rt: HostRuntime) -> Result<(), Fail
             "reply 3 0 3 {\"edit-id\":\"e\",\"error\":\"data-exists\"}\n",
             "reply 4 0 4 {\"edit-id\":\"e\",\"error\":\"data-missing\"}\n",
             FULL,
-            "to r1 {\"ietf-restconf:notification\":{\"eventTime\":\"2026-01-01T00:00:00.00Z\",\"ietf-yang-push:push-change-update\":{\"datastore-changes\":{\"yang-patch\":{\"edit\":[{\"edit-id\":\"1\",\"operation\":\"create\",\"target\":\"/acme:interfaces/interface=eth0\",\"value\":{\"acme:interface\":[{\"mtu\":1500,\"name\":\"eth0\"}]}}],\"patch-id\":\"2\"}},\"id\":2147483648}}}\n",
-            "tree r1 2147483648 {\"acme:interfaces\":{\"interface\":[{\"mtu\":1500,\"name\":\"eth0\"}]}}\n",
+            CHANGE,
+            TREE,
             "end\n",
         ],
     )?;
