@@ -1,0 +1,78 @@
+-- The end of a path.
+use Rattle.std.proofs.Common.{◌≡◌, ℕ, ◌<◌, ◌==◌, Bool, true, false, true≢false, not, ◌&&◌, List, [], ◌∷◌, ◌++◌, length, map, append-nil, append_assoc, Option, Some, None, refl, sym, ap, ◌∙◌, arith, nat_lt}
+use Rattle.std.specs.List.{AllByRecursion, list_all}
+use Rattle.std.proofs.lemmas.List.Folds.{list_all-map}
+use Rattle.yp_base.specs.declared.path.Seg.{Seg}
+use Rattle.yp_schema.specs.declared.schema.SchemaNode.{SchemaNode}
+use Rattle.yp_schema.specs.Nodes.{node_at, same_number}
+use Rattle.yp_schema.specs.Datastore.{is_segment, keys_of_kind, goes_down, is_path_of, is_place, ends_in_key, last_node}
+use Rattle.yp_edit.specs.Patches.{paths_above}
+
+both : (a b : Bool) → (a && b) ≡ true → (a ≡ true) × (b ≡ true)
+both true b h = (refl, h)
+both false b h = absurd (true≢false (sym h))
+
+pub last_node-append : (front : List Seg) (seg : Seg) → last_node (front ++ seg ∷ []) ≡ Some seg.node
+last_node-append [] seg = refl
+last_node-append (first ∷ []) seg = refl
+last_node-append (first ∷ next ∷ front) seg = last_node-append (next ∷ front) seg
+
+below_count : (a b : ℕ) → nat_lt a b ≡ true → a < b
+below_count a b h = grind (arith, h)
+
+segment_within : (nodes : List SchemaNode) (seg : Seg) → is_segment nodes seg ≡ true → seg.node < length nodes
+segment_within nodes seg h = below_count seg.node (length nodes) (both (nat_lt seg.node (length nodes)) (keys_of_kind (node_at seg.node nodes).kind nodes (node_at seg.node nodes) seg.keys) h).0
+
+goes_within : (nodes : List SchemaNode) (parent : Option ℕ) (path : List Seg) (n : ℕ) → goes_down nodes parent path ≡ true → last_node path ≡ Some n → n < length nodes
+goes_within nodes parent [] n down is = absurd (cc)
+goes_within nodes parent (seg ∷ []) n down is =
+    let here = both (same_number (node_at seg.node nodes).parent parent && is_segment nodes seg) true down in
+    let within = segment_within nodes seg (both (same_number (node_at seg.node nodes).parent parent) (is_segment nodes seg) here.0).1 in
+    let same : seg.node ≡ n = cc in omega (arith, within, same)
+goes_within nodes parent (seg ∷ next ∷ path) n down is =
+    goes_within nodes (Some seg.node) (next ∷ path) n (both (same_number (node_at seg.node nodes).parent parent && is_segment nodes seg) (goes_down nodes (Some seg.node) (next ∷ path)) down).1 is
+
+-- the node that a path of a schema ends in is one of the schema's
+pub end_within : (nodes : List SchemaNode) (path : List Seg) (n : ℕ) → is_path_of nodes path ≡ true → last_node path ≡ Some n → n < length nodes
+end_within nodes [] n is last = absurd (true≢false (sym is))
+end_within nodes (seg ∷ path) n is last = goes_within nodes None (seg ∷ path) n is last
+
+goes_all : (nodes : List SchemaNode) (parent : Option ℕ) (path : List Seg) → goes_down nodes parent path ≡ true → AllByRecursion (λ seg. seg.node < length nodes) path
+goes_all nodes parent [] down = tt
+goes_all nodes parent (seg ∷ path) down =
+    let here = both (same_number (node_at seg.node nodes).parent parent && is_segment nodes seg) (goes_down nodes (Some seg.node) path) down in
+    (segment_within nodes seg (both (same_number (node_at seg.node nodes).parent parent) (is_segment nodes seg) here.0).1, goes_all nodes (Some seg.node) path here.1)
+
+-- the nodes of a path of a schema are the schema's
+pub each_within : (nodes : List SchemaNode) (path : List Seg) → is_path_of nodes path ≡ true → AllByRecursion (λ seg. seg.node < length nodes) path
+each_within nodes [] is = tt
+each_within nodes (seg ∷ path) is = goes_all nodes None (seg ∷ path) is
+
+-- data may stand at a path that ends in no key leaf
+pub may_stand : (nodes : List SchemaNode) (path : List Seg) (ends : Bool) → is_path_of nodes path ≡ true → ends ≡ ends_in_key nodes path → ends ≡ false → is_place nodes path ≡ true
+may_stand nodes [] ends is key other = refl
+may_stand nodes (seg ∷ path) ends is key other = ap (λ b. b && not (ends_in_key nodes (seg ∷ path))) is ∙ ap not (sym key ∙ other)
+
+-- ---- the paths above a path
+
+module _ (t : List Seg → Bool) where
+  -- of the paths above one that goes on from a front, the front is the first
+  front_passes : (front : List Seg) (seg : Seg) (rest : List Seg) → t front ≡ true → list_all (λ above. t (front ++ above)) (paths_above (seg ∷ rest)) ≡ list_all (λ above. t ((front ++ seg ∷ []) ++ above)) (paths_above rest)
+  front_passes front seg rest here =
+      ap (λ b. b && list_all (λ above. t (front ++ above)) (map (λ above. seg ∷ above) (paths_above rest))) (ap t (append-nil front) ∙ here)
+      ∙ list_all-map (λ above. t (front ++ above)) (λ (above : List Seg). seg ∷ above) (paths_above rest)
+      ∙ (λ i. list_all (λ above. t (sym (append_assoc front (seg ∷ []) above) i)) (paths_above rest))
+
+  -- with one more segment the paths above go on
+  pub one_further : (front longer : List Seg) (seg : Seg) (rest more : List Seg) (b : Bool) → rest ≡ seg ∷ more → longer ≡ front ++ seg ∷ [] → t front ≡ true → list_all (λ above. t (front ++ above)) (paths_above rest) ≡ b → list_all (λ above. t (longer ++ above)) (paths_above more) ≡ b
+  one_further front longer seg rest more b split is here so_far =
+      (λ i. list_all (λ above. t (is i ++ above)) (paths_above more))
+      ∙ sym (front_passes front seg more here)
+      ∙ ap (λ (segs : List Seg). list_all (λ above. t (front ++ above)) (paths_above segs)) (sym split)
+      ∙ so_far
+
+  -- where a path above doesn't pass, they don't all
+  pub one_fails : (front rest : List Seg) (empty b : Bool) → empty ≡ (length rest == 0) → empty ≡ false → t front ≡ false → list_all (λ above. t (front ++ above)) (paths_above rest) ≡ b → false ≡ b
+  one_fails front [] empty b is not here so_far = absurd (true≢false (sym is ∙ not))
+  one_fails front (seg ∷ rest) empty b is not here so_far =
+      sym (ap (λ b. b && list_all (λ above. t (front ++ above)) (map (λ above. seg ∷ above) (paths_above rest))) (ap t (append-nil front) ∙ here)) ∙ so_far

@@ -1,0 +1,11 @@
+pub mod Alike
+pub mod Applied
+pub mod Bases
+pub mod Committing
+pub mod Differing
+pub mod Distinct
+pub mod Drafts
+pub mod Ends
+pub mod Items
+pub mod Taking
+pub mod Walking

@@ -1,0 +1,11 @@
+use Rattle.std.proofs.Common.{ap, sym, ◌∙◌, length, true≢false}
+use Rattle.yp_edit.specs.Bases.{is_listed, left}
+use Rattle.yp_edit.proofs.Bases.{none_listed}
+use Rattle.yp_edit.proofs.base.Base.new.Goals as goal
+
+pub invariant_of-result : goal.invariant_of-result
+invariant_of-result c = record {
+  in_order = c.len.ensures.order;
+  counted = c.len.ensures.count ∙ ap length (sym (none_listed c.args.tree.now) ∙ ap (λ paths. left paths c.args.tree.now) (sym c.new.ensures.empty));
+  none_below = λ path h. absurd (true≢false (sym h ∙ ap (is_listed path) c.new-2.ensures.empty));
+}

@@ -1,0 +1,6 @@
+use Rattle.std.proofs.Common.{◌≡◌, drop}
+use Rattle.yp_edit.specs.Commits.{without_missing}
+use Rattle.yp_edit.proofs.commit.take_out.Given as goal
+
+abbrev pub invariant-loop-change : goal.invariant-loop-change
+invariant-loop-change l = without_missing l.side (drop l.change-index l.changed) l.tree ≡ without_missing l.side l.changed l.fn.tree

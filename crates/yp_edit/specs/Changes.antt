@@ -1,0 +1,65 @@
+-- The rows that differ between two datastores.
+use Rattle.std.specs.Prelude.{List, map, Bool, true, false, Option, Some, None, if◌then◌else◌}
+use Rattle.std.specs.List.{filter_map}
+use Rattle.std.specs.Ordering.{eq_by_cmp}
+use Rattle.yp_base.specs.declared.atom.Atom.{Atom}
+use Rattle.yp_base.specs.declared.path.Seg.{Seg}
+use Rattle.yp_base.specs.declared.row.Value.{Value}
+use Rattle.yp_base.specs.declared.row.Value.TheVariants.{Atom as Plain, Member, Empty, Present}
+use Rattle.yp_base.specs.declared.row.Row.{Row}
+use Rattle.yp_base.specs.Order.{atom_cmp}
+use Rattle.yp_base.specs.Rows.{path_of, value_at, put_rows}
+use Rattle.yp_edit.specs.declared.changed.ChangedRow.{ChangedRow}
+
+abbrev pub is_atom : Value → Atom → Bool
+is_atom (Plain one) other = eq_by_cmp atom_cmp one other
+is_atom Member other = false
+is_atom Empty other = false
+is_atom Present other = false
+
+abbrev pub is_member : Value → Bool
+is_member (Plain atom) = false
+is_member Member = true
+is_member Empty = false
+is_member Present = false
+
+abbrev pub is_empty : Value → Bool
+is_empty (Plain atom) = false
+is_empty Member = false
+is_empty Empty = true
+is_empty Present = false
+
+abbrev pub is_present : Value → Bool
+is_present (Plain atom) = false
+is_present Member = false
+is_present Empty = false
+is_present Present = true
+
+-- whether two values are one
+abbrev pub same_value : Value → Value → Bool
+same_value one (Plain atom) = is_atom one atom
+same_value one Member = is_member one
+same_value one Empty = is_empty one
+same_value one Present = is_present one
+
+-- whether two rows of a path are alike: both missing, or both there with one value
+abbrev pub are_alike : Option Value → Option Value → Bool
+are_alike None None = true
+are_alike None (Some new) = false
+are_alike (Some old) None = false
+are_alike (Some old) (Some new) = same_value old new
+
+-- the change of the row of a path, where there is one
+abbrev pub change_of : List Seg → Option Value → Option Value → Option ChangedRow
+change_of path old new = if are_alike old new then None else Some (record { path = path; old = old; new = new })
+
+abbrev pub change_at : List Row → List Row → List Seg → Option ChangedRow
+change_at old new path = change_of path (value_at path old) (value_at path new)
+
+-- the paths of two lists in order, each once
+abbrev pub paths_of_both : List Row → List Row → List (List Seg)
+paths_of_both old new = map path_of (put_rows new old)
+
+-- the rows that differ, in the order of their paths, once each
+abbrev pub changed_rows : List Row → List Row → List ChangedRow
+changed_rows old new = filter_map (change_at old new) (paths_of_both old new)

@@ -1,0 +1,6 @@
+pub mod Bases
+pub mod Changes
+pub mod Commits
+pub mod Drafts
+pub mod Patches
+pub mod Shapes

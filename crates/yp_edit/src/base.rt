@@ -1,0 +1,196 @@
+//! The tree that a patch is applied to, and what its edits touch.
+ghost use Rattle.std.specs.Prelude.{◌≡◌, ◌<◌, ◌^◌, [], None, length, is_some, option_map, IfOk, OnOk, OnErr};
+ghost use Rattle.std.specs.List.{filter_map};
+ghost use Rattle.std.specs.List.Sorted.{IsStrictlySortedBy};
+ghost use Rattle.yp_base.specs.Order.{path_cmp};
+ghost use Rattle.yp_base.specs.Rows.{value_at, next_row, has_within, AreInOrder};
+ghost use Rattle.yp_tree.specs.Listed.{row_of};
+ghost use Rattle.yp_edit.specs.Changes.{change_at};
+ghost use Rattle.yp_edit.specs.Bases.{untouched, Touches, TouchesWithin, StaysTouched};
+
+use crate::changed::{Changed, change_of};
+use std::alloc::Global;
+use std::collections::BTreeSet;
+use std::marker::Model;
+use std::sync::ledger::Ledger;
+use yp_base::memory::{Duplicate, NoMemory};
+use yp_base::path::Path;
+use yp_base::row::Value;
+use yp_base::series::Series;
+use yp_base::steps::Steps;
+use yp_tree::tree::Tree;
+
+/// A tree, which stays as it is, with the paths that edits touch: a row of the tree whose path is touched
+/// counts no more. At or below a bare path each row is touched, so that no edit walks over them again.
+#[derive(Drop)]
+pub struct Base<'a> {
+    tree: &'a Tree,
+    touched: BTreeSet<Path>,
+    bare: BTreeSet<Path>,
+    count: usize,
+}
+
+impl<'a> Model for Base<'a> {
+    ghost use Rattle.yp_edit.specs.Bases.{Touched, IsBase};
+
+    ghost Value = { Touched };
+
+    ghost view = { λ b. record { rows = b.tree.now; paths = b.touched.keys } };
+
+    ghost invariant = { λ b. IsBase b.tree.now b.touched.keys b.bare.keys b.count };
+}
+
+impl<'a> Base<'a> {
+    /// A tree of which nothing is touched.
+    pub fn new(alloc: Global, tree: &'a Tree) -> Base<'a>
+        ensures { result ≡ record { rows = tree.now; paths = [] } }
+    {
+        Base {
+            tree,
+            touched: BTreeSet::new(alloc),
+            bare: BTreeSet::new(alloc),
+            count: tree.len(),
+        }
+    }
+
+    /// How many rows aren't touched. The rows are in order, and so are the paths that are touched.
+    pub fn len(&self) -> usize
+        ensures count { result ≡ length (untouched self.now) }
+        ensures small { result < 2 ^ 63 }
+        ensures order { AreInOrder self.now.rows }
+        ensures paths { IsStrictlySortedBy path_cmp self.now.paths }
+    {
+        let _rows = self.tree.len();
+        let _paths = self.touched.len();
+        self.count
+    }
+
+    /// Whether there is an untouched row of this path.
+    pub fn has<L: Ledger>(&self, path: &Path, steps: &mut Steps<L>) -> bool
+        ensures { result ≡ is_some (value_at path.now (untouched self.now)) }
+    {
+        if self.touched.contains(path) {
+            return false;
+        }
+        self.tree.get(path, steps).is_some()
+    }
+
+    /// The first untouched row past one path that is at or below another.
+    fn next<L: Ledger>(
+        &self,
+        after: &Path,
+        under: &Path,
+        steps: &mut Steps<L>,
+    ) -> Option<(&'a Path, &'a Value)>
+        ensures { option_map (λ found. row_of (found.0.now, found.1.now)) result ≡ next_row after.now under.now (untouched self.now) }
+    {
+        let mut last = after;
+        while let Some((path, value)) = self.tree.next(last, under, steps) {
+            if !self.touched.contains(path) {
+                return Some((path, value));
+            }
+            last = path;
+        }
+        None
+    }
+
+    /// Whether an untouched row is found at or below a target.
+    fn finds_within<L: Ledger>(&self, target: &Path, steps: &mut Steps<L>) -> bool
+        ensures { result ≡ has_within target.now (untouched self.now) }
+    {
+        self.has(target, steps) || self.next(target, target, steps).is_some()
+    }
+
+    /// Whether there are untouched rows at or below a target. Where there are none, its path is bare.
+    pub fn has_within<L: Ledger>(
+        &mut self,
+        alloc: Global,
+        target: &Path,
+        steps: &mut Steps<L>,
+    ) -> Result<bool, NoMemory>
+        ensures found { IfOk result (λ found. found ≡ has_within target.now (untouched self.old)) }
+        ensures same { self.new ≡ self.old }
+    {
+        if self.bare.contains(target) {
+            return Ok(false);
+        }
+        if self.finds_within(target, steps) {
+            return Ok(true);
+        }
+        self.bare.insert(target.copy(alloc)?)?;
+        Ok(false)
+    }
+
+    /// Touches a path.
+    pub fn touch<L: Ledger>(&mut self, path: Path, steps: &mut Steps<L>) -> Result<(), NoMemory>
+        ensures touched { OnOk result (Touches path self.old self.new) }
+        ensures unchanged { OnErr result (self.new ≡ self.old) }
+    {
+        let there = self.has(&path, steps);
+        self.touched.insert(path)?;
+        if there {
+            self.count -= 1;
+        }
+        Ok(())
+    }
+
+    /// Touches the rows below a target.
+    fn touch_below<L: Ledger>(
+        &mut self,
+        alloc: Global,
+        target: &Path,
+        steps: &mut Steps<L>,
+    ) -> Result<(), NoMemory>
+        requires { value_at target.now (untouched self.old) ≡ None }
+        ensures touched { OnOk result (TouchesWithin target.now self.old self.new) }
+        ensures stay { StaysTouched self.old self.new }
+    {
+        let _rows = &self.tree;
+        let mut last = target;
+        while let Some((path, _value)) = self.next(last, target, steps) {
+            self.touch(path.copy(alloc)?, steps)?;
+            last = path;
+        }
+        Ok(())
+    }
+
+    /// Touches the rows at or below a target, whose path is then bare.
+    pub fn touch_within<L: Ledger>(
+        &mut self,
+        alloc: Global,
+        target: &Path,
+        steps: &mut Steps<L>,
+    ) -> Result<(), NoMemory>
+        ensures touched { OnOk result (TouchesWithin target.now self.old self.new) }
+        ensures stay { StaysTouched self.old self.new }
+    {
+        if self.bare.contains(target) {
+            return Ok(());
+        }
+        self.touch(target.copy(alloc)?, steps)?;
+        self.touch_below(alloc, target, steps)?;
+        self.bare.insert(target.copy(alloc)?)?;
+        Ok(())
+    }
+
+    /// The rows of touched paths that differ from those of other rows.
+    pub fn changes<L: Ledger>(
+        &self,
+        alloc: Global,
+        put: &Tree,
+        steps: &mut Steps<L>,
+    ) -> Result<Changed, NoMemory>
+        ensures { IfOk result (λ changed. changed ≡ filter_map (change_at self.now.rows put.now) self.now.paths) }
+    {
+        let mut changed = Vec::new(alloc);
+        let mut paths = self.touched.iter();
+        while let Some(path) = paths.next() {
+            let old = self.tree.get(path, steps);
+            match change_of(alloc, path, old, put.get(path, steps))? {
+                Some(change) => changed.push(change)?,
+                None => {}
+            }
+        }
+        Ok(Series::from_vec(changed))
+    }
+}

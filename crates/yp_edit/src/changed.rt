@@ -1,0 +1,86 @@
+//! What a patch changed.
+ghost use Rattle.std.specs.Prelude.{◌≡◌, IfOk, option_copied};
+ghost use Rattle.yp_edit.specs.Changes.{is_atom, same_value, are_alike, change_of};
+
+use crate::some::copy_some;
+use std::alloc::Global;
+use yp_base::atom::Atom;
+use yp_base::memory::{Duplicate, NoMemory};
+use yp_base::path::Path;
+use yp_base::row::Value;
+use yp_base::series::Series;
+
+/// A path with the value of its row before and after a patch, `None` where there is no row.
+#[derive(Drop)]
+pub struct ChangedRow {
+    pub path: Path,
+    pub old: Option<Value>,
+    pub new: Option<Value>,
+}
+
+/// The rows that a patch changed, in the order of their paths.
+pub type Changed = Series<ChangedRow>;
+
+impl Duplicate for ChangedRow {
+    fn copy(&self, alloc: Global) -> Result<ChangedRow, NoMemory> {
+        Ok(ChangedRow {
+            path: self.path.copy(alloc)?,
+            old: copy_some(alloc, self.old.as_ref())?,
+            new: copy_some(alloc, self.new.as_ref())?,
+        })
+    }
+}
+
+/// Whether a value is this atom.
+fn is_atom(value: &Value, atom: &Atom) -> bool
+    ensures { result ≡ is_atom value.now atom.now }
+{
+    match value {
+        Value::Atom(other) => other == atom,
+        _ => false,
+    }
+}
+
+/// Whether two values are one.
+fn same_value(one: &Value, other: &Value) -> bool
+    ensures { result ≡ same_value one.now other.now }
+{
+    match other {
+        Value::Atom(atom) => is_atom(one, atom),
+        Value::Member => matches!(one, Value::Member),
+        Value::Empty => matches!(one, Value::Empty),
+        Value::Present => matches!(one, Value::Present),
+    }
+}
+
+/// Whether two rows of a path are alike: both missing, or both there with one value.
+fn are_alike(old: Option<&Value>, new: Option<&Value>) -> bool
+    ensures { result ≡ are_alike (option_copied old.entry) (option_copied new.entry) }
+{
+    match old {
+        Some(old) => match new {
+            Some(new) => same_value(old, new),
+            None => false,
+        },
+        None => new.is_none(),
+    }
+}
+
+/// The change of a path's row, where there is one.
+pub fn change_of(
+    alloc: Global,
+    path: &Path,
+    old: Option<&Value>,
+    new: Option<&Value>,
+) -> Result<Option<ChangedRow>, NoMemory>
+    ensures { IfOk result (λ change. change ≡ change_of path.now (option_copied old.entry) (option_copied new.entry)) }
+{
+    if are_alike(old, new) {
+        return Ok(None);
+    }
+    Ok(Some(ChangedRow {
+        path: path.copy(alloc)?,
+        old: copy_some(alloc, old)?,
+        new: copy_some(alloc, new)?,
+    }))
+}

@@ -1,0 +1,201 @@
+//! Edits of rows under change.
+ghost use Rattle.std.specs.Prelude.{◌≡◌, ◌<◌, ◌++◌, ◌∷◌, [], length, true, IfOk, IfSome, OnOk};
+ghost use Rattle.yp_base.specs.Rows.{put_rows};
+ghost use Rattle.yp_schema.specs.Datastore.{is_entry_kind, is_path_of, is_place, last_node};
+ghost use Rattle.yp_edit.specs.Drafts.{Drafted};
+ghost use Rattle.yp_edit.specs.Patches.{Says, Leaves, created, deleted, has_its_row, stand_above, new_rows, changed_by, edited};
+
+use crate::draft::Draft;
+use crate::fault::Tag;
+use crate::halt::{Halt, refused};
+use crate::patch::{Edit, EditOp};
+use crate::target::{end_of, read_path, read_value};
+use std::alloc::Global;
+use std::sync::ledger::Ledger;
+use yp_base::memory::{Duplicate, NoMemory};
+use yp_base::path::{Path, Seg};
+use yp_base::payload::Payload;
+use yp_base::row::Rows;
+use yp_base::series::Series;
+use yp_base::steps::Steps;
+use yp_schema::schema::{Kind, Schema};
+
+/// The most rows that a datastore has.
+const MOST_ROWS: usize = 20000;
+
+/// A path with one more segment.
+fn extended(alloc: Global, path: Path, segment: &Seg) -> Result<Path, NoMemory>
+    ensures { IfOk result (λ longer. longer ≡ path ++ segment.now ∷ []) }
+{
+    let mut segments = path.into_vec();
+    segments.push(segment.copy(alloc)?)?;
+    Ok(Series::from_vec(segments))
+}
+
+/// Whether a node of this kind has a row of its own above others.
+fn is_entry(kind: Kind) -> bool
+    ensures { result ≡ is_entry_kind kind }
+{
+    matches!(kind, Kind::Presence | Kind::List)
+}
+
+/// Whether there is to be a row of a path, where it ends in a list entry or a presence container.
+fn has_its_row<L: Ledger>(schema: &Schema, draft: &Draft, path: &Path, steps: &mut Steps<L>) -> bool
+    requires { IfSome (last_node path.now) (λ node. node < length schema.now) }
+    ensures { result ≡ has_its_row schema.now draft.now.after path.now }
+{
+    match end_of(path) {
+        Some(node) => !is_entry(schema.kind(node)) || draft.has(path, steps),
+        None => true,
+    }
+}
+
+/// Whether each list entry and presence container above a target is to have its row.
+fn stands_above<L: Ledger>(
+    alloc: Global,
+    schema: &Schema,
+    draft: &Draft,
+    target: &Path,
+    steps: &mut Steps<L>,
+) -> Result<bool, NoMemory>
+    requires { is_path_of schema.now target.now ≡ true }
+    ensures { IfOk result (λ stands. stands ≡ stand_above schema.now target.now draft.now.after) }
+{
+    let mut front = Series::from_vec(Vec::new(alloc));
+    let mut rest = target.items();
+    while let Some((segment, more)) = rest.split_first() {
+        if more.is_empty() {
+            return Ok(true);
+        }
+        front = extended(alloc, front, segment)?;
+        if !has_its_row(schema, draft, &front, steps) {
+            return Ok(false);
+        }
+        rest = more;
+    }
+    Ok(true)
+}
+
+/// Puts rows, one after another.
+fn put_all<L: Ledger>(
+    alloc: Global,
+    draft: &mut Draft,
+    rows: Rows,
+    steps: &mut Steps<L>,
+) -> Result<(), NoMemory>
+    ensures { OnOk result (draft.new ≡ record draft.old { after = put_rows rows draft.old.after }) }
+{
+    for row in rows.into_vec() {
+        draft.put(alloc, row, steps)?;
+    }
+    Ok(())
+}
+
+/// The rows that an edit brings to a target.
+fn new_rows<L: Ledger>(
+    alloc: Global,
+    schema: &Schema,
+    draft: &Draft,
+    target: &Path,
+    value: &Option<Payload>,
+    steps: &mut Steps<L>,
+) -> Result<Rows, Halt>
+    requires path { is_path_of schema.now target.now ≡ true }
+    requires place { is_place schema.now target.now ≡ true }
+    ensures { Says result (new_rows schema.now target.now value.now draft.now.after) }
+{
+    let rows = read_value(alloc, schema, target, value)?;
+    if !stands_above(alloc, schema, draft, target, steps)? {
+        return Err(refused(Tag::DataMissing));
+    }
+    Ok(rows)
+}
+
+/// Puts rows at a target where there are none.
+fn create<L: Ledger>(
+    alloc: Global,
+    draft: &mut Draft,
+    target: &Path,
+    rows: Rows,
+    steps: &mut Steps<L>,
+) -> Result<(), Halt>
+    ensures rows { Leaves result draft.new.after (created target.now rows draft.old.after) }
+    ensures before { OnOk result (draft.new.before ≡ draft.old.before) }
+{
+    if draft.has_within(alloc, target, steps)? {
+        return Err(refused(Tag::DataExists));
+    }
+    put_all(alloc, draft, rows, steps)?;
+    Ok(())
+}
+
+/// Takes out the rows at a target where there are some.
+fn delete<L: Ledger>(
+    alloc: Global,
+    draft: &mut Draft,
+    target: &Path,
+    steps: &mut Steps<L>,
+) -> Result<(), Halt>
+    ensures rows { Leaves result draft.new.after (deleted target.now draft.old.after) }
+    ensures before { OnOk result (draft.new.before ≡ draft.old.before) }
+{
+    if !draft.has_within(alloc, target, steps)? {
+        return Err(refused(Tag::DataMissing));
+    }
+    draft.cut(alloc, target, steps)?;
+    Ok(())
+}
+
+/// Makes the change of an operation at a target.
+fn change<L: Ledger>(
+    alloc: Global,
+    schema: &Schema,
+    draft: &mut Draft,
+    op: EditOp,
+    target: &Path,
+    value: &Option<Payload>,
+    steps: &mut Steps<L>,
+) -> Result<(), Halt>
+    requires path { is_path_of schema.now target.now ≡ true }
+    requires place { is_place schema.now target.now ≡ true }
+    ensures rows { Leaves result draft.new.after (changed_by op schema.now target.now value.now draft.old.after) }
+    ensures before { OnOk result (draft.new.before ≡ draft.old.before) }
+{
+    match op {
+        EditOp::Create => {
+            let rows = new_rows(alloc, schema, draft, target, value, steps)?;
+            create(alloc, draft, target, rows, steps)
+        }
+        EditOp::Merge => {
+            let rows = new_rows(alloc, schema, draft, target, value, steps)?;
+            Ok(put_all(alloc, draft, rows, steps)?)
+        }
+        EditOp::Replace => {
+            let rows = new_rows(alloc, schema, draft, target, value, steps)?;
+            draft.cut(alloc, target, steps)?;
+            Ok(put_all(alloc, draft, rows, steps)?)
+        }
+        EditOp::Delete => delete(alloc, draft, target, steps),
+        EditOp::Remove => Ok(draft.cut(alloc, target, steps)?),
+        EditOp::Insert | EditOp::Move => Err(refused(Tag::InvalidValue)),
+    }
+}
+
+/// Makes an edit.
+pub fn make<L: Ledger>(
+    alloc: Global,
+    schema: &Schema,
+    draft: &mut Draft,
+    edit: &Edit,
+    steps: &mut Steps<L>,
+) -> Result<(), Halt>
+    ensures rows { Leaves result draft.new.after (edited schema.now draft.old.after edit.now) }
+    ensures before { OnOk result (draft.new.before ≡ draft.old.before) }
+{
+    let target = read_path(alloc, schema, &edit.target)?;
+    change(alloc, schema, draft, edit.op, &target, &edit.value, steps)?;
+    if MOST_ROWS < draft.len() {
+        return Err(refused(Tag::TooBig));
+    }
+    Ok(())
+}

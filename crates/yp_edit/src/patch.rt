@@ -1,0 +1,73 @@
+//! Patches: edits of a datastore, in order (RFC 8072 section 2).
+
+use crate::some::copy_some;
+use std::alloc::Global;
+use yp_base::memory::{Duplicate, NoMemory};
+use yp_base::payload::Payload;
+use yp_base::series::Series;
+use yp_base::txt::Txt;
+
+/// What an edit does (RFC 8072 section 2.5).
+#[derive(Debug, Drop, Clone, Copy, PartialEq, Eq)]
+pub enum EditOp {
+    Create,
+    Delete,
+    Insert,
+    Merge,
+    Move,
+    Replace,
+    Remove,
+}
+
+/// Where an entry of a list ordered by the user goes.
+#[derive(Debug, Drop, Clone, Copy, PartialEq, Eq)]
+pub enum Place {
+    Before,
+    After,
+    First,
+    Last,
+}
+
+/// An edit: its id, what it does, the text of its target's path, for an insert or a move the entry
+/// beside which and the place where the target goes, and the value of the target in JSON.
+#[derive(Drop)]
+pub struct Edit {
+    pub id: Txt,
+    pub op: EditOp,
+    pub target: Txt,
+    pub point: Option<Txt>,
+    pub place: Option<Place>,
+    pub value: Option<Payload>,
+}
+
+/// Edits, in order.
+pub type Edits = Series<Edit>;
+
+/// A patch: its id and its edits.
+#[derive(Drop)]
+pub struct Patch {
+    pub id: Txt,
+    pub edits: Edits,
+}
+
+impl Duplicate for Edit {
+    fn copy(&self, alloc: Global) -> Result<Edit, NoMemory> {
+        Ok(Edit {
+            id: self.id.copy(alloc)?,
+            op: self.op,
+            target: self.target.copy(alloc)?,
+            point: copy_some(alloc, self.point.as_ref())?,
+            place: self.place,
+            value: copy_some(alloc, self.value.as_ref())?,
+        })
+    }
+}
+
+impl Duplicate for Patch {
+    fn copy(&self, alloc: Global) -> Result<Patch, NoMemory> {
+        Ok(Patch {
+            id: self.id.copy(alloc)?,
+            edits: self.edits.copy(alloc)?,
+        })
+    }
+}

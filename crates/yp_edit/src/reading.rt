@@ -1,0 +1,264 @@
+//! Reading patches (RFC 8072 section 2.2).
+ghost use Rattle.std.specs.Prelude.{◌≡◌, ◌+◌, ◌==◌, ◌^◌, ◌<◌, length, IfOk, option_map, option_and_then, codes};
+ghost use Rattle.serde_json.specs.View.{view, members_view, items_view};
+ghost use Rattle.serde_json.specs.Find.{get_member, as_str, as_object};
+ghost use Rattle.serde_json.specs.Events.{members_len};
+ghost use Rattle.yp_base.specs.Types.{same_text, are_distinct, is_among};
+ghost use Rattle.yp_edit.specs.Shapes.{ReadsAs, text_in, optional, some_text, one_if, op_named, op_in, place_named, some_place, has_value, may_have_place, is_beside, has_parts, parts_of, edit_of, edit_in, edits_in, ids_of, distinct, some_edits, members_of_patch, patch_of, sole, patch_in};
+
+use crate::fault::PatchFault;
+use crate::members::{count, member_in, one_if, only, read_some_text, read_text, text_in};
+use crate::patch::{Edit, EditOp, Edits, Patch, Place};
+use serde_json::{Map, Value as Json};
+use std::alloc::Global;
+use std::collections::BTreeSet;
+use yp_base::memory::NoMemory;
+use yp_base::payload::Payload;
+use yp_base::series::Series;
+use yp_base::txt::Txt;
+
+/// The operation of a name.
+fn op_of(name: &str) -> Option<EditOp>
+    ensures { result ≡ op_named name.now }
+{
+    if name == "create" {
+        Some(EditOp::Create)
+    } else if name == "delete" {
+        Some(EditOp::Delete)
+    } else if name == "insert" {
+        Some(EditOp::Insert)
+    } else if name == "merge" {
+        Some(EditOp::Merge)
+    } else if name == "move" {
+        Some(EditOp::Move)
+    } else if name == "replace" {
+        Some(EditOp::Replace)
+    } else if name == "remove" {
+        Some(EditOp::Remove)
+    } else {
+        None
+    }
+}
+
+/// The operation of an edit.
+fn read_op(members: &Map<String, Json>) -> Result<EditOp, PatchFault>
+    ensures { ReadsAs result (op_in (members_view members.now.entries)) }
+{
+    match text_in(members, "operation") {
+        Some(name) => op_of(name).ok_or(PatchFault::Shape),
+        None => Err(PatchFault::Shape),
+    }
+}
+
+/// The place of a name.
+fn place_of(name: &str) -> Option<Place>
+    ensures { result ≡ place_named name.now }
+{
+    if name == "before" {
+        Some(Place::Before)
+    } else if name == "after" {
+        Some(Place::After)
+    } else if name == "first" {
+        Some(Place::First)
+    } else if name == "last" {
+        Some(Place::Last)
+    } else {
+        None
+    }
+}
+
+/// The place where an entry goes, which may be left out.
+fn read_place(members: &Map<String, Json>) -> Result<Option<Place>, PatchFault>
+    ensures { ReadsAs result (some_place (members_view members.now.entries)) }
+{
+    match member_in(members, "where") {
+        Some(json) => match json.as_str() {
+            Some(name) => match place_of(name) {
+                Some(place) => Ok(Some(place)),
+                None => Err(PatchFault::Shape),
+            },
+            None => Err(PatchFault::Shape),
+        },
+        None => Ok(None),
+    }
+}
+
+/// The value of an edit, where it has one.
+fn read_value(members: &Map<String, Json>) -> Result<Option<Payload>, NoMemory>
+    ensures { IfOk result (λ value. value ≡ get_member (codes "value") (members_view members.now.entries)) }
+{
+    match member_in(members, "value") {
+        Some(json) => Ok(Some(Payload::from_json(json.clone()?))),
+        None => Ok(None),
+    }
+}
+
+/// Whether an edit of an operation has a value.
+fn takes_value(op: EditOp) -> bool
+    ensures { result ≡ has_value op }
+{
+    matches!(
+        op,
+        EditOp::Create | EditOp::Insert | EditOp::Merge | EditOp::Replace
+    )
+}
+
+/// Whether an edit of an operation may have a place.
+fn takes_place(op: EditOp) -> bool
+    ensures { result ≡ may_have_place op }
+{
+    matches!(op, EditOp::Insert | EditOp::Move)
+}
+
+/// Whether a place is one beside an entry.
+fn takes_point(place: Option<Place>) -> bool
+    ensures { result ≡ is_beside place }
+{
+    matches!(place, Some(Place::Before | Place::After))
+}
+
+/// Whether an edit has the parts that its operation and its place ask for.
+fn has_parts(edit: &Edit) -> bool
+    ensures { result ≡ has_parts edit.now }
+{
+    if edit.value.is_some() != takes_value(edit.op) {
+        return false;
+    }
+    if edit.point.is_some() != takes_point(edit.place) {
+        return false;
+    }
+    takes_place(edit.op) || edit.place.is_none()
+}
+
+/// An edit of these parts, where an object of so many members has no others.
+fn whole_edit(count: usize, edit: Edit) -> Result<Edit, PatchFault>
+    ensures { ReadsAs result (edit_of count edit) }
+{
+    if has_parts(&edit) {
+        if count == 3 + one_if(&edit.point) + one_if(&edit.place) + one_if(&edit.value) {
+            return Ok(edit);
+        }
+    }
+    Err(PatchFault::Shape)
+}
+
+/// An edit.
+fn read_edit(alloc: Global, members: &Map<String, Json>) -> Result<Edit, PatchFault>
+    ensures { ReadsAs result (edit_in (members_view members.now.entries)) }
+{
+    let id = read_text(alloc, members, "edit-id")?;
+    let op = read_op(members)?;
+    let target = read_text(alloc, members, "target")?;
+    let point = read_some_text(alloc, members, "point")?;
+    let place = read_place(members)?;
+    let value = read_value(members)?;
+    whole_edit(
+        count(members),
+        Edit {
+            id,
+            op,
+            target,
+            point,
+            place,
+            value,
+        },
+    )
+}
+
+/// An item of the array of edits.
+fn read_item(alloc: Global, json: &Json) -> Result<Edit, PatchFault>
+    ensures { ReadsAs result (option_and_then edit_in (as_object (view json.now))) }
+{
+    match json {
+        Json::Object(members) => read_edit(alloc, members),
+        _ => Err(PatchFault::Shape),
+    }
+}
+
+/// The edits of an array.
+fn read_items(alloc: Global, items: &Vec<Json>) -> Result<Edits, PatchFault>
+    ensures read { ReadsAs result (edits_in (items_view items.now.items)) }
+    ensures few { IfOk result (λ edits. length edits < 2 ^ 32) }
+{
+    // No memory holds so many edits.
+    if items.len() > 4294967295 {
+        return Err(PatchFault::Memory);
+    }
+    let mut edits = Vec::new(alloc);
+    for item in items {
+        edits.push(read_item(alloc, item)?)?;
+    }
+    Ok(Series::from_vec(edits))
+}
+
+/// Whether the edits' ids are distinct.
+fn are_distinct(alloc: Global, edits: &[Edit]) -> Result<bool, NoMemory>
+    ensures { IfOk result (λ distinct. distinct ≡ are_distinct (ids_of edits.now)) }
+{
+    let mut seen = BTreeSet::new(alloc);
+    for edit in edits {
+        if !seen.insert(&edit.id)? {
+            return Ok(false);
+        }
+    }
+    Ok(true)
+}
+
+/// The edits of a patch, which may be left out.
+fn read_edits(alloc: Global, members: &Map<String, Json>) -> Result<Edits, PatchFault>
+    ensures read { ReadsAs result (some_edits (get_member (codes "edit") (members_view members.now.entries))) }
+    ensures few { IfOk result (λ edits. length edits < 2 ^ 32) }
+{
+    match member_in(members, "edit") {
+        Some(Json::Array(items)) => {
+            let edits = read_items(alloc, items)?;
+            if are_distinct(alloc, edits.items())? {
+                Ok(edits)
+            } else {
+                Err(PatchFault::Shape)
+            }
+        }
+        Some(_) => Err(PatchFault::Shape),
+        None => Ok(Series::from_vec(Vec::new(alloc))),
+    }
+}
+
+/// How many members a patch has that has no others.
+fn count_members(members: &Map<String, Json>) -> usize
+    ensures { result ≡ members_of_patch (members_view members.now.entries) }
+{
+    1 + one_if(&member_in(members, "comment")) + one_if(&member_in(members, "edit"))
+}
+
+/// A patch's members.
+fn read_members(alloc: Global, members: &Map<String, Json>) -> Result<Patch, PatchFault>
+    ensures read { ReadsAs result (patch_of (members_view members.now.entries)) }
+    ensures few { IfOk result (λ patch. length patch.edits < 2 ^ 32) }
+{
+    let id = read_text(alloc, members, "patch-id")?;
+    let _comment = read_some_text(alloc, members, "comment")?;
+    let edits = read_edits(alloc, members)?;
+    if count(members) == count_members(members) {
+        Ok(Patch { id, edits })
+    } else {
+        Err(PatchFault::Shape)
+    }
+}
+
+/// Reads a patch (RFC 8072 section 2.2, in JSON by RFC 7951): an object of the one member `ietf-yang-patch:yang-patch`, with
+/// `patch-id`, and as may be a `comment` and edits. `Shape` comes exactly where the JSON isn't of this
+/// form: with another member, a value of a wrong kind, two edits of one id, a value that an operation
+/// doesn't have, a place elsewhere than in an insert or a move, or a point but beside an entry. Targets
+/// and values are judged when the patch is applied.
+pub fn read_patch(alloc: Global, json: &Json) -> Result<Patch, PatchFault>
+    ensures read { ReadsAs result (patch_in (view json.now)) }
+    ensures few { IfOk result (λ patch. length patch.edits < 2 ^ 32) }
+{
+    match only(json, "ietf-yang-patch:yang-patch") {
+        Some(members) => read_members(alloc, members),
+        None => Err(PatchFault::Shape),
+    }
+}
+
+#[cfg(test)]
+mod tests;

@@ -1,0 +1,58 @@
+-- Journals of one more entry.
+use Rattle.std.proofs.Common.{◌≡◌, ◌+◌, List, [], ◌∷◌, ◌++◌, length, true, Result, Ok, Err, refl, ◌∙◌, arith}
+use Rattle.yp_base.specs.declared.row.Row.{Row}
+use Rattle.yp_schema.specs.declared.schema.SchemaNode.{SchemaNode}
+use Rattle.yp_edit.specs.declared.fault.EditFault.{EditFault}
+use Rattle.yp_edit.specs.Patches.{applied}
+use Rattle.yp_journal.specs.declared.command.Command.{Command}
+use Rattle.yp_journal.specs.declared.command.Command.TheVariants.{Tick, Edit, Everything}
+use Rattle.yp_journal.specs.declared.entry.Entry.{Entry}
+use Rattle.yp_journal.specs.History.{JournalState, one_further, rows_after, patch_reply, next_state, reply_to, is_refusal, state_after, state_of, MayFollow, IsLegal}
+
+-- a refused command leaves all but the position
+pub refusal_alone : (nodes : List SchemaNode) (state : JournalState) (command : Command) → is_refusal (reply_to nodes state command) ≡ true → next_state nodes state command ≡ one_further state
+refusal_alone nodes state (Tick tick) h = cc
+refusal_alone nodes state (Everything by) h = cc
+refusal_alone nodes state (Edit patch) h =
+    elim (applied nodes state.rows patch) as (λ (after : Result (List Row) EditFault). is_refusal (patch_reply patch after) ≡ true → record (one_further state) { rows = rows_after state.rows after } ≡ one_further state) [
+      | Ok after ↦ λ g. cc
+      | Err fault ↦ λ g. refl
+    ] h
+
+-- the state after one command more is the one that it leaves of the state before
+pub state_more : (nodes : List SchemaNode) (state : JournalState) (commands : List Command) (command : Command) → state_after nodes state (commands ++ command ∷ []) ≡ next_state nodes (state_after nodes state commands) command
+state_more nodes state [] command = refl
+state_more nodes state (first ∷ commands) command = state_more nodes (next_state nodes state first) commands command
+
+-- the same of a journal's entries
+pub entries_more : (nodes : List SchemaNode) (state : JournalState) (entries : List Entry) (entry : Entry) → state_of nodes state (entries ++ entry ∷ []) ≡ next_state nodes (state_of nodes state entries) entry.command
+entries_more nodes state [] entry = refl
+entries_more nodes state (first ∷ entries) entry = entries_more nodes (next_state nodes state first.command) entries entry
+
+-- a legal journal stays legal with an entry that may follow
+pub legal_more : (nodes : List SchemaNode) (state : JournalState) (entries : List Entry) (entry : Entry) → IsLegal nodes state entries → MayFollow nodes (state_of nodes state entries) entry → IsLegal nodes state (entries ++ entry ∷ [])
+legal_more nodes state [] entry legal follows = (follows, tt)
+legal_more nodes state (first ∷ entries) entry legal follows = (legal.0, legal_more nodes (next_state nodes state first.command) entries entry legal.1 follows)
+
+-- each command is one position further
+next_position : (nodes : List SchemaNode) (state : JournalState) (command : Command) → (next_state nodes state command).position ≡ state.position + 1
+next_position nodes state (Tick tick) = refl
+next_position nodes state (Edit patch) = refl
+next_position nodes state (Everything by) = refl
+
+pub position_of : (nodes : List SchemaNode) (state : JournalState) (entries : List Entry) → (state_of nodes state entries).position ≡ state.position + length entries
+position_of nodes state [] = let same : state.position ≡ state.position + 0 = omega arith in same
+position_of nodes state (entry ∷ entries) =
+    let one : (next_state nodes state entry.command).position ≡ state.position + 1 = next_position nodes state entry.command in
+    let rest : (state_of nodes (next_state nodes state entry.command) entries).position ≡ (next_state nodes state entry.command).position + length entries = position_of nodes (next_state nodes state entry.command) entries in
+    omega arith
+
+-- no command changes the receivers
+next_receivers : (nodes : List SchemaNode) (state : JournalState) (command : Command) → (next_state nodes state command).receivers ≡ state.receivers
+next_receivers nodes state (Tick tick) = refl
+next_receivers nodes state (Edit patch) = refl
+next_receivers nodes state (Everything by) = refl
+
+pub receivers_stay : (nodes : List SchemaNode) (state : JournalState) (entries : List Entry) → (state_of nodes state entries).receivers ≡ state.receivers
+receivers_stay nodes state [] = refl
+receivers_stay nodes state (entry ∷ entries) = receivers_stay nodes (next_state nodes state entry.command) entries ∙ next_receivers nodes state entry.command

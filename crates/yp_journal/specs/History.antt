@@ -1,0 +1,130 @@
+-- The history of a publisher: the state as the fold of its commands, the replies, and which journals are legal (RFC 8072 for patches, RFC 8639 and RFC 8641 for subscriptions).
+use Rattle.std.specs.Prelude.{◌≡◌, ℕ, ◌+◌, ◌<◌, ◌≤◌, ◌^◌, max, map, List, [], ◌∷◌, ◌++◌, length, Bool, true, false, Some, Result, Ok, Err, slice_index_or}
+use Rattle.serde_json.specs.Data.{Data}
+use Rattle.yp_base.specs.declared.row.Row.{Row}
+use Rattle.yp_schema.specs.declared.schema.SchemaNode.{SchemaNode}
+use Rattle.yp_edit.specs.declared.fault.EditFault.{EditFault}
+use Rattle.yp_edit.specs.declared.fault.EditFault.TheVariants as edit_fault
+use Rattle.yp_edit.specs.declared.patch.Edit.{Edit as PatchEdit}
+use Rattle.yp_edit.specs.declared.patch.Patch.{Patch}
+use Rattle.yp_edit.specs.Patches.{applied}
+use Rattle.yp_edit.specs.Shapes.{ids_of, patch_in}
+use Rattle.yp_journal.specs.declared.command.Command.{Command}
+use Rattle.yp_journal.specs.declared.command.Command.TheVariants.{Tick, Edit, Everything}
+use Rattle.yp_journal.specs.declared.entry.Entry.{Entry}
+use Rattle.yp_journal.specs.declared.receiver.ReceiverInfo.{ReceiverInfo}
+use Rattle.yp_journal.specs.declared.reply.Reply.{Reply}
+use Rattle.yp_journal.specs.declared.reply.Reply.TheVariants.{Done, Id, Edit as EditRefused}
+use Rattle.yp_journal.specs.declared.subscription.Subscription.{Subscription}
+
+-- ---- the state
+
+-- what a command finds: the rows of the datastore, the tick, how many commands came before, the subscriptions given so far, and the receivers, which stay as they were declared
+pub record JournalState : Type 0 where
+  pub rows : List Row
+  pub stamp : ℕ
+  pub position : ℕ
+  pub subscriptions : List Subscription
+  pub receivers : List ReceiverInfo
+
+-- what the first command finds
+abbrev pub first_state : List ReceiverInfo → JournalState
+first_state receivers = record { rows = []; stamp = 0; position = 0; subscriptions = []; receivers = receivers }
+
+-- the state one position further, with all else as it was
+abbrev pub one_further : JournalState → JournalState
+one_further state = record state { position = state.position + 1 }
+
+-- time goes on to a tick, and never back
+abbrev pub with_tick : JournalState → ℕ → JournalState
+with_tick state tick = record (one_further state) { stamp = max state.stamp tick }
+
+-- ---- patches
+
+-- the rows after a patch; one that is refused leaves those that it found
+abbrev pub rows_after : List Row → Result (List Row) EditFault → List Row
+rows_after rows (Ok after) = after
+rows_after rows (Err fault) = rows
+
+-- the id of the edit of this number, from 0 on
+abbrev pub id_at : ℕ → List PatchEdit → List ℕ
+id_at number edits = slice_index_or (ids_of edits) number []
+
+-- the reply to a patch; no patch is refused for want of memory
+abbrev pub patch_reply : Patch → Result (List Row) EditFault → Reply
+patch_reply patch (Ok after) = Done
+patch_reply patch (Err (edit_fault.Refused number tag path)) = EditRefused (id_at number patch.edits) tag path
+patch_reply patch (Err edit_fault.Memory) = Done
+
+-- ---- subscriptions
+
+-- the id of the next subscription, where so many were given: ids rise from the first, and none is given twice
+abbrev pub next_id : ℕ → ℕ
+next_id given = 2147483648 + given
+
+-- one subscription more, for the receiver of this number
+abbrev pub with_subscription : JournalState → ℕ → JournalState
+with_subscription state by =
+    record (one_further state) { subscriptions = state.subscriptions ++ record { id = next_id (length state.subscriptions); receiver = by } ∷ [] }
+
+-- ---- commands
+
+-- the state after a command, and the reply to it
+abbrev pub accepted : List SchemaNode → JournalState → Command → JournalState × Reply
+accepted nodes state (Tick tick) = (with_tick state tick, Done)
+accepted nodes state (Edit patch) =
+    (record (one_further state) { rows = rows_after state.rows (applied nodes state.rows patch) }, patch_reply patch (applied nodes state.rows patch))
+accepted nodes state (Everything by) = (with_subscription state by, Id (next_id (length state.subscriptions)))
+
+abbrev pub next_state : List SchemaNode → JournalState → Command → JournalState
+next_state nodes state command = (accepted nodes state command).0
+
+abbrev pub reply_to : List SchemaNode → JournalState → Command → Reply
+reply_to nodes state command = (accepted nodes state command).1
+
+-- whether a reply refuses its command
+abbrev pub is_refusal : Reply → Bool
+is_refusal Done = false
+is_refusal (Id id) = false
+is_refusal (EditRefused edit_id tag path) = true
+
+-- the state after commands, in order
+abbrev pub state_after : List SchemaNode → JournalState → List Command → JournalState
+state_after nodes state [] = state
+state_after nodes state (command ∷ commands) = state_after nodes (next_state nodes state command) commands
+
+-- ---- journals
+
+abbrev pub commands_of : List Entry → List Command
+commands_of entries = map (λ entry. entry.command) entries
+
+-- the state after the entries of a journal
+abbrev pub state_of : List SchemaNode → JournalState → List Entry → JournalState
+state_of nodes state entries = state_after nodes state (commands_of entries)
+
+-- the last tick
+abbrev pub tick_limit : ℕ
+tick_limit = 1000000000000
+
+-- a patch that can be read from JSON, with fewer edits than numbers of 32 bits
+pub record IsRead (patch : Patch) : Type 0 where
+  pub json : Data
+  pub read : patch_in json ≡ Some patch
+  pub few : length patch.edits < 2 ^ 32
+
+-- a command that can come of a script that declares these receivers
+abbrev pub MayCome : List SchemaNode → List ReceiverInfo → Command → Type 0
+MayCome nodes receivers (Tick tick) = tick ≤ tick_limit
+MayCome nodes receivers (Edit patch) = IsRead patch
+MayCome nodes receivers (Everything by) = by < length receivers
+
+-- an entry that may follow where the journal has this state: its command may come, and its reply and its stamp are those of the fold
+pub record MayFollow (nodes : List SchemaNode) (state : JournalState) (entry : Entry) : Type 0 where
+  pub command : MayCome nodes state.receivers entry.command
+  pub reply : entry.reply ≡ reply_to nodes state entry.command
+  pub stamp : entry.stamp ≡ (next_state nodes state entry.command).stamp
+
+-- the entries of a legal journal that goes on from a state
+abbrev pub IsLegal : List SchemaNode → JournalState → List Entry → Type 0
+IsLegal nodes state [] = Unit {0}
+IsLegal nodes state (entry ∷ entries) = MayFollow nodes state entry × IsLegal nodes (next_state nodes state entry.command) entries

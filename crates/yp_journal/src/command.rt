@@ -1,0 +1,30 @@
+//! What is asked of the publisher.
+use std::alloc::Global;
+use yp_base::memory::{Duplicate, NoMemory};
+use yp_base::series::Series;
+use yp_edit::patch::Patch;
+
+/// A command of the journal.
+#[derive(Drop)]
+pub enum Command {
+    /// Time goes on to this tick, in centiseconds from the start. It never goes back.
+    Tick(u64),
+    /// A patch of the datastore (RFC 8072 section 2).
+    Edit(Patch),
+    /// An on-change subscription of everything (RFC 8641 section 3.1) for the receiver of this number,
+    /// from 0 on in the order of their declaration.
+    Everything { by: u32 },
+}
+
+/// Commands, in order.
+pub type Commands = Series<Command>;
+
+impl Duplicate for Command {
+    fn copy(&self, alloc: Global) -> Result<Command, NoMemory> {
+        Ok(match self {
+            Command::Tick(tick) => Command::Tick(*tick),
+            Command::Edit(patch) => Command::Edit(patch.copy(alloc)?),
+            Command::Everything { by } => Command::Everything { by: *by },
+        })
+    }
+}

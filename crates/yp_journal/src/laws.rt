@@ -1,0 +1,34 @@
+//! Laws of journals, which the definitions keep; nothing runs.
+ghost use Rattle.std.specs.Prelude.{◌≡◌, ◌+◌, ◌++◌, ◌∷◌, [], List, length, true};
+ghost use Rattle.yp_schema.specs.declared.schema.SchemaNode.{SchemaNode};
+ghost use Rattle.yp_journal.specs.declared.command.Command.{Command};
+ghost use Rattle.yp_journal.specs.declared.entry.Entry.{Entry};
+ghost use Rattle.yp_journal.specs.History.{JournalState, one_further, next_state, reply_to, is_refusal, state_after, state_of, MayFollow, IsLegal};
+
+/// A refused command changes the position alone.
+#[tactic(auto, using(crate::proofs::Journals::refusal_alone))]
+pub fn a_refusal_moves_the_position_alone()
+    ensures refusal_alone { (nodes : List SchemaNode) (state : JournalState) (command : Command)
+        → is_refusal (reply_to nodes state command) ≡ true → next_state nodes state command ≡ one_further state }
+{}
+
+/// The state after one command or entry more is what the command leaves of the state before, the position
+/// is one further with each entry, and the receivers stay.
+#[tactic(auto, using(crate::proofs::Journals::state_more, crate::proofs::Journals::entries_more, crate::proofs::Journals::position_of, crate::proofs::Journals::receivers_stay))]
+pub fn a_journal_goes_on_entry_by_entry()
+    ensures commands { (nodes : List SchemaNode) (state : JournalState) (commands : List Command) (command : Command)
+        → state_after nodes state (commands ++ command ∷ []) ≡ next_state nodes (state_after nodes state commands) command }
+    ensures entries { (nodes : List SchemaNode) (state : JournalState) (entries : List Entry) (entry : Entry)
+        → state_of nodes state (entries ++ entry ∷ []) ≡ next_state nodes (state_of nodes state entries) entry.command }
+    ensures position { (nodes : List SchemaNode) (state : JournalState) (entries : List Entry)
+        → (state_of nodes state entries).position ≡ state.position + length entries }
+    ensures receivers { (nodes : List SchemaNode) (state : JournalState) (entries : List Entry)
+        → (state_of nodes state entries).receivers ≡ state.receivers }
+{}
+
+/// A legal journal stays legal with one entry more that may follow.
+#[tactic(auto, using(crate::proofs::Journals::legal_more))]
+pub fn a_legal_journal_goes_on()
+    ensures legal_more { (nodes : List SchemaNode) (state : JournalState) (entries : List Entry) (entry : Entry)
+        → IsLegal nodes state entries → MayFollow nodes (state_of nodes state entries) entry → IsLegal nodes state (entries ++ entry ∷ []) }
+{}
