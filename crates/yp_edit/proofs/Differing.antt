@@ -14,7 +14,7 @@ use Rattle.yp_base.specs.OrderLaws.{atoms_total}
 use Rattle.yp_base.specs.Rows.{path_of, value_at, put_row, put_rows, AreInOrder}
 use Rattle.yp_base.proofs.RowLaws.{value_at_put, puts_order}
 use Rattle.yp_edit.specs.declared.changed.ChangedRow.{ChangedRow}
-use Rattle.yp_edit.specs.Changes.{same_value, are_alike, change_of, change_at, changed_rows}
+use Rattle.yp_edit.specs.Changes.{same_value, are_alike, change_of, change_at, paths_of_both, changed_rows}
 use Rattle.yp_edit.specs.Bases.{is_listed, left}
 use Rattle.yp_edit.proofs.Alike.{IsBefore, keys, AreSorted, at, are_one, ties_itself, same_entries}
 use Rattle.yp_edit.proofs.Bases.{touched_gone, other_there}
@@ -197,3 +197,11 @@ changed_at rows after q =
 
 pub changed_sorted : (rows after : List Row) → AreInOrder rows → AreSorted (changed_entries (changed_rows rows after))
 changed_sorted rows after order = found_sorted (change_at rows after) (of_path rows after) (map path_of (put_rows after rows)) (puts_order after rows order)
+
+none_changed : (rows : List Row) (paths : List (List Seg)) → filter_map (change_at rows rows) paths ≡ []
+none_changed rows [] = refl
+none_changed rows (path ∷ paths) = rw (alike_itself (value_at path rows)) (none_changed rows paths)
+
+-- rows that stay as they were differ in nothing
+pub none_differ : (before after : List Row) → after ≡ before → changed_rows before after ≡ []
+none_differ before after same = rw same (none_changed before (paths_of_both before before))

@@ -9,6 +9,7 @@ use Rattle.yp_base.specs.declared.row.Value.TheVariants.{Atom as Plain, Member, 
 use Rattle.yp_base.specs.declared.row.Row.{Row}
 use Rattle.yp_base.specs.Order.{atom_cmp}
 use Rattle.yp_base.specs.Rows.{path_of, value_at, put_rows}
+use Rattle.yp_schema.specs.Datastore.{is_present, is_member}
 use Rattle.yp_edit.specs.declared.changed.ChangedRow.{ChangedRow}
 
 abbrev pub is_atom : Value → Atom → Bool
@@ -17,23 +18,11 @@ is_atom Member other = false
 is_atom Empty other = false
 is_atom Present other = false
 
-abbrev pub is_member : Value → Bool
-is_member (Plain atom) = false
-is_member Member = true
-is_member Empty = false
-is_member Present = false
-
 abbrev pub is_empty : Value → Bool
 is_empty (Plain atom) = false
 is_empty Member = false
 is_empty Empty = true
 is_empty Present = false
-
-abbrev pub is_present : Value → Bool
-is_present (Plain atom) = false
-is_present Member = false
-is_present Empty = false
-is_present Present = true
 
 -- whether two values are one
 abbrev pub same_value : Value → Value → Bool

@@ -1,5 +1,5 @@
 -- What a patch does to the rows of a datastore (RFC 8072 sections 2.2 and 2.5).
-use Rattle.std.specs.Prelude.{◌≡◌, ℕ, ◌+◌, List, [], ◌∷◌, length, map, Bool, not, ◌||◌, Option, Some, None, Result, Ok, Err, if◌then◌else◌, nat_lt}
+use Rattle.std.specs.Prelude.{ℕ, ◌+◌, List, [], ◌∷◌, length, map, Bool, not, ◌||◌, Option, Some, None, Result, Ok, Err, if◌then◌else◌, nat_lt}
 use Rattle.std.specs.List.{list_all}
 use Rattle.yp_base.specs.declared.path.Seg.{Seg}
 use Rattle.yp_base.specs.declared.row.Row.{Row}
@@ -16,10 +16,8 @@ use Rattle.serde_json.specs.Data.{Data}
 use Rattle.yp_edit.specs.declared.fault.Tag.{Tag}
 use Rattle.yp_edit.specs.declared.fault.Tag.TheVariants.{UnknownElement, InvalidValue, DataMissing, DataExists, TooBig}
 use Rattle.yp_edit.specs.declared.halt.Refusal.{Refusal}
-use Rattle.yp_edit.specs.declared.halt.Halt.{Halt}
-use Rattle.yp_edit.specs.declared.halt.Halt.TheVariants as halt
 use Rattle.yp_edit.specs.declared.fault.EditFault.{EditFault}
-use Rattle.yp_edit.specs.declared.fault.EditFault.TheVariants.{Refused, Memory}
+use Rattle.yp_edit.specs.declared.fault.EditFault.TheVariants.{Refused}
 use Rattle.yp_edit.specs.declared.patch.EditOp.{EditOp}
 use Rattle.yp_edit.specs.declared.patch.EditOp.TheVariants.{Create, Delete, Insert, Merge, Move, Replace, Remove}
 use Rattle.yp_edit.specs.declared.patch.Edit.{Edit}
@@ -141,29 +139,3 @@ applied nodes rows patch = all_edited nodes 0 rows patch.edits
 -- the rows that a patch changes
 abbrev pub changes_by : List SchemaNode → List Row → Patch → Result (List ChangedRow) EditFault
 changes_by nodes rows patch = applied nodes rows patch >>= λ after. Ok (changed_rows rows after)
-
--- ---- what a call answers
-
--- what is answered is what the definition gives, but where memory ran out
-abbrev pub Says : {X : Type 0} → Result X Halt → Result X Refusal → Type 0
-Says (Ok x) read = read ≡ Ok x
-Says (Err (halt.Refused refusal)) read = read ≡ Err refusal
-Says (Err halt.Memory) read = Unit {0}
-
--- the rows that are left are what the definition gives
-abbrev pub Leaves : {X : Type 0} → Result X Halt → List Row → Result (List Row) Refusal → Type 0
-Leaves (Ok x) after read = read ≡ Ok after
-Leaves (Err (halt.Refused refusal)) after read = read ≡ Err refusal
-Leaves (Err halt.Memory) after read = Unit {0}
-
--- the same of a patch
-abbrev pub Yields : {X : Type 0} → Result X EditFault → Result X EditFault → Type 0
-Yields (Ok x) read = read ≡ Ok x
-Yields (Err (Refused edit tag path)) read = read ≡ Err (Refused edit tag path)
-Yields (Err Memory) read = Unit {0}
-
--- the rows that are left are what the definition gives
-abbrev pub LeavesAll : {X : Type 0} → Result X EditFault → List Row → Result (List Row) EditFault → Type 0
-LeavesAll (Ok x) after read = read ≡ Ok after
-LeavesAll (Err (Refused edit tag path)) after read = read ≡ Err (Refused edit tag path)
-LeavesAll (Err Memory) after read = Unit {0}

@@ -1,7 +1,8 @@
 //! Applying patches.
-ghost use Rattle.std.specs.Prelude.{◌≡◌, ◌^◌, ◌<◌, length, IfOk, OnOk, OnErr};
+ghost use Rattle.std.specs.Prelude.{◌≡◌, ◌^◌, ◌<◌, [], length, IfOk, OnOk, OnErr};
 ghost use Rattle.yp_edit.specs.Changes.{changed_rows};
-ghost use Rattle.yp_edit.specs.Patches.{LeavesAll, Yields, of_edit, edited, all_edited, changes_by, applied};
+ghost use Rattle.yp_edit.specs.Answers.{SaysAll, LeavesAll, NamesOneOf};
+ghost use Rattle.yp_edit.specs.Patches.{of_edit, edited, all_edited, changes_by, applied};
 
 use crate::changed::Changed;
 use crate::commit::commit;
@@ -71,7 +72,7 @@ fn changes_of<L: Ledger>(
     steps: &mut Steps<L>,
 ) -> Result<Changed, EditFault>
     requires { length patch.now.edits < 2 ^ 32 }
-    ensures { Yields result (changes_by schema.now tree.now patch.now) }
+    ensures { SaysAll result (changes_by schema.now tree.now patch.now) }
 {
     let mut draft = Draft::new(alloc, tree);
     make_all(alloc, schema, &mut draft, &patch.edits, steps)?;
@@ -94,6 +95,8 @@ pub fn apply<L: Ledger>(
     requires { length patch.now.edits < 2 ^ 32 }
     ensures applied { LeavesAll result tree.new (applied schema.now tree.old patch.now) }
     ensures changed { IfOk result (λ changed. changed ≡ changed_rows tree.old tree.new) }
+    ensures quiet { IfOk result (λ changed. tree.new ≡ tree.old → changed ≡ []) }
+    ensures number { NamesOneOf result (length patch.now.edits) }
     ensures unchanged { OnErr result (tree.new ≡ tree.old) }
 {
     let _rows = tree.len();

@@ -67,7 +67,7 @@ fn are_alike(old: Option<&Value>, new: Option<&Value>) -> bool
 }
 
 /// The change of a path's row, where there is one.
-pub fn change_of(
+pub(crate) fn change_of(
     alloc: Global,
     path: &Path,
     old: Option<&Value>,

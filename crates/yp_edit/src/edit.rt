@@ -3,7 +3,8 @@ ghost use Rattle.std.specs.Prelude.{◌≡◌, ◌<◌, ◌++◌, ◌∷◌, [],
 ghost use Rattle.yp_base.specs.Rows.{put_rows};
 ghost use Rattle.yp_schema.specs.Datastore.{is_entry_kind, is_path_of, is_place, last_node};
 ghost use Rattle.yp_edit.specs.Drafts.{Drafted};
-ghost use Rattle.yp_edit.specs.Patches.{Says, Leaves, created, deleted, has_its_row, stand_above, new_rows, changed_by, edited};
+ghost use Rattle.yp_edit.specs.Answers.{Says, Leaves};
+ghost use Rattle.yp_edit.specs.Patches.{created, deleted, has_its_row, stand_above, new_rows, changed_by, edited};
 
 use crate::draft::Draft;
 use crate::fault::Tag;
