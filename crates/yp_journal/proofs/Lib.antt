@@ -1,3 +1,1 @@
 pub mod Journals
-pub mod Refusals
-pub mod Unchanged

@@ -1,7 +1,8 @@
 //! The state of the journal.
 ghost use Rattle.std.specs.Prelude.{◌≡◌, ◌+◌, ◌<◌, ◌≤◌, ◌^◌, [], length, true, IfOk, OnOk, OnErr};
+ghost use Rattle.yp_edit.specs.Answers.{LeavesAll, NamesOneOf};
 ghost use Rattle.yp_edit.specs.Changes.{changed_rows};
-ghost use Rattle.yp_edit.specs.Patches.{LeavesAll, applied};
+ghost use Rattle.yp_edit.specs.Patches.{applied};
 ghost use Rattle.yp_journal.specs.declared.command.Command.TheVariants.{Edit};
 ghost use Rattle.yp_journal.specs.History.{first_state, one_further, with_tick, with_subscription, id_at, next_id, next_state, reply_to, is_refusal, tick_limit, MayCome};
 
@@ -87,6 +88,7 @@ fn apply_with<L: Ledger>(
     requires few { length patch.now.edits < 2 ^ 32 }
     ensures applied { LeavesAll result tree.new (applied schema.now tree.old patch.now) }
     ensures changed { IfOk result (λ changed. changed ≡ changed_rows tree.old tree.new) }
+    ensures number { NamesOneOf result (length patch.now.edits) }
     ensures unchanged { OnErr result (tree.new ≡ tree.old) }
 {
     let mut steps = Steps::<L>::open(blank);
@@ -150,7 +152,7 @@ impl State {
     /// Takes a command: the state goes on to what it leaves, and its reply and the rows that it changed
     /// are told. A command that is refused moves the position alone. After `NoMemory` the state is as it
     /// was; it comes too where 2147483648 subscriptions were given and one more is asked for.
-    #[tactic(auto, using(crate::proofs::Unchanged::none_told))]
+    #[tactic(auto, using(yp_edit::proofs::Differing::none_differ))]
     pub fn accept(
         &mut self,
         alloc: Global,
@@ -202,7 +204,7 @@ impl State {
     }
 
     /// Edits the datastore.
-    #[tactic(auto, using(crate::proofs::Unchanged::none_told))]
+    #[tactic(auto, using(yp_edit::proofs::Differing::none_differ))]
     fn edit(&mut self, alloc: Global, schema: &Schema, patch: &Patch) -> Result<Outcome, NoMemory>
         requires few { length patch.now.edits < 2 ^ 32 }
         requires position { self.old.position < 2 ^ 63 }
