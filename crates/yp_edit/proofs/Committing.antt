@@ -1,46 +1,50 @@
 -- Changes that are made to rows, or taken back.
-use Rattle.std.proofs.Common.{◌≡◌, List, [], ◌∷◌, map, refl, sym, ap, subst, ◌∙◌, cond, Bool, true, false, true≢false, ◌||◌, Option, Some, None}
+use Rattle.std.proofs.Common.{◌≡◌, List, [], ◌∷◌, map, refl, sym, ap, subst, ◌∙◌, cond, Bool, true, false, true≢false, not, Option, Some, None}
 use Rattle.std.specs.Prelude.{is_some}
-use Rattle.std.specs.List.{filter_map, cons_option, AllByRecursion}
+use Rattle.std.specs.List.{filter_map, cons_option}
+use Rattle.std.specs.List.Sorted.{IsStrictlySortedBy}
 use Rattle.std.specs.Ordering.{is_eq}
+use Rattle.yp_base.specs.declared.atom.Atom.{Atom}
 use Rattle.yp_base.specs.declared.path.Seg.{Seg}
 use Rattle.yp_base.specs.declared.row.Value.{Value}
+use Rattle.yp_base.specs.declared.row.Value.TheVariants.{Atom as Plain, Member, Empty, Present}
 use Rattle.yp_base.specs.declared.row.Row.{Row}
 use Rattle.yp_base.specs.Order.{path_cmp}
 use Rattle.yp_base.specs.Rows.{path_of, value_at, put_row, put_rows, AreInOrder}
-use Rattle.yp_base.proofs.RowLaws.{value_at_put}
+use Rattle.yp_base.proofs.Exact.{atoms_exact}
+use Rattle.yp_base.proofs.RowLaws.{value_at_put, puts_order}
+use Rattle.std.proofs.lemmas.Map.Views.{tells_apart}
 use Rattle.yp_tree.specs.Listed.{without_row}
 use Rattle.yp_edit.specs.declared.changed.ChangedRow.{ChangedRow}
-use Rattle.yp_edit.specs.Bases.{is_listed}
-use Rattle.yp_edit.specs.Commits.{KeepsOthers, AreThere, AreChangesOf, row_with, row_where, without_missing}
-use Rattle.yp_edit.specs.declared.commit.Side.TheVariants.{Old}
-use Rattle.yp_edit.proofs.Alike.{are_one, same_rows}
+use Rattle.yp_edit.specs.Changes.{is_atom, same_value, are_alike, change_of, changed_rows}
+use Rattle.yp_edit.specs.Commits.{Differ, KeepsOthers, AreThere, row_with, new_row, without_missing}
+use Rattle.yp_edit.proofs.Alike.{IsBefore, keys, AreSorted, at, are_one, none_before, same_rows}
+use Rattle.yp_edit.proofs.Differing.{neither, changed_entries, changed_sorted, changed_at}
+use Rattle.yp_edit.proofs.Drafts.{or_else, value_at_puts, each_there}
 use Rattle.yp_edit.proofs.Taking.{value_at_without_row, without_row_order}
 
-either : (a b : Bool) → (a || b) ≡ false → (a ≡ false) × (b ≡ false)
-either true b h = absurd (true≢false h)
-either false b h = (refl, h)
+-- ---- rows that are put
 
 still_some : (b : Bool) (value : Value) (other : Option Value) → is_some other ≡ true → is_some (cond b (Some value) other) ≡ true
 still_some true value other h = refl
 still_some false value other h = h
 
-pub put_stays : (path : List Seg) (new : Row) (rows : List Row) → is_some (value_at path rows) ≡ true → is_some (value_at path (put_row new rows)) ≡ true
+put_stays : (path : List Seg) (new : Row) (rows : List Row) → is_some (value_at path rows) ≡ true → is_some (value_at path (put_row new rows)) ≡ true
 put_stays path new rows h = ap is_some (value_at_put path new rows) ∙ still_some (is_eq (path_cmp path new.path)) new.value (value_at path rows) h
 
-pub puts_stay : (path : List Seg) (news rows : List Row) → is_some (value_at path rows) ≡ true → is_some (value_at path (put_rows news rows)) ≡ true
+puts_stay : (path : List Seg) (news rows : List Row) → is_some (value_at path rows) ≡ true → is_some (value_at path (put_rows news rows)) ≡ true
 puts_stay path [] rows h = h
 puts_stay path (new ∷ news) rows h = puts_stay path news (put_row new rows) (put_stays path new rows h)
 
-all_stay : (new : Row) (rows some : List Row) → AreThere some rows → AreThere some (put_row new rows)
-all_stay new rows [] all = tt
-all_stay new rows (row ∷ some) all = (put_stays row.path new rows all.0, all_stay new rows some all.1)
+all_there : (some one other : List Row) → ((path : List Seg) → is_some (value_at path one) ≡ true → is_some (value_at path other) ≡ true) → AreThere some one → AreThere some other
+all_there [] one other stays all = tt
+all_there (row ∷ some) one other stays all = (stays row.path all.0, all_there some one other stays all.1)
 
 -- the first of some rows were put, and the rest are left
 pub record Putting (all before rest now : List Row) : Type 0 where
   pub rows : put_rows rest now ≡ put_rows all before
   pub others : KeepsOthers all before now
-  pub among : (path : List Seg) → is_listed path (map path_of all) ≡ false → is_listed path (map path_of rest) ≡ false
+  pub among : (path : List Seg) → value_at path all ≡ None → value_at path rest ≡ None
   pub there : AreThere all before → AreThere rest now
 
 pub none_put : (all before : List Row) → Putting all before all before
@@ -50,104 +54,259 @@ pub one_put : (all before : List Row) (row : Row) (rest now after : List Row) �
 one_put all before row rest now after put is = record {
   rows = ap (put_rows rest) is ∙ put.rows;
   others = λ path h.
-      ap (value_at path) is ∙ value_at_put path row now ∙ ap (λ b. cond b (Some row.value) (value_at path now)) (either (is_eq (path_cmp path row.path)) (is_listed path (map path_of rest)) (put.among path h)).0 ∙ put.others path h;
-  among = λ path h. (either (is_eq (path_cmp path row.path)) (is_listed path (map path_of rest)) (put.among path h)).1;
-  there = λ h. subst (AreThere rest) (sym is) (all_stay row now rest (put.there h).1);
+      ap (value_at path) is ∙ value_at_put path row now ∙ ap (λ b. cond b (Some row.value) (value_at path now)) (neither (is_eq (path_cmp path row.path)) row.value (value_at path rest) (put.among path h)).0 ∙ put.others path h;
+  among = λ path h. (neither (is_eq (path_cmp path row.path)) row.value (value_at path rest) (put.among path h)).1;
+  there = λ h. subst (AreThere rest) (sym is) (all_there rest now (put_row row now) (λ path. put_stays path row now) (put.there h).1);
 }
 
-pub not_missing : (found : Option Value) → is_some found ≡ true → found ≡ None → ⊥
-not_missing found here none = true≢false (sym here ∙ ap is_some none)
+-- ---- rows that changes bring
 
--- ---- what is taken back
+abbrev pub row_value : Option Row → Option Value
+row_value None = None
+row_value (Some row) = Some row.value
 
--- whether a path has a change of a row that was missing
-lost : List Seg → List ChangedRow → Bool
-lost q [] = false
-lost q (change ∷ changes) = cond (is_some change.old) (lost q changes) (is_eq (path_cmp q change.path) || lost q changes)
+abbrev pub of_found : (ChangedRow → Option Row) → Option ChangedRow → Option Value
+of_found g None = None
+of_found g (Some change) = row_value (g change)
 
-two_nones : (b : Bool) (value : Option Value) → cond b None (cond b None value) ≡ cond b None value
-two_nones true value = refl
-two_nones false value = refl
-
-none_twice : (b l : Bool) (value : Option Value) → cond l None (cond b None value) ≡ cond (b || l) None value
-none_twice true true value = refl
-none_twice true false value = refl
-none_twice false l value = refl
-
-pub taken_order : (changes : List ChangedRow) (rows : List Row) → AreInOrder rows → AreInOrder (without_missing Old changes rows)
-taken_order [] rows order = order
-taken_order (change ∷ changes) rows order =
-    elim (is_some change.old) as (λ b. AreInOrder (without_missing Old changes (cond b rows (without_row change.path rows)))) [
-      | true ↦ taken_order changes rows order
-      | false ↦ taken_order changes (without_row change.path rows) (without_row_order change.path rows order)
-    ]
-
-value_at_taken : (q : List Seg) (changes : List ChangedRow) (rows : List Row) → AreInOrder rows → value_at q (without_missing Old changes rows) ≡ cond (lost q changes) None (value_at q rows)
-unfolding lost
-value_at_taken q [] rows order = refl
-value_at_taken q (change ∷ changes) rows order =
-    elim (is_some change.old) as (λ b. value_at q (without_missing Old changes (cond b rows (without_row change.path rows))) ≡ cond (cond b (lost q changes) (is_eq (path_cmp q change.path) || lost q changes)) None (value_at q rows)) [
-      | true ↦ value_at_taken q changes rows order
-      | false ↦
-          value_at_taken q changes (without_row change.path rows) (without_row_order change.path rows order)
-          ∙ ap (cond (lost q changes) None) (value_at_without_row q change.path rows order)
-          ∙ none_twice (is_eq (path_cmp q change.path)) (lost q changes) (value_at q rows)
-    ]
-
-no_value : (found : Option Value) → is_some found ≡ false → found ≡ None
-no_value None h = refl
-no_value (Some v) h = absurd (true≢false h)
-
-was_missing : (q : List Seg) (rows : List Row) (changes : List ChangedRow) → AllByRecursion (λ change. change.old ≡ value_at change.path rows) changes → lost q changes ≡ true → value_at q rows ≡ None
-unfolding lost
-was_missing q rows [] olds h = absurd (true≢false (sym h))
-was_missing q rows (change ∷ changes) olds h =
-    elim (is_some change.old) as (λ b. is_some change.old ≡ b → cond b (lost q changes) (is_eq (path_cmp q change.path) || lost q changes) ≡ true → value_at q rows ≡ None) [
-      | true ↦ λ e k. was_missing q rows changes olds.1 k
-      | false ↦ λ e. elim (is_eq (path_cmp q change.path)) as (λ b. is_eq (path_cmp q change.path) ≡ b → (b || lost q changes) ≡ true → value_at q rows ≡ None) [
-        | true ↦ λ here k. ap (λ p. value_at p rows) (are_one q change.path here) ∙ sym olds.0 ∙ no_value change.old e
-        | false ↦ λ here k. was_missing q rows changes olds.1 k
+module _ (g : ChangedRow → Option Row) (of_path : (change : ChangedRow) (row : Row) → g change ≡ Some row → row.path ≡ change.path) where
+  brought_at : (q : List Seg) (changes : List ChangedRow) → AreSorted (changed_entries changes) → value_at q (filter_map g changes) ≡ of_found g (at q (changed_entries changes))
+  unfolding IsStrictlySortedBy
+  brought_at q [] s = refl
+  brought_at q (change ∷ changes) s =
+      elim (g change) as (λ r. g change ≡ r → value_at q (cons_option r (filter_map g changes)) ≡ of_found g (at q (changed_entries (change ∷ changes)))) [
+        | None ↦ λ is. brought_at q changes s.1 ∙ elim (is_eq (path_cmp q change.path)) as (λ b. is_eq (path_cmp q change.path) ≡ b → of_found g (at q (changed_entries changes)) ≡ of_found g (cond b (Some change) (at q (changed_entries changes)))) [
+          | true ↦ λ here.
+              ap (of_found g) (none_before q (changed_entries changes) (subst (λ (p : List Seg). IsBefore p (keys (changed_entries changes))) (sym (are_one q change.path here)) s.0))
+              ∙ sym (ap row_value is)
+          | false ↦ λ here. refl
+        ] refl
+        | Some row ↦ λ is.
+            ap (λ p. cond (is_eq (path_cmp q p)) (Some row.value) (value_at q (filter_map g changes))) (of_path change row is)
+            ∙ elim (is_eq (path_cmp q change.path)) as (λ b. cond b (Some row.value) (value_at q (filter_map g changes)) ≡ of_found g (cond b (Some change) (at q (changed_entries changes)))) [
+              | true ↦ sym (ap row_value is)
+              | false ↦ brought_at q changes s.1
+            ]
       ] refl
-    ] refl h
 
-none_added : (q : List Seg) (changes : List ChangedRow) → lost q changes ≡ false → is_listed q (map path_of (filter_map (row_where false) changes)) ≡ false
-unfolding lost
-none_added q [] h = refl
-none_added q (change ∷ changes) h =
-    elim (is_some change.old) as (λ b. cond b (lost q changes) (is_eq (path_cmp q change.path) || lost q changes) ≡ false → is_listed q (map path_of (cons_option (cond b None (row_with change.path change.new)) (filter_map (row_where false) changes))) ≡ false) [
-      | true ↦ λ k. none_added q changes k
-      | false ↦ λ k. elim (is_eq (path_cmp q change.path)) as (λ b. is_eq (path_cmp q change.path) ≡ b → (b || lost q changes) ≡ false → is_listed q (map path_of (cons_option (row_with change.path change.new) (filter_map (row_where false) changes))) ≡ false) [
-        | true ↦ λ here m. absurd (true≢false m)
-        | false ↦ λ here m. elim change.new as (λ w. is_listed q (map path_of (cons_option (row_with change.path w) (filter_map (row_where false) changes))) ≡ false) [
-          | None ↦ none_added q changes m
-          | Some value ↦ ap (λ b. b || is_listed q (map path_of (filter_map (row_where false) changes))) here ∙ none_added q changes m
-        ]
-      ] refl k
+  brought_before : (p : List Seg) (changes : List ChangedRow) → IsBefore p (keys (changed_entries changes)) → IsBefore p (map path_of (filter_map g changes))
+  brought_before p [] all = tt
+  brought_before p (change ∷ changes) all =
+      elim (g change) as (λ r. g change ≡ r → IsBefore p (map path_of (cons_option r (filter_map g changes)))) [
+        | None ↦ λ is. brought_before p changes all.1
+        | Some row ↦ λ is. (ap (path_cmp p) (of_path change row is) ∙ all.0, brought_before p changes all.1)
+      ] refl
+
+  brought_order : (changes : List ChangedRow) → AreSorted (changed_entries changes) → AreInOrder (filter_map g changes)
+  unfolding IsStrictlySortedBy
+  brought_order [] s = tt
+  brought_order (change ∷ changes) s =
+      elim (g change) as (λ r. g change ≡ r → AreInOrder (cons_option r (filter_map g changes))) [
+        | None ↦ λ is. brought_order changes s.1
+        | Some row ↦ λ is. (subst (λ (p : List Seg). IsBefore p (map path_of (filter_map g changes))) (sym (of_path change row is)) (brought_before change.path changes s.0), brought_order changes s.1)
+      ] refl
+
+  -- what is brought to rows that make others
+  brought : (before after : List Row) (q : List Seg) → AreInOrder before → value_at q (filter_map g (changed_rows before after)) ≡ of_found g (change_of q (value_at q before) (value_at q after))
+  brought before after q order = brought_at q (changed_rows before after) (changed_sorted before after order) ∙ ap (of_found g) (changed_at before after q)
+
+with_path : (path : List Seg) (value : Option Value) (row : Row) → row_with path value ≡ Some row → row.path ≡ path
+with_path path None row h = let no : None ≡ Some row = h in cc
+with_path path (Some v) row h = let made : Row = record { path = path; value = v } in let same : made ≡ row = cc in ap (λ (r : Row). r.path) (sym same)
+
+given_path : (change : ChangedRow) (row : Row) → new_row true change ≡ Some row → row.path ≡ change.path
+given_path change row h =
+    elim (is_some change.old) as (λ b. cond b (row_with change.path change.new) None ≡ Some row → row.path ≡ change.path) [
+      | true ↦ λ k. with_path change.path change.new row k
+      | false ↦ λ k. let no : None ≡ Some row = k in cc
     ] h
 
--- what was put is taken back
-pub taken_back : (changes : List ChangedRow) (before now : List Row) → AreInOrder before → AreInOrder now → AreChangesOf before changes → KeepsOthers (filter_map (row_where false) changes) before now → without_missing Old changes now ≡ before
-taken_back changes before now before_order order are others =
-    same_rows (without_missing Old changes now) before (taken_order changes now order) before_order (λ q.
-    value_at_taken q changes now order
-    ∙ elim (lost q changes) as (λ b. lost q changes ≡ b → cond b None (value_at q now) ≡ value_at q before) [
-      | true ↦ λ h. sym (was_missing q before changes are.olds h)
-      | false ↦ λ h. others q (none_added q changes h)
-    ] refl)
+added_path : (change : ChangedRow) (row : Row) → new_row false change ≡ Some row → row.path ≡ change.path
+added_path change row h =
+    elim (is_some change.old) as (λ b. cond b None (row_with change.path change.new) ≡ Some row → row.path ≡ change.path) [
+      | true ↦ λ k. let no : None ≡ Some row = k in cc
+      | false ↦ λ k. with_path change.path change.new row k
+    ] h
 
-given_here : (change : ChangedRow) (rest rows : List Row) → (is_some change.old ≡ true → is_some (value_at change.path rows) ≡ true) → AllByRecursion (λ row. is_some (value_at row.path rows) ≡ true) rest
-    → AllByRecursion (λ row. is_some (value_at row.path rows) ≡ true) (cons_option (row_where true change) rest)
-given_here change rest rows there all =
-    elim (is_some change.old) as (λ b. is_some change.old ≡ b → AllByRecursion (λ row. is_some (value_at row.path rows) ≡ true) (cons_option (cond b (row_with change.path change.new) None) rest)) [
-      | true ↦ λ e. elim change.new as (λ w. AllByRecursion (λ row. is_some (value_at row.path rows) ≡ true) (cons_option (row_with change.path w) rest)) [
-        | None ↦ all
-        | Some value ↦ (there e, all)
-      ]
-      | false ↦ λ e. all
+-- ---- rows that are taken out
+
+abbrev pub old_value : ChangedRow → Option Value
+old_value change = change.old
+
+abbrev pub new_value : ChangedRow → Option Value
+new_value change = change.new
+
+abbrev pub is_missing : (ChangedRow → Option Value) → Option ChangedRow → Bool
+is_missing value None = false
+is_missing value (Some change) = not (is_some (value change))
+
+left_order : (value : ChangedRow → Option Value) (changes : List ChangedRow) (rows : List Row) → AreInOrder rows → AreInOrder (without_missing value changes rows)
+left_order value [] rows order = order
+left_order value (change ∷ changes) rows order =
+    elim (is_some (value change)) as (λ b. AreInOrder (without_missing value changes (cond b rows (without_row change.path rows)))) [
+      | true ↦ left_order value changes rows order
+      | false ↦ left_order value changes (without_row change.path rows) (without_row_order change.path rows order)
+    ]
+
+none_kept : (b : Bool) (value : Option Value) → value ≡ None → cond b value value ≡ None
+none_kept true value h = h
+none_kept false value h = h
+
+left_at : (value : ChangedRow → Option Value) (q : List Seg) (changes : List ChangedRow) (rows : List Row) → AreSorted (changed_entries changes) → AreInOrder rows
+    → value_at q (without_missing value changes rows) ≡ cond (is_missing value (at q (changed_entries changes))) None (value_at q rows)
+unfolding IsStrictlySortedBy
+left_at value q [] rows s order = refl
+left_at value q (change ∷ changes) rows s order =
+    let nothing_else : is_eq (path_cmp q change.path) ≡ true → at q (changed_entries changes) ≡ None = λ here.
+    none_before q (changed_entries changes) (subst (λ (p : List Seg). IsBefore p (keys (changed_entries changes))) (sym (are_one q change.path here)) s.0) in
+    elim (is_some (value change)) as (λ n. is_some (value change) ≡ n → value_at q (without_missing value changes (cond n rows (without_row change.path rows))) ≡ cond (is_missing value (at q (changed_entries (change ∷ changes)))) None (value_at q rows)) [
+      | true ↦ λ is. left_at value q changes rows s.1 order ∙ elim (is_eq (path_cmp q change.path)) as (λ b. is_eq (path_cmp q change.path) ≡ b → cond (is_missing value (at q (changed_entries changes))) None (value_at q rows) ≡ cond (is_missing value (cond b (Some change) (at q (changed_entries changes)))) None (value_at q rows)) [
+        | true ↦ λ here. ap (λ f. cond (is_missing value f) None (value_at q rows)) (nothing_else here) ∙ sym (ap (λ n. cond (not n) None (value_at q rows)) is)
+        | false ↦ λ here. refl
+      ] refl
+      | false ↦ λ is.
+          left_at value q changes (without_row change.path rows) s.1 (without_row_order change.path rows order)
+          ∙ ap (cond (is_missing value (at q (changed_entries changes))) None) (value_at_without_row q change.path rows order)
+          ∙ elim (is_eq (path_cmp q change.path)) as (λ b. is_eq (path_cmp q change.path) ≡ b → cond (is_missing value (at q (changed_entries changes))) None (cond b None (value_at q rows)) ≡ cond (is_missing value (cond b (Some change) (at q (changed_entries changes)))) None (value_at q rows)) [
+            | true ↦ λ here. none_kept (is_missing value (at q (changed_entries changes))) None refl ∙ sym (ap (λ n. cond (not n) None (value_at q rows)) is)
+            | false ↦ λ here. refl
+          ] refl
     ] refl
 
-pub given_there : (before now : List Row) (changes : List ChangedRow) → AllByRecursion (λ change. change.old ≡ value_at change.path before) changes → ((path : List Seg) → is_some (value_at path before) ≡ true → is_some (value_at path now) ≡ true)
-    → AllByRecursion (λ row. is_some (value_at row.path now) ≡ true) (filter_map (row_where true) changes)
-given_there before now [] olds stay = tt
-given_there before now (change ∷ changes) olds stay =
-    given_here change (filter_map (row_where true) changes) now (λ e. stay change.path (ap is_some (sym olds.0) ∙ e)) (given_there before now changes olds.1 stay)
+-- what is left of rows that make others
+left : (value : ChangedRow → Option Value) (before after rows : List Row) (q : List Seg) → AreInOrder before → AreInOrder rows
+    → value_at q (without_missing value (changed_rows before after) rows) ≡ cond (is_missing value (change_of q (value_at q before) (value_at q after))) None (value_at q rows)
+left value before after rows q before_order order =
+    left_at value q (changed_rows before after) rows (changed_sorted before after before_order) order ∙ ap (λ f. cond (is_missing value f) None (value_at q rows)) (changed_at before after q)
+
+-- ---- changes that are made
+
+same_atom : (value : Value) (atom : Atom) → is_atom value atom ≡ true → value ≡ Plain atom
+same_atom (Plain other) atom h = ap (λ (a : Atom). Plain a) (tells_apart atoms_exact other atom h)
+same_atom Member atom h = absurd (true≢false (sym h))
+same_atom Empty atom h = absurd (true≢false (sym h))
+same_atom Present atom h = absurd (true≢false (sym h))
+
+same_is : (one other : Value) → same_value one other ≡ true → one ≡ other
+same_is one (Plain atom) h = same_atom one atom h
+same_is Member Member h = refl
+same_is (Plain a) Member h = absurd (true≢false (sym h))
+same_is Empty Member h = absurd (true≢false (sym h))
+same_is Present Member h = absurd (true≢false (sym h))
+same_is Empty Empty h = refl
+same_is (Plain a) Empty h = absurd (true≢false (sym h))
+same_is Member Empty h = absurd (true≢false (sym h))
+same_is Present Empty h = absurd (true≢false (sym h))
+same_is Present Present h = refl
+same_is (Plain a) Present h = absurd (true≢false (sym h))
+same_is Member Present h = absurd (true≢false (sym h))
+same_is Empty Present h = absurd (true≢false (sym h))
+
+alike_is : (one other : Option Value) → are_alike one other ≡ true → one ≡ other
+alike_is None None h = refl
+alike_is None (Some new) h = absurd (true≢false (sym h))
+alike_is (Some old) None h = absurd (true≢false (sym h))
+alike_is (Some old) (Some new) h = ap (λ (v : Value). Some v) (same_is old new h)
+
+-- what a change makes of a value
+made_of : Option Value → Option ChangedRow → Option Value
+made_of old change = cond (is_missing new_value change) None (or_else (of_found (new_row true) change) (or_else (of_found (new_row false) change) old))
+
+made_new : (q : List Seg) (old new : Option Value) → made_of old (Some (record { path = q; old = old; new = new })) ≡ new
+unfolding made_of
+made_new q None None = refl
+made_new q None (Some v) = refl
+made_new q (Some o) None = refl
+made_new q (Some o) (Some v) = refl
+
+made_right : (q : List Seg) (old new : Option Value) → made_of old (change_of q old new) ≡ new
+unfolding made_of
+made_right q old new =
+    elim (are_alike old new) as (λ b. are_alike old new ≡ b → made_of old (cond b None (Some (record { path = q; old = old; new = new }))) ≡ new) [
+      | true ↦ λ h. alike_is old new h
+      | false ↦ λ h. made_new q old new
+    ] refl
+
+abbrev pub committed : List ChangedRow → List Row → List Row
+committed changes rows = without_missing new_value changes (put_rows (filter_map (new_row true) changes) (put_rows (filter_map (new_row false) changes) rows))
+
+-- the rows that differ make one list the other
+made_all : (before after : List Row) → AreInOrder before → AreInOrder after → committed (changed_rows before after) before ≡ after
+unfolding made_of
+made_all before after order after_order =
+    let changes = changed_rows before after in
+    let sorted = changed_sorted before after order in
+    let added = filter_map (new_row false) changes in
+    let given = filter_map (new_row true) changes in
+    let first_order = puts_order added before order in
+    let second_order = puts_order given (put_rows added before) first_order in
+    same_rows (committed changes before) after (left_order new_value changes (put_rows given (put_rows added before)) second_order) after_order (λ q.
+    left new_value before after (put_rows given (put_rows added before)) q order second_order
+    ∙ ap (cond (is_missing new_value (change_of q (value_at q before) (value_at q after))) None) (
+    value_at_puts q given (put_rows added before) (brought_order (new_row true) given_path changes sorted)
+    ∙ ap (or_else (value_at q given)) (value_at_puts q added before (brought_order (new_row false) added_path changes sorted))
+    ∙ (λ i. or_else (brought (new_row true) given_path before after q order i) (or_else (brought (new_row false) added_path before after q order i) (value_at q before))))
+    ∙ made_right q (value_at q before) (value_at q after))
+
+-- rows that are put and taken out as changes ask differ by these changes
+pub all_made : (changes : List ChangedRow) (before after added given now : List Row) → AreInOrder before → Differ changes before after → added ≡ filter_map (new_row false) changes → given ≡ filter_map (new_row true) changes
+    → now ≡ without_missing new_value changes (put_rows given (put_rows added before)) → Differ changes before now
+all_made changes before after added given now order differ is_added is_given is =
+    let made : now ≡ committed changes before = is ∙ (λ i. without_missing new_value changes (put_rows (is_given i) (put_rows (is_added i) before))) in
+    let same : now ≡ after = made ∙ ap (λ (cs : List ChangedRow). committed cs before) differ.changed ∙ made_all before after order differ.in_order in
+    subst (λ (rows : List Row). Differ changes before rows) (sym same) differ
+
+-- rows that differ by the same are the same
+pub same_after : (before one other : List Row) → AreInOrder before → AreInOrder one → AreInOrder other → changed_rows before one ≡ changed_rows before other → one ≡ other
+same_after before one other order one_order other_order same = sym (made_all before one order one_order) ∙ ap (λ (cs : List ChangedRow). committed cs before) same ∙ made_all before other order other_order
+
+-- ---- changes that are taken back
+
+back_new : (q : List Seg) (old new now : Option Value) → (of_found (new_row false) (Some (record { path = q; old = old; new = new })) ≡ None → now ≡ old) → cond (not (is_some old)) None now ≡ old
+back_new q None new now kept = refl
+back_new q (Some v) new now kept = kept refl
+
+back_right : (q : List Seg) (old new now : Option Value) → (of_found (new_row false) (change_of q old new) ≡ None → now ≡ old) → cond (is_missing old_value (change_of q old new)) None now ≡ old
+back_right q old new now kept =
+    elim (are_alike old new) as (λ b. (of_found (new_row false) (cond b None (Some (record { path = q; old = old; new = new }))) ≡ None → now ≡ old) → cond (is_missing old_value (cond b None (Some (record { path = q; old = old; new = new })))) None now ≡ old) [
+      | true ↦ λ k. k refl
+      | false ↦ λ k. back_new q old new now k
+    ] kept
+
+back_all : (before after now : List Row) → AreInOrder before → AreInOrder now → KeepsOthers (filter_map (new_row false) (changed_rows before after)) before now → without_missing old_value (changed_rows before after) now ≡ before
+back_all before after now order now_order others =
+    same_rows (without_missing old_value (changed_rows before after) now) before (left_order old_value (changed_rows before after) now now_order) order (λ q.
+    left old_value before after now q order now_order
+    ∙ back_right q (value_at q before) (value_at q after) (value_at q now) (λ none. others q (brought (new_row false) added_path before after q order ∙ none)))
+
+-- what was put is taken back
+pub taken_back : (changes : List ChangedRow) (before after now : List Row) → AreInOrder before → AreInOrder now → Differ changes before after → KeepsOthers (filter_map (new_row false) changes) before now → without_missing old_value changes now ≡ before
+taken_back changes before after now order now_order differ others =
+    ap (λ (cs : List ChangedRow). without_missing old_value cs now) differ.changed
+    ∙ back_all before after now order now_order (subst (λ (cs : List ChangedRow). KeepsOthers (filter_map (new_row false) cs) before now) differ.changed others)
+
+-- ---- rows in the place of others
+
+was_given : (q : List Seg) (old new : Option Value) → is_some (of_found (new_row true) (Some (record { path = q; old = old; new = new }))) ≡ true → is_some old ≡ true
+was_given q None new h = absurd (true≢false (sym h))
+was_given q (Some v) new h = refl
+
+was_there : (q : List Seg) (old new : Option Value) → is_some (of_found (new_row true) (change_of q old new)) ≡ true → is_some old ≡ true
+was_there q old new there =
+    elim (are_alike old new) as (λ b. is_some (of_found (new_row true) (cond b None (Some (record { path = q; old = old; new = new })))) ≡ true → is_some old ≡ true) [
+      | true ↦ λ h. absurd (true≢false (sym h))
+      | false ↦ λ h. was_given q old new h
+    ] there
+
+all_given : (before after added : List Row) → AreInOrder before → AreThere (filter_map (new_row true) (changed_rows before after)) (put_rows added before)
+all_given before after added order =
+    let given = filter_map (new_row true) (changed_rows before after) in
+    all_there given given (put_rows added before) (λ q there.
+    puts_stay q added before (was_there q (value_at q before) (value_at q after) (ap is_some (sym (brought (new_row true) given_path before after q order)) ∙ there)))
+    (each_there given (brought_order (new_row true) given_path (changed_rows before after) (changed_sorted before after order)))
+
+-- each row in the place of another still finds one there
+pub given_there : (changes : List ChangedRow) (before after added given now : List Row) → AreInOrder before → Differ changes before after → given ≡ filter_map (new_row true) changes → now ≡ put_rows added before → AreThere given now
+given_there changes before after added given now order differ is put =
+    let rows : given ≡ filter_map (new_row true) (changed_rows before after) = is ∙ ap (filter_map (new_row true)) differ.changed in
+    subst (AreThere given) (sym put) (subst (λ (some : List Row). AreThere some (put_rows added before)) (sym rows) (all_given before after added order))

@@ -118,7 +118,7 @@ unlisted_row q (row ∷ rows) h =
       | false ↦ λ k. unlisted_row q rows k
     ] h
 
-neither : (b : Bool) (value : Value) (other : Option Value) → cond b (Some value) other ≡ None → (b ≡ false) × (other ≡ None)
+pub neither : (b : Bool) (value : Value) (other : Option Value) → cond b (Some value) other ≡ None → (b ≡ false) × (other ≡ None)
 neither true value other h = let no : Some value ≡ None = h in cc
 neither false value other h = (refl, h)
 

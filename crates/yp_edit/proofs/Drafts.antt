@@ -146,7 +146,7 @@ first_apart first all (row ∷ rows) before each =
     (ap (λ b. is_some (cond b (Some first.value) (value_at row.path all))) (tie_turned row.path first.path ∙ ap is_eq before.0) ∙ each.0, first_apart first all rows before.1 each.1)
 
 -- each row in order is found at its path
-each_there : (rows : List Row) → AreInOrder rows → AllByRecursion (λ (row : Row). is_some (value_at row.path rows) ≡ true) rows
+pub each_there : (rows : List Row) → AreInOrder rows → AllByRecursion (λ (row : Row). is_some (value_at row.path rows) ≡ true) rows
 unfolding IsStrictlySortedBy
 each_there [] order = tt
 each_there (row ∷ rows) order =

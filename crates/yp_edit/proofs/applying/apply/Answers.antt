@@ -10,14 +10,13 @@ pub commit-requires : goal.commit-requires
 commit-requires g c = patch_changes c.args.schema.now c.args.tree.now c.args.patch.now c.in_ok-changed.changed c.len-rows.ensures.order c.in_ok-changed.ensures
 
 pub returns-clause-applied : goal.returns-clause-applied
-returns-clause-applied g c = (patch_made c.args.schema.now c.args.tree.now c.commit.new.tree c.args.patch.now c.in_ok-changed.changed c.len-rows.ensures.order c.in_ok-changed.ensures c.in_ok-commit.ensures.rows).0
+returns-clause-applied g c = patch_made c.args.schema.now c.args.tree.now c.commit.new.tree c.args.patch.now c.in_ok-changed.changed c.len-rows.ensures.order c.in_ok-changed.ensures c.in_ok-commit.ensures.made
 
 pub returns-clause-changed : goal.returns-clause-changed
-returns-clause-changed g c = (patch_made c.args.schema.now c.args.tree.now c.commit.new.tree c.args.patch.now c.in_ok-changed.changed c.len-rows.ensures.order c.in_ok-changed.ensures c.in_ok-commit.ensures.rows).1
+returns-clause-changed g c = c.in_ok-commit.ensures.made.changed
 
 pub returns-clause-quiet : goal.returns-clause-quiet
-returns-clause-quiet g c =
-    λ same. (patch_made c.args.schema.now c.args.tree.now c.commit.new.tree c.args.patch.now c.in_ok-changed.changed c.len-rows.ensures.order c.in_ok-changed.ensures c.in_ok-commit.ensures.rows).1 ∙ none_differ c.args.tree.now c.commit.new.tree same
+returns-clause-quiet g c = λ same. c.in_ok-commit.ensures.made.changed ∙ none_differ c.args.tree.now c.commit.new.tree same
 
 pub returns-in_err-changed-clause-number : goal.returns-in_err-changed-clause-number
 returns-in_err-changed-clause-number g c =
