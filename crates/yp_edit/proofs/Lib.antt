@@ -7,5 +7,6 @@ pub mod Distinct
 pub mod Drafts
 pub mod Ends
 pub mod Items
+pub mod Keeping
 pub mod Taking
 pub mod Walking
