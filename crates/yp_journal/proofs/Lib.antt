@@ -1,3 +1,4 @@
 pub mod Journals
+pub mod Keeping
 pub mod Refusals
 pub mod Unchanged
