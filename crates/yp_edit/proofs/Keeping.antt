@@ -1,6 +1,6 @@
 -- A patch leaves a datastore a datastore.
 use Rattle.std.proofs.Common.{◌≡◌, ℕ, ◌+◌, ◌==◌, List, [], ◌∷◌, ◌++◌, refl, sym, ap, subst, ◌∙◌, cond, Bool, true, false, true≢false, not, ◌&&◌, ◌||◌, Option, Some, None, inl, inr, ⊎_elim}
-use Rattle.std.specs.Prelude.{◌⊎◌, is_some, Result, Ok, Err, IfOk, OnOk, nat_lt, length}
+use Rattle.std.specs.Prelude.{◌⊎◌, is_some, Result, Ok, Err, IfOk, nat_lt, length}
 use Rattle.std.specs.List.{list_all, AllByRecursion}
 use Rattle.std.specs.Ordering.{is_eq, eq_by_cmp}
 use Rattle.std.proofs.lemmas.Bool.{and_parts, and_from}
@@ -14,7 +14,7 @@ use Rattle.yp_base.proofs.Exact.{segments_decide}
 use Rattle.yp_base.proofs.RowLaws.{value_at_without, puts_order, without_keeps_order}
 use Rattle.yp_base.proofs.TextLaws.{read_fits}
 use Rattle.yp_schema.specs.declared.schema.SchemaNode.{SchemaNode}
-use Rattle.yp_schema.specs.Datastore.{is_path_of, is_place, ends_in_key, ends_in_entry, IsRowOf, has_row, HaveEntries, IsDatastore, AreWhole}
+use Rattle.yp_schema.specs.Datastore.{is_path_of, is_place, ends_in_key, ends_in_entry, IsRowOf, has_row, IsDatastore, AreWhole}
 use Rattle.yp_path.specs.declared.fault.PathFault.{PathFault}
 use Rattle.yp_path.specs.Targets.{target_in}
 use Rattle.yp_path.specs.Cuts.{cut}
@@ -27,14 +27,13 @@ use Rattle.yp_data_json.proofs.PutRows.{all_put}
 use Rattle.yp_data_json.proofs.Wholes.{read_whole}
 use Rattle.serde_json.specs.Data.{Data}
 use Rattle.yp_edit.specs.declared.fault.EditFault.{EditFault}
-use Rattle.yp_edit.specs.declared.fault.EditFault.TheVariants.{Refused, Memory}
 use Rattle.yp_edit.specs.declared.fault.Tag.TheVariants.{DataMissing}
 use Rattle.yp_edit.specs.declared.halt.Refusal.{Refusal}
 use Rattle.yp_edit.specs.declared.patch.EditOp.{EditOp}
 use Rattle.yp_edit.specs.declared.patch.EditOp.TheVariants.{Create, Delete, Insert, Merge, Move, Replace, Remove}
 use Rattle.yp_edit.specs.declared.patch.Edit.{Edit}
 use Rattle.yp_edit.specs.declared.patch.Patch.{Patch}
-use Rattle.yp_edit.specs.Patches.{◌>>=◌, refused, path_or, no_key, target_of, rows_or, value_rows, paths_above, has_its_row, stand_above, row_limit, within_limit, new_rows, created, deleted, changed_by, edited, of_edit, all_edited, applied, LeavesAll}
+use Rattle.yp_edit.specs.Patches.{◌>>=◌, refused, path_or, no_key, target_of, rows_or, value_rows, paths_above, has_its_row, stand_above, row_limit, within_limit, new_rows, changed_by, edited, of_edit, all_edited, applied}
 use Rattle.yp_edit.proofs.Alike.{are_one}
 use Rattle.yp_edit.proofs.Applied.{then_ok, choice_ok, numbered_ok}
 use Rattle.yp_edit.proofs.Committing.{puts_stay}

@@ -1,5 +1,5 @@
 -- Commands leave a datastore a datastore.
-use Rattle.std.proofs.Common.{◌≡◌, List, [], ◌∷◌, true≢false, refl, sym, ap, subst}
+use Rattle.std.proofs.Common.{◌≡◌, List, [], ◌∷◌, true≢false, refl, sym, subst}
 use Rattle.std.specs.Prelude.{Result, Ok, Err, OnOk, OnErr}
 use Rattle.yp_base.specs.declared.row.Row.{Row}
 use Rattle.yp_base.proofs.RowLaws.{none_order}
