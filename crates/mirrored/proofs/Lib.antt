@@ -1,0 +1,4 @@
+pub mod Picks
+pub mod RecordLaws
+pub mod Selections
+pub mod Topmost

@@ -1,0 +1,4 @@
+pub mod Access
+pub mod Concealed
+pub mod Received
+pub mod Records
