@@ -21,7 +21,7 @@ use Rattle.yp_edit.proofs.Committing.{same_after}
 
 -- ---- order
 
-then_ok : {A B F : Type 0} (P : A → Type 0) (Q : B → Type 0) (r : Result A F) (f : A → Result B F) → IfOk r P → ((x : A) → P x → IfOk (f x) Q) → IfOk (r >>= f) Q
+pub then_ok : {A B F : Type 0} (P : A → Type 0) (Q : B → Type 0) (r : Result A F) (f : A → Result B F) → IfOk r P → ((x : A) → P x → IfOk (f x) Q) → IfOk (r >>= f) Q
 then_ok P Q (Ok x) f h k = k x h
 then_ok P Q (Err e) f h k = tt
 
@@ -29,7 +29,7 @@ any_ok : {A F : Type 0} (r : Result A F) → IfOk r (λ x. Unit {0})
 any_ok (Ok x) = tt
 any_ok (Err e) = tt
 
-choice_ok : {A F : Type 0} (P : A → Type 0) (b : Bool) (r s : Result A F) → IfOk r P → IfOk s P → IfOk (cond b r s) P
+pub choice_ok : {A F : Type 0} (P : A → Type 0) (b : Bool) (r s : Result A F) → IfOk r P → IfOk s P → IfOk (cond b r s) P
 choice_ok P true r s h k = h
 choice_ok P false r s h k = k
 
@@ -51,7 +51,7 @@ edit_order nodes rows edit order =
     then_ok AreInOrder AreInOrder (changed_by edit.op nodes target edit.value rows) within_limit (by_order edit.op nodes target edit.value rows order)
     (λ x h. choice_ok AreInOrder (nat_lt row_limit (length x)) _ _ tt h))
 
-numbered_ok : {A : Type 0} (P : A → Type 0) (n : ℕ) (r : Result A Refusal) → IfOk r P → IfOk (of_edit n r) P
+pub numbered_ok : {A : Type 0} (P : A → Type 0) (n : ℕ) (r : Result A Refusal) → IfOk r P → IfOk (of_edit n r) P
 numbered_ok P n (Ok x) h = h
 numbered_ok P n (Err e) h = tt
 

@@ -32,7 +32,7 @@ still_some false value other h = h
 put_stays : (path : List Seg) (new : Row) (rows : List Row) → is_some (value_at path rows) ≡ true → is_some (value_at path (put_row new rows)) ≡ true
 put_stays path new rows h = ap is_some (value_at_put path new rows) ∙ still_some (is_eq (path_cmp path new.path)) new.value (value_at path rows) h
 
-puts_stay : (path : List Seg) (news rows : List Row) → is_some (value_at path rows) ≡ true → is_some (value_at path (put_rows news rows)) ≡ true
+pub puts_stay : (path : List Seg) (news rows : List Row) → is_some (value_at path rows) ≡ true → is_some (value_at path (put_rows news rows)) ≡ true
 puts_stay path [] rows h = h
 puts_stay path (new ∷ news) rows h = puts_stay path news (put_row new rows) (put_stays path new rows h)
 
@@ -202,7 +202,7 @@ same_is (Plain a) Present h = absurd (true≢false (sym h))
 same_is Member Present h = absurd (true≢false (sym h))
 same_is Empty Present h = absurd (true≢false (sym h))
 
-alike_is : (one other : Option Value) → are_alike one other ≡ true → one ≡ other
+pub alike_is : (one other : Option Value) → are_alike one other ≡ true → one ≡ other
 alike_is None None h = refl
 alike_is None (Some new) h = absurd (true≢false (sym h))
 alike_is (Some old) None h = absurd (true≢false (sym h))

@@ -40,7 +40,7 @@ some_either : (there other : Option Value) → is_some (or_else there other) ≡
 some_either None other = refl
 some_either (Some value) other = refl
 
-there_of_puts : (q : List Seg) (put rows : List Row) → AreInOrder put → is_some (value_at q (put_rows put rows)) ≡ (is_some (value_at q put) || is_some (value_at q rows))
+pub there_of_puts : (q : List Seg) (put rows : List Row) → AreInOrder put → is_some (value_at q (put_rows put rows)) ≡ (is_some (value_at q put) || is_some (value_at q rows))
 there_of_puts q put rows order = ap is_some (value_at_puts q put rows order) ∙ some_either (value_at q put) (value_at q rows)
 
 -- there is a row where one is put, or else where one is left

@@ -7,6 +7,7 @@ pub mod Distinct
 pub mod Drafts
 pub mod Ends
 pub mod Items
+pub mod Keeping
 pub mod Refusals
 pub mod Taking
 pub mod Walking

@@ -1,5 +1,6 @@
 //! Applying patches.
 ghost use Rattle.std.specs.Prelude.{◌≡◌, ◌^◌, ◌<◌, [], length, IfOk, OnOk, OnErr};
+ghost use Rattle.yp_schema.specs.Datastore.{IsDatastore};
 ghost use Rattle.yp_edit.specs.Changes.{changed_rows};
 ghost use Rattle.yp_edit.specs.Answers.{SaysAll, LeavesAll, NamesOneOf};
 ghost use Rattle.yp_edit.specs.Patches.{of_edit, edited, all_edited, changes_by, applied};
@@ -84,7 +85,8 @@ fn changes_of<L: Ledger>(
 /// undo each other leave none. `Refused` names the first edit that is refused, counted from 0, with the
 /// error of the first of these steps that it meets: the target's path, a key leaf as the target, an
 /// insert or a move, the value, what must stand above the target, what must or mustn't stand at it, and
-/// how many rows there are. After a refusal or want of memory the tree is as it was.
+/// how many rows there are. After a refusal or want of memory the tree is as it was. A datastore of the
+/// schema stays one.
 pub fn apply<L: Ledger>(
     alloc: Global,
     schema: &Schema,
@@ -98,6 +100,7 @@ pub fn apply<L: Ledger>(
     ensures quiet { IfOk result (λ changed. tree.new ≡ tree.old → changed ≡ []) }
     ensures number { NamesOneOf result (length patch.now.edits) }
     ensures unchanged { OnErr result (tree.new ≡ tree.old) }
+    ensures datastore { IsDatastore schema.now tree.old → OnOk result (IsDatastore schema.now tree.new) }
 {
     let _rows = tree.len();
     let changed = changes_of(alloc, schema, tree, patch, steps)?;

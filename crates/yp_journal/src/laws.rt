@@ -1,9 +1,11 @@
 //! Laws of journals, which the definitions keep; nothing runs.
 ghost use Rattle.std.specs.Prelude.{◌≡◌, ◌+◌, ◌++◌, ◌∷◌, [], List, length, true};
 ghost use Rattle.yp_schema.specs.declared.schema.SchemaNode.{SchemaNode};
+ghost use Rattle.yp_schema.specs.Datastore.{IsDatastore};
 ghost use Rattle.yp_journal.specs.declared.command.Command.{Command};
 ghost use Rattle.yp_journal.specs.declared.entry.Entry.{Entry};
-ghost use Rattle.yp_journal.specs.History.{JournalState, one_further, next_state, reply_to, is_refusal, state_after, state_of, MayFollow, IsLegal};
+ghost use Rattle.yp_journal.specs.declared.receiver.ReceiverInfo.{ReceiverInfo};
+ghost use Rattle.yp_journal.specs.History.{JournalState, first_state, one_further, next_state, reply_to, is_refusal, state_after, state_of, MayFollow, IsLegal};
 
 /// A refused command changes the position alone.
 #[tactic(auto, using(crate::proofs::Journals::refusal_alone))]
@@ -31,4 +33,14 @@ pub fn a_journal_goes_on_entry_by_entry()
 pub fn a_legal_journal_goes_on()
     ensures legal_more { (nodes : List SchemaNode) (state : JournalState) (entries : List Entry) (entry : Entry)
         → IsLegal nodes state entries → MayFollow nodes (state_of nodes state entries) entry → IsLegal nodes state (entries ++ entry ∷ []) }
+{}
+
+/// The rows that the first command finds, none, are a datastore of each schema, and each command leaves a
+/// datastore a datastore; so all entries do.
+pub fn a_journal_keeps_a_datastore()
+    ensures opening { (nodes : List SchemaNode) (receivers : List ReceiverInfo) → IsDatastore nodes (first_state receivers).rows }
+    ensures command { (nodes : List SchemaNode) (state : JournalState) (command : Command)
+        → IsDatastore nodes state.rows → IsDatastore nodes (next_state nodes state command).rows }
+    ensures entries { (nodes : List SchemaNode) (state : JournalState) (entries : List Entry)
+        → IsDatastore nodes state.rows → IsDatastore nodes (state_of nodes state entries).rows }
 {}

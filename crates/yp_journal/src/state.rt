@@ -1,5 +1,6 @@
 //! The state of the journal.
 ghost use Rattle.std.specs.Prelude.{◌≡◌, ◌+◌, ◌<◌, ◌≤◌, ◌^◌, [], length, true, IfOk, OnOk, OnErr};
+ghost use Rattle.yp_schema.specs.Datastore.{IsDatastore};
 ghost use Rattle.yp_edit.specs.Answers.{LeavesAll, NamesOneOf};
 ghost use Rattle.yp_edit.specs.Changes.{changed_rows};
 ghost use Rattle.yp_edit.specs.Patches.{applied};
@@ -151,8 +152,9 @@ impl State {
 
     /// Takes a command: the state goes on to what it leaves, and its reply and the rows that it changed
     /// are told. A command that is refused moves the position alone. After `NoMemory` the state is as it
-    /// was; it comes too where 2147483648 subscriptions were given and one more is asked for.
-    #[tactic(auto, using(yp_edit::proofs::Differing::none_differ))]
+    /// was; it comes too where 2147483648 subscriptions were given and one more is asked for. Rows that
+    /// are a datastore of the schema stay one.
+    #[tactic(auto, using(yp_edit::proofs::Differing::none_differ, crate::proofs::Keeping::command_kept))]
     pub fn accept(
         &mut self,
         alloc: Global,
@@ -170,6 +172,7 @@ impl State {
         ensures position { OnOk result (self.new.position ≡ self.old.position + 1) }
         ensures receivers { self.new.receivers ≡ self.old.receivers }
         ensures unchanged { OnErr result (self.new ≡ self.old) }
+        ensures datastore { IsDatastore schema.now self.old.rows → IsDatastore schema.now self.new.rows }
     {
         match command {
             Command::Tick(tick) => Ok(self.tick(alloc, *tick)),

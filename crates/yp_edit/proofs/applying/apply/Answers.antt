@@ -3,6 +3,7 @@ use Rattle.std.proofs.lemmas.Result.{err_from_is_err_and}
 use Rattle.std.specs.Prelude.{Err}
 use Rattle.yp_edit.proofs.Applied.{patch_changes, patch_made}
 use Rattle.yp_edit.proofs.Differing.{none_differ}
+use Rattle.yp_edit.proofs.Keeping.{patch_keeps}
 use Rattle.yp_edit.proofs.Refusals.{names_one}
 use Rattle.yp_edit.proofs.applying.apply.Goals as goal
 
@@ -22,3 +23,6 @@ pub returns-in_err-changed-clause-number : goal.returns-in_err-changed-clause-nu
 returns-in_err-changed-clause-number g c =
     let p = err_from_is_err_and c.from_residual.result c.from_residual.ensures.1 in
     rw (p.1, p.2) (names_one c.args.schema.now c.args.tree.now c.args.patch.now (Err c.in_err-changed.field-0.0) c.in_err-changed.ensures)
+
+pub returns-clause-datastore : goal.returns-clause-datastore
+returns-clause-datastore g c datastore = patch_keeps c.args.schema.now c.args.tree.now c.commit.new.tree c.args.patch.now datastore (patch_made c.args.schema.now c.args.tree.now c.commit.new.tree c.args.patch.now c.in_ok-changed.changed c.len-rows.ensures.order c.in_ok-changed.ensures c.in_ok-commit.ensures.made)
