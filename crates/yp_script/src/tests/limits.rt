@@ -204,23 +204,20 @@ fn a_script_has_at_most_100000_lines(rt: HostRuntime) -> Result<(), Fail> {
     Ok(())
 }
 
-// A start and a schema, and blanks up to so many bytes.
-fn filled(alloc: Global, bytes: usize) -> Result<String, NoMemory> {
+// A start and a schema, and so many blanks.
+fn filled(alloc: Global, blanks: u32) -> Result<String, NoMemory> {
     let mut text = text_of(alloc, &[START, SCHEMA])?;
-    let blanks = repeated(alloc, " ", 65_536)?;
-    while text.len() + blanks.len() <= bytes {
-        text.push_str(blanks.as_str())?;
-    }
-    while text.len() < bytes {
-        text.push_str(" ")?;
-    }
+    let block = repeated(alloc, " ", 65_536)?;
+    text.push_str(repeated(alloc, block.as_str(), blanks / 65_536)?.as_str())?;
+    text.push_str(repeated(alloc, " ", blanks % 65_536)?.as_str())?;
     Ok(text)
 }
 
 #[test]
 fn a_script_has_at_most_67108864_bytes(rt: HostRuntime) -> Result<(), Fail> {
     let alloc = rt.alloc();
-    let mut text = filled(alloc, 67_108_864)?;
+    let mut text = filled(alloc, 67_108_864 - 97)?;
+    assert_eq!(rt; text.len(), 67_108_864);
     assert!(rt; read_script(alloc, text.as_bytes()).is_ok());
     text.push_str("\n")?;
     let limit = ScriptFault::At {
