@@ -1,13 +1,12 @@
 -- What each script keeps: a schema, receivers of distinct names, and commands of these receivers.
-use Rattle.std.proofs.Common.{◌≡◌, ◌==◌, ℕ, suc, ◌+◌, ◌-◌, ◌<◌, ◌≤◌, inl, inr, option_and_then, codes, Bool, true, false, true≢false, not, ◌&&◌, ◌||◌, cond, List, [], ◌∷◌, ◌++◌, length, map, take, min, get_or, Option, Some, None, is_some, Result, Ok, Err, refl, sym, ap, ◌∙◌, subst, arith, nat_le, nat_lt, IfSome, IfOk, length-append}
+use Rattle.std.proofs.Common.{◌≡◌, ℕ, ◌+◌, ◌-◌, ◌<◌, ◌≤◌, inl, inr, option_and_then, codes, Bool, true, false, true≢false, not, ◌&&◌, ◌||◌, List, [], ◌∷◌, ◌++◌, length, take, min, get_or, Option, Some, None, is_some, Result, Ok, Err, refl, sym, ap, ◌∙◌, subst, arith, nat_le, IfSome, IfOk, length-append}
 use Rattle.std.specs.List.{All, list_any}
 use Rattle.std.specs.Cmp.Lexicographic.{nat_list_eq_equiv}
 use Rattle.std.proofs.lemmas.Bool.{leb-true, cases_lt}
 use Rattle.std.proofs.lemmas.List.{length-map, map-append, get_or_past, take_all}
-use Rattle.std.proofs.lemmas.List.Elements.{All-append, All-push, All-nil, All-set, All-get_or, All-weaker, All-replicate}
+use Rattle.std.proofs.lemmas.List.Elements.{All-push, All-nil, All-set, All-get_or, All-weaker, All-replicate}
 use Rattle.serde_json.specs.Data.{Data, Members}
 use Rattle.serde_json.specs.Find.{get_member}
-use Rattle.serde_json.specs.Events.{members_len}
 use Rattle.yp_base.specs.Types.{same_text, is_among, are_distinct}
 use Rattle.yp_schema.specs.declared.schema.SchemaNode.{SchemaNode}
 use Rattle.yp_schema.specs.declared.fault.SchemaFault.{SchemaFault}
@@ -15,14 +14,12 @@ use Rattle.yp_schema.specs.Rounds.{Nodes, parts_in, ◌>>=◌}
 use Rattle.yp_schema.specs.Reading.{numbered, schema_of}
 use Rattle.yp_schema.specs.WellFormed.{IsSchema}
 use Rattle.yp_schema.proofs.Schemas.{parts_are_schema}
-use Rattle.yp_edit.specs.declared.patch.Patch.{Patch}
 use Rattle.yp_edit.specs.Shapes.{patch_in}
 use Rattle.yp_journal.specs.declared.command.Command.{Command}
 use Rattle.yp_journal.specs.declared.command.Command.TheVariants as commands
 use Rattle.yp_journal.specs.declared.receiver.ReceiverInfo.{ReceiverInfo}
-use Rattle.yp_journal.specs.History.{MayCome, IsRead, tick_limit}
+use Rattle.yp_journal.specs.History.{MayCome, tick_limit}
 use Rattle.yp_script.specs.declared.asked.Laned.{Laned}
-use Rattle.yp_script.specs.declared.fault.ScriptKind.{ScriptKind}
 use Rattle.yp_script.specs.declared.fault.ScriptKind.TheVariants as kinds
 use Rattle.yp_script.specs.declared.fault.ScriptFault.{ScriptFault}
 use Rattle.yp_script.specs.declared.form.Asked.{Asked}
@@ -33,13 +30,13 @@ use Rattle.yp_script.specs.declared.script.Script.{Script}
 use Rattle.yp_script.specs.declared.stage.Stage.{Stage}
 use Rattle.yp_script.specs.declared.stage.Stage.TheVariants.{Opening, Started, Schemas, Receivers, Before, Within, After}
 use Rattle.yp_script.specs.Commands.{HasFewEdits, HasFew}
-use Rattle.yp_script.specs.Faults.{Said, said_map, said_then, said_or, both, holding}
-use Rattle.yp_script.specs.Forms.{is_receiver_name, is_user_name, is_new_name, names_of, number_of, has_receiver_form, name_said, user_said, places_said, receiver_of, receiver_in, receiver_said, object_said, said_of_some, tick_said, patch_said, everything_in, everything_said, said_of_asked, is_read, command_said, done_in_lane, lane_number, lane_said, lanes_said, start_said, part_said, is_of_everything, is_join, form_of}
+use Rattle.yp_script.specs.Faults.{Said, said_map, said_then, said_or, holding}
+use Rattle.yp_script.specs.Forms.{is_receiver_name, is_user_name, is_new_name, names_of, number_of, has_receiver_form, name_said, user_said, places_said, receiver_of, receiver_in, receiver_said, object_said, said_of_some, tick_said, patch_said, everything_in, said_of_asked, is_read, command_said, done_in_lane, lane_number, lane_said, lanes_said, start_said, part_said, is_of_everything, is_join, form_of}
 use Rattle.yp_script.specs.Lines.{Line, pieces_of, lines_from}
 use Rattle.yp_script.specs.Readings.{Gives}
 use Rattle.yp_script.specs.Order.{may_stand, is_complete}
-use Rattle.yp_script.specs.Script.{Progress, no_progress, with_start, with_part, with_receiver, with_command, with_lanes, with_laned, with_join, script_with, in_lane, schema_said, part_taken, taken, placed, said_in, at_line, ended, script_from, script_of, IsReceiver, AreReceivers, MayRun}
-use Rattle.yp_script.specs.Words.{members_if, sole, text_at, where_true, says, whole_said}
+use Rattle.yp_script.specs.Script.{Progress, no_progress, with_start, with_part, with_receiver, with_command, with_lanes, with_laned, with_join, script_with, schema_said, part_taken, taken, placed, said_in, at_line, script_from, script_of, IsReceiver, AreReceivers, MayRun}
+use Rattle.yp_script.specs.Words.{members_if, sole, text_at, where_true, whole_said}
 use Rattle.yp_script.proofs.Positions.{position_within, none_there}
 use Rattle.yp_script.proofs.SaidLaws.{map_is, some_is, then_is, if_is, ok_is, or_is, both_is, holding_is, where_is, itself_is, any_is, weaker_is, weaker_some, then_some, line_is, bound_is, whole_is}
 

@@ -1,6 +1,6 @@
 -- Receivers by name: the places of names among keys, and one receiver more.
-use Rattle.std.proofs.Common.{◌≡◌, ℕ, Bool, true, false, true≢false, cond, not, List, [], ◌∷◌, ◌++◌, length, map, Option, Some, None, is_some, refl, sym, ap, ◌∙◌}
-use Rattle.std.specs.List.{position, list_any}
+use Rattle.std.proofs.Common.{◌≡◌, ℕ, Bool, false, true≢false, List, [], ◌∷◌, ◌++◌, map, Option, Some, None, is_some, refl, sym, ap, ◌∙◌}
+use Rattle.std.specs.List.{position}
 use Rattle.std.specs.Map.{keys_of, values_of, lookup}
 use Rattle.std.proofs.lemmas.List.{map-append}
 use Rattle.std.proofs.lemmas.Map.Made.{is_some-lookup}

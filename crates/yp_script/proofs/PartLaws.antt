@@ -12,7 +12,6 @@ use Rattle.yp_schema.specs.Rounds.{Nodes, ◌>>=◌, added, checked, at_place, f
 use Rattle.yp_schema.specs.Stated.{node_in}
 use Rattle.yp_schema.specs.Reading.{numbered, schema_of}
 use Rattle.yp_script.specs.declared.fault.ScriptKind.TheVariants as kinds
-use Rattle.yp_script.specs.declared.fault.ScriptFault.{ScriptFault}
 use Rattle.yp_script.specs.declared.fault.ScriptFault.TheVariants as told
 use Rattle.yp_script.specs.Readings.{at_part}
 use Rattle.yp_script.specs.Script.{at_line, schema_said}

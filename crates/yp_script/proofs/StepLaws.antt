@@ -1,12 +1,10 @@
 -- Steps of a reader: what it holds behind a line is what the definition says of the line.
-use Rattle.std.proofs.Common.{◌≡◌, ℕ, ◌+◌, Bool, is_ok, true, false, true≢false, List, [], ◌∷◌, ◌++◌, length, map, Option, Some, None, Result, Ok, Err, refl, sym, ap, ◌∙◌, subst}
+use Rattle.std.proofs.Common.{◌≡◌, ℕ, ◌+◌, Bool, is_ok, true, false, true≢false, List, [], ◌∷◌, ◌++◌, length, map, Some, None, Result, Ok, Err, refl, sym, ap, ◌∙◌, subst}
 use Rattle.std.proofs.lemmas.List.{length-map}
 use Rattle.serde_json.specs.Data.{Data}
 use Rattle.serde_json.specs.declared.value.Value.{Value}
 use Rattle.serde_json.specs.View.{view}
 use Rattle.yp_schema.specs.declared.schema.SchemaNode.{SchemaNode}
-use Rattle.yp_schema.specs.declared.fault.SchemaFault.{SchemaFault}
-use Rattle.yp_schema.specs.declared.fault.SchemaFault.TheVariants as faults
 use Rattle.yp_schema.specs.Reading.{schema_of}
 use Rattle.yp_schema.specs.Rounds.{◌>>=◌}
 use Rattle.yp_script.specs.declared.cursor.Lines.{Lines}
@@ -21,14 +19,13 @@ use Rattle.yp_script.specs.declared.reader.Reader.{Reader}
 use Rattle.yp_script.specs.declared.said.Halt.{Halt}
 use Rattle.yp_script.specs.declared.said.Halt.TheVariants as halts
 use Rattle.yp_script.specs.declared.script.Script.{Script}
-use Rattle.yp_script.specs.declared.stage.Stage.{Stage}
 use Rattle.yp_script.specs.Cursor.{lines_left, last_number, seen_line}
-use Rattle.yp_script.specs.Faults.{Said, said_map, holding, least}
+use Rattle.yp_script.specs.Faults.{Said, said_map, holding}
 use Rattle.yp_script.specs.Forms.{form_of, part_said}
 use Rattle.yp_script.specs.Lines.{Line}
 use Rattle.yp_script.specs.Order.{may_stand, is_complete}
 use Rattle.yp_script.specs.Readings.{Halts, IsFault, Gives, at_part, fault_of}
-use Rattle.yp_script.specs.Readers.{progress_with, progress_of, schema_in, script_left, script_behind, Steps, Stops, Settled, Settles, Takes, Judges}
+use Rattle.yp_script.specs.Readers.{progress_with, progress_of, schema_in, script_left, script_behind, Steps, Stops, Settled}
 use Rattle.yp_script.specs.Script.{Progress, at_line, taken, placed, said_in, ended, script_from, schema_said, part_taken, with_part}
 use Rattle.yp_script.proofs.PartLaws.{part_grows}
 
@@ -47,10 +44,6 @@ fault_along Memory a b same is = tt
 pub compiled_in : (reader : Reader) → reader.settled ≡ true → schema_in reader ≡ Ok reader.schema
 compiled_in reader settled = ap (at_part reader.parts.numbers.items) (reader.compiled settled)
 
--- a reader that is settled already
-pub settled_already : (reader : Reader) → reader.settled ≡ true → Settled reader reader
-settled_already reader settled = record { settled = settled; schema = compiled_in reader settled; same = λ nodes. refl }
-
 pub left_settled : (end : ℕ) (reader : Reader) (lines : List Line) → schema_in reader ≡ Ok reader.schema → script_left end reader lines ≡ script_from end (progress_of reader) lines
 left_settled end reader lines is = ap (λ (r : Result (List SchemaNode) ScriptFault). r >>= λ nodes. script_from end (progress_with reader nodes) lines) is
 
@@ -63,10 +56,6 @@ behind_settled end old new number said lines is =
 -- the stage stays where the schema is settled
 pub same_stage : (old new : Reader) → Settled old new → new.stage ≡ old.stage
 same_stage old new is = ap (λ (p : Progress). p.stage) (is.same new.schema)
-
--- a fault of the schema is the script's
-pub stops_settling : (fault : ScriptFault) (old : Reader) (number : ℕ) (said : Progress → Said Progress) → IsFault fault (schema_in old) → Stops fault old number said
-stops_settling fault old number said is end lines = fault_then fault (schema_in old) (λ nodes. (at_line number (said (progress_with old nodes)) >>= λ next. script_from end next lines)) is
 
 -- a fault of a line behind a settled schema is the script's
 pub stops_settled : (fault : ScriptFault) (old new : Reader) (number : ℕ) (said : Progress → Said Progress) → Settled old new → IsFault fault (at_line number (said (progress_of new))) → Stops fault old number said

@@ -1,5 +1,5 @@
 -- What a line of a script says: its form, each a JSON object of one member, or of two in a lane; and what each form says, or the least of its own faults.
-use Rattle.std.specs.Prelude.{ℕ, ◌+◌, ◌==◌, ◌&&◌, ◌||◌, List, [], ◌∷◌, length, map, Bool, true, false, not, Option, Some, None, is_some, option_map, option_and_then, Result, Ok, Err, if◌then◌else◌, nat_le, position, codes}
+use Rattle.std.specs.Prelude.{ℕ, ◌+◌, ◌==◌, ◌&&◌, ◌||◌, List, [], ◌∷◌, length, map, Bool, true, false, not, Option, Some, None, is_some, option_map, option_and_then, Ok, Err, if◌then◌else◌, nat_le, position, codes}
 use Rattle.serde_json.specs.Data.{Data, null, boolean, number, string, array, object, Members}
 use Rattle.serde_json.specs.Find.{get_member, as_object}
 use Rattle.serde_json.specs.Events.{members_len}

@@ -1,6 +1,5 @@
 -- The order of a script's lines: a start; schema lines, one at least; receivers; commands; lanes and their end, which may be left out; commands.
 use Rattle.std.specs.Prelude.{Bool, true, false}
-use Rattle.yp_script.specs.declared.form.Asked.{Asked}
 use Rattle.yp_script.specs.declared.form.Form.{Form}
 use Rattle.yp_script.specs.declared.form.Form.TheVariants.{Start, Schema, Receiver, Command, Lanes, Lane, Join}
 use Rattle.yp_script.specs.declared.stage.Stage.{Stage}

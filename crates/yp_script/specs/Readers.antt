@@ -1,5 +1,5 @@
 -- What a reader of a script holds, and what its steps leave.
-use Rattle.std.specs.Prelude.{◌≡◌, ℕ, List, ◌∷◌, map, true, unwrap_or, is_ok, Result, Ok, Err}
+use Rattle.std.specs.Prelude.{◌≡◌, ℕ, List, map, true, unwrap_or, is_ok, Result, Ok, Err}
 use Rattle.serde_json.specs.View.{view}
 use Rattle.yp_schema.specs.declared.schema.SchemaNode.{SchemaNode}
 use Rattle.yp_schema.specs.Reading.{schema_of}

@@ -1,11 +1,11 @@
 -- Words for the JSON of a script's lines (RFC 8259), each with its fault.
-use Rattle.std.specs.Prelude.{ℕ, ◌==◌, ◌&&◌, List, Bool, true, false, Option, Some, None, is_some, option_and_then, Result, Ok, Err, if◌then◌else◌, nat_le}
-use Rattle.serde_json.specs.Data.{Num, unsigned, negative, float, Data, null, boolean, number, string, array, object, Members, no_members, member}
+use Rattle.std.specs.Prelude.{ℕ, ◌==◌, ◌&&◌, List, Bool, true, false, Option, Some, None, is_some, option_and_then, Ok, Err, if◌then◌else◌, nat_le}
+use Rattle.serde_json.specs.Data.{unsigned, negative, float, Data, null, boolean, number, string, array, object, Members, no_members, member}
 use Rattle.serde_json.specs.Find.{get_member, as_str}
 use Rattle.serde_json.specs.Events.{members_len}
 use Rattle.yp_base.specs.Types.{same_text}
-use Rattle.yp_script.specs.declared.fault.ScriptKind.TheVariants.{UnknownCommand, Member, Limit}
-use Rattle.yp_script.specs.Faults.{Said, said_or}
+use Rattle.yp_script.specs.declared.fault.ScriptKind.TheVariants.{Member, Limit}
+use Rattle.yp_script.specs.Faults.{Said}
 
 -- the members of an object that has so many
 abbrev pub members_if : ℕ → Data → Option Members

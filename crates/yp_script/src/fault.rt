@@ -2,7 +2,6 @@
 ghost use Rattle.std.specs.Prelude.{◌≡◌};
 ghost use Rattle.yp_script.specs.Faults.{kind_number};
 
-use std::alloc::AllocFailed;
 use yp_base::memory::NoMemory;
 
 /// The kind of a line's fault, with the number that the program tells.
@@ -66,17 +65,6 @@ impl From<NoMemory> for ScriptFault {
     ghost from_gives = { λ _ e. e ≡ Memory };
 
     fn from(_error: NoMemory) -> ScriptFault {
-        ScriptFault::Memory
-    }
-}
-
-impl<T: Drop> From<AllocFailed<T>> for ScriptFault {
-    ghost use Rattle.std.specs.Prelude.{◌≡◌};
-    ghost use Rattle.yp_script.specs.declared.fault.ScriptFault.TheVariants.{Memory};
-
-    ghost from_gives = { λ _ e. e ≡ Memory };
-
-    fn from(_error: AllocFailed<T>) -> ScriptFault {
         ScriptFault::Memory
     }
 }

@@ -4,7 +4,7 @@ ghost use Rattle.yp_script.specs.Faults.{least};
 ghost use Rattle.yp_script.specs.Readings.{fault_of};
 
 use crate::fault::{ScriptFault, ScriptKind};
-use std::alloc::{AllocError, AllocFailed};
+use std::alloc::AllocError;
 use yp_base::memory::NoMemory;
 
 /// Why a line or a part of it says nothing: its least fault, or want of memory.
@@ -32,17 +32,6 @@ impl From<AllocError> for Halt {
     ghost from_gives = { λ _ e. e ≡ Memory };
 
     fn from(_error: AllocError) -> Halt {
-        Halt::Memory
-    }
-}
-
-impl<T: Drop> From<AllocFailed<T>> for Halt {
-    ghost use Rattle.std.specs.Prelude.{◌≡◌};
-    ghost use Rattle.yp_script.specs.declared.said.Halt.TheVariants.{Memory};
-
-    ghost from_gives = { λ _ e. e ≡ Memory };
-
-    fn from(_error: AllocFailed<T>) -> Halt {
         Halt::Memory
     }
 }

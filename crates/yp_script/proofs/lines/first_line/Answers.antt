@@ -1,5 +1,4 @@
-use Rattle.std.proofs.Common.{◌≡◌}
-use Rattle.yp_script.proofs.LineLaws.{IsFirst, first_cut}
+use Rattle.yp_script.proofs.LineLaws.{first_cut}
 use Rattle.yp_script.proofs.lines.first_line.Goals as goal
 
 pub returns-clause-pieces : goal.returns-clause-pieces

@@ -1,6 +1,5 @@
-use Rattle.std.proofs.Common.{true, false, [], Ok, sym, ap, ◌∙◌, subst}
+use Rattle.std.proofs.Common.{true, false, sym, ◌∙◌, subst}
 use Rattle.yp_script.specs.Readings.{Gives}
-use Rattle.yp_script.specs.Readers.{script_left}
 use Rattle.yp_script.proofs.StepLaws.{ends_settled}
 use Rattle.yp_script.proofs.reader.Reader.finish.Goals as goal
 

@@ -1,4 +1,3 @@
-use Rattle.std.proofs.Common.{Some, Err, sym, ap, ◌∙◌, subst}
 use Rattle.serde_json.specs.View.{view}
 use Rattle.yp_script.proofs.StepLaws.{steps_part, stops_part}
 use Rattle.yp_script.proofs.reader.Reader.take_part.Goals as goal
