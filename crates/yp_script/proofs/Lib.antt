@@ -1,0 +1,7 @@
+pub mod Keeping
+pub mod LineLaws
+pub mod NameLaws
+pub mod PartLaws
+pub mod Positions
+pub mod SaidLaws
+pub mod StepLaws

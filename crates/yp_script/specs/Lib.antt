@@ -1,0 +1,10 @@
+pub mod Commands
+pub mod Cursor
+pub mod Faults
+pub mod Forms
+pub mod Lines
+pub mod Order
+pub mod Readers
+pub mod Readings
+pub mod Script
+pub mod Words

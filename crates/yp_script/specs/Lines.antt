@@ -1,0 +1,53 @@
+-- The lines of a script: text between line feeds, numbered from 1, each one JSON text (RFC 8259).
+use Rattle.std.specs.Prelude.{ℕ, ◌+◌, ◌==◌, ◌&&◌, ◌||◌, List, [], ◌∷◌, length, Bool, true, Option, None, Err, if◌then◌else◌, nat_le}
+use Rattle.std.specs.Str.Lossy.{utf8_valid_len}
+use Rattle.serde_json.specs.Data.{Data}
+use Rattle.serde_json.specs.Read.{read as read_text}
+use Rattle.yp_script.specs.declared.fault.ScriptKind.TheVariants.{TooLong, NotJson, Limit}
+use Rattle.yp_script.specs.Faults.{Said, said_or}
+
+-- a byte at the front of the first piece
+abbrev pub onto : ℕ → List (List ℕ) → List (List ℕ)
+onto b [] = (b ∷ []) ∷ []
+onto b (piece ∷ pieces) = (b ∷ piece) ∷ pieces
+
+-- a text cut behind each line feed; the last piece may lack one
+abbrev pub pieces_of : List ℕ → List (List ℕ)
+pieces_of [] = []
+pieces_of (b ∷ bytes) = if b == 10 then (10 ∷ []) ∷ pieces_of bytes else onto b (pieces_of bytes)
+
+-- a line without its line feed
+abbrev pub without_feed : List ℕ → List ℕ
+without_feed [] = []
+without_feed (b ∷ bytes) = if b == 10 then [] else b ∷ without_feed bytes
+
+-- blanks, tabs and carriage returns alone
+abbrev pub is_blank : List ℕ → Bool
+is_blank [] = true
+is_blank (b ∷ bytes) = (b == 32 || b == 9 || b == 13) && is_blank bytes
+
+-- the JSON value that a text is, if it is UTF-8 and JSON
+abbrev pub json_of : List ℕ → Option Data
+json_of text = if utf8_valid_len text == length text then read_text text else None
+
+-- whether a line of this number that ends behind so many bytes lies within the limits of a script
+abbrev pub is_in_script : ℕ → ℕ → Bool
+is_in_script number end = nat_le number 100000 && nat_le end 67108864
+
+-- the JSON of a line, where it lies within the limits of a script, isn't too long and is JSON: the limits of lines and bytes come before all else
+abbrev pub json_in : Bool → List ℕ → Said Data
+json_in within text =
+    if within then (if nat_le (length text) 65536 then said_or NotJson (json_of text) else Err TooLong) else Err Limit
+
+-- a line that says something: its number, and its JSON
+pub record Line : Type 0 where
+  pub number : ℕ
+  pub json : Said Data
+
+-- the lines of pieces that stand behind so many lines and bytes; blank lines within the limits are skipped, and counted
+abbrev pub lines_from : ℕ → ℕ → List (List ℕ) → List Line
+lines_from number at [] = []
+lines_from number at (piece ∷ pieces) =
+    if is_in_script (number + 1) (at + length piece) && is_blank (without_feed piece)
+    then lines_from (number + 1) (at + length piece) pieces
+    else record { number = number + 1; json = json_in (is_in_script (number + 1) (at + length piece)) (without_feed piece) } ∷ lines_from (number + 1) (at + length piece) pieces

@@ -1,0 +1,78 @@
+//! The lines of a script, one after another.
+ghost use Rattle.std.specs.Prelude.{◌≡◌, ◌+◌, ◌-◌, ◌^◌, ◌<◌, ◌≤◌, length};
+
+use crate::fault::ScriptKind;
+use crate::lines::{first_line, is_blank_line, json_within};
+use serde_json::Value as Json;
+use std::alloc::Global;
+use yp_base::memory::NoMemory;
+
+/// The most lines of a script.
+const MOST_LINES: u32 = 100_000;
+
+/// The most bytes of a script.
+const MOST_BYTES: usize = 67_108_864;
+
+/// A line that says something: its number, and its JSON or the fault for which it has none.
+#[derive(Drop)]
+pub struct Line {
+    pub number: u32,
+    pub json: Result<Json, ScriptKind>,
+}
+
+/// A place between two lines of a text.
+#[derive(Clone, Copy)]
+pub struct Lines<'a> {
+    /// what stands behind the place
+    pub rest: &'a [u8],
+    /// how many lines stand before it
+    pub number: u32,
+    /// how many bytes stand before it
+    pub at: usize,
+    ghost in_range: { number ≤ at },
+    ghost short: { at + length rest.now < 2 ^ 32 - 1 },
+}
+
+impl<'a> Lines<'a> {
+    ghost use Rattle.std.specs.Prelude.{◌≡◌, ◌+◌, ◌-◌, ◌^◌, ◌<◌, ◌≤◌, length, [], IfOk, OnOk, IsSome, IsNone};
+    ghost use Rattle.yp_script.specs.Lines.{is_in_script, lines_from, pieces_of};
+    ghost use Rattle.yp_script.specs.Cursor.{lines_left, last_number, Finds};
+
+    /// The place before the first line.
+    pub fn of_text(text: &'a [u8]) -> Lines<'a>
+        requires { length text.now < 2 ^ 32 - 1 }
+        ensures left { lines_left result ≡ lines_from 0 0 (pieces_of text.now) }
+        ensures last { last_number result ≡ length (pieces_of text.now) }
+    {
+        Lines {
+            rest: text,
+            number: 0,
+            at: 0,
+        }
+    }
+
+    /// The next line that says something; the place is behind it then.
+    pub fn next(&mut self, alloc: Global) -> Result<Option<Line>, NoMemory>
+        ensures found { IfOk result (λ line. Finds line (lines_left self.old) (lines_left self.new)) }
+        ensures last { OnOk result (last_number self.new ≡ last_number self.old) }
+        ensures shorter { IfOk result (λ line. IsSome line → length self.new.rest.now < length self.old.rest.now) }
+        ensures end { IfOk result (λ line. IsNone line → self.new.rest.now ≡ []) }
+    {
+        while !self.rest.is_empty() {
+            let (text, rest) = first_line(self.rest);
+            let number = self.number + 1;
+            let at = self.at + (self.rest.len() - rest.len());
+            self.rest = rest;
+            self.number = number;
+            self.at = at;
+            let within = number <= MOST_LINES && at <= MOST_BYTES;
+            if !(within && is_blank_line(text)) {
+                return Ok(Some(Line {
+                    number,
+                    json: json_within(alloc, within, text)?,
+                }));
+            }
+        }
+        Ok(None)
+    }
+}

@@ -1,0 +1,89 @@
+//! Commands that a reader gathers.
+ghost use Rattle.std.specs.Prelude.{◌≡◌, ◌<◌, ◌≤◌, ◌++◌, ◌∷◌, [], All, IfOk, OnOk, OnErr, length, map, replicate, vec_len};
+ghost use Rattle.yp_script.specs.Commands.{HasFewEdits, AreFew};
+ghost use Rattle.yp_script.specs.Script.{in_lane};
+
+use crate::script::Lanes;
+use std::alloc::Global;
+use yp_base::memory::NoMemory;
+use yp_base::series::Series;
+use yp_journal::command::{Command, Commands};
+
+/// Commands, in the order in which they are gathered. No patch among them has more edits than there are
+/// numbers of 32 bits.
+#[derive(Drop)]
+pub struct Gathered {
+    pub commands: Vec<Command>,
+    ghost few: { AreFew commands.items },
+}
+
+impl Gathered {
+    /// No commands.
+    pub fn new(alloc: Global) -> Gathered
+        ensures { result.commands.items ≡ [] }
+    {
+        Gathered {
+            commands: Vec::new(alloc),
+        }
+    }
+
+    /// One command more, at the end. After want of memory nothing is changed.
+    pub fn push(&mut self, command: Command) -> Result<(), NoMemory>
+        requires { HasFewEdits command }
+        ensures ok { OnOk result (self.new.commands.items ≡ self.old.commands.items ++ command ∷ []) }
+        ensures err { OnErr result (self.new.commands.items ≡ self.old.commands.items) }
+    {
+        self.commands.push(command)?;
+        Ok(())
+    }
+
+    /// The commands, given on. It takes no memory.
+    pub fn into_commands(self) -> Commands
+        ensures same { result ≡ self.commands.items }
+        ensures few { AreFew result }
+    {
+        let Gathered { commands } = self;
+        Series::from_vec(commands)
+    }
+}
+
+/// So many lanes without commands.
+pub fn empty_lanes(alloc: Global, count: u64) -> Result<Vec<Gathered>, NoMemory>
+    ensures { IfOk result (λ lanes. map (λ lane. lane.commands.items) lanes.items ≡ replicate count []) }
+{
+    let mut lanes = Vec::new(alloc);
+    for _lane in 0..count {
+        lanes.push(Gathered::new(alloc))?;
+    }
+    Ok(lanes)
+}
+
+/// How many lanes there are.
+pub fn count_lanes(lanes: &Vec<Gathered>) -> u64
+    ensures { result ≡ length (map (λ lane. lane.commands.items) lanes.now.items) }
+{
+    lanes.len() as u64
+}
+
+/// One command more, at the end of the lane of a number, from 1 on.
+pub fn push_in(lanes: &mut Vec<Gathered>, number: u64, command: Command) -> Result<(), NoMemory>
+    requires some { 1 ≤ number }
+    requires within { number ≤ vec_len lanes.old }
+    requires few { HasFewEdits command }
+    ensures { OnOk result (map (λ lane. lane.commands.items) lanes.new.items ≡ in_lane number command (map (λ lane. lane.commands.items) lanes.old.items)) }
+{
+    let lane = &mut lanes[number as usize - 1];
+    lane.push(command)
+}
+
+/// The commands of each lane, given on.
+pub fn lanes_of(alloc: Global, lanes: Vec<Gathered>) -> Result<Lanes, NoMemory>
+    ensures same { IfOk result (λ made. made ≡ map (λ lane. lane.commands.items) lanes.items) }
+    ensures few { IfOk result (λ made. All AreFew made) }
+{
+    let mut made = Vec::new(alloc);
+    for lane in lanes {
+        made.push(lane.into_commands())?;
+    }
+    Ok(Series::from_vec(made))
+}

@@ -1,0 +1,46 @@
+//! Reading a script.
+ghost use Rattle.std.specs.Prelude.{◌≡◌, ◌≤◌, length, IfOk};
+ghost use Rattle.yp_schema.specs.WellFormed.{IsSchema};
+ghost use Rattle.yp_time.specs.Instants.{IsStart};
+ghost use Rattle.yp_script.specs.Commands.{HasFew};
+ghost use Rattle.yp_script.specs.Readings.{Gives};
+ghost use Rattle.yp_script.specs.Script.{AreReceivers, MayRun, script_in, script_of};
+
+use crate::cursor::Lines;
+use crate::fault::ScriptFault;
+use crate::reader::Reader;
+use crate::script::Script;
+use std::alloc::Global;
+
+/// The most bytes that are looked at: with the last of them a script has one too many.
+const MOST_READ: usize = 67_108_865;
+
+/// Reads the script of a text.
+fn read_text(alloc: Global, text: &[u8]) -> Result<Script, ScriptFault>
+    requires { length text.now ≤ 67108865 }
+    ensures read { Gives result (script_of text.now) }
+    ensures few { IfOk result HasFew }
+    ensures start { IfOk result (λ script. IsStart script.start) }
+{
+    let mut lines = Lines::of_text(text);
+    let mut reader = Reader::new(alloc)?;
+    while let Some(line) = lines.next(alloc)? {
+        reader.take(alloc, &line)?;
+    }
+    reader.finish(alloc, lines.number + 1)
+}
+
+/// Reads a script. Its lines are a start, schema lines, receivers, commands, and lanes with commands
+/// behind them where there are lanes. The fault is that of the first line that has one, by the lines
+/// before it; of its faults the least is told, but a line past the limits of lines and bytes has
+/// `Limit` before all others. Where the text ends too early, the line after the last has `Order`.
+pub fn read_script(alloc: Global, bytes: &[u8]) -> Result<Script, ScriptFault>
+    ensures read { Gives result (script_in bytes.now) }
+    ensures start { IfOk result (λ script. IsStart script.start) }
+    ensures schema { IfOk result (λ script. IsSchema script.schema) }
+    ensures receivers { IfOk result (λ script. AreReceivers script.receivers) }
+    ensures commands { IfOk result MayRun }
+{
+    let (text, _) = bytes.split_at(bytes.len().min(MOST_READ));
+    read_text(alloc, text)
+}

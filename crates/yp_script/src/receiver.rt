@@ -1,0 +1,178 @@
+//! Receiver lines.
+ghost use Rattle.std.specs.Prelude.{◌≡◌, ◌+◌, ◌<◌, ◌≤◌, None, IfOk, OnOk, IfSome, length, nat_le, if◌then◌else◌, option_map, codes};
+ghost use Rattle.std.specs.Bool.{OnTrue};
+ghost use Rattle.serde_json.specs.View.{view, members_view};
+ghost use Rattle.yp_script.specs.Faults.{least};
+ghost use Rattle.yp_script.specs.Forms.{are_name_bytes, is_receiver_name, is_user_name, is_new_name, number_of, has_receiver_form, places_said, receiver_in, receiver_said};
+ghost use Rattle.yp_script.specs.Readings.{Tells};
+ghost use Rattle.yp_script.specs.Words.{text_at, where_true};
+
+use crate::fault::ScriptKind;
+use crate::members::{count, has_text, member_in, object_by, text_in, whole};
+use crate::receivers::Receivers;
+use crate::said::{Halt, least};
+use serde_json::{Map, Value as Json};
+use std::alloc::Global;
+use yp_base::memory::NoMemory;
+use yp_base::txt::Txt;
+use yp_journal::receiver::ReceiverInfo;
+
+/// The most receivers of a script.
+const MOST_RECEIVERS: usize = 16;
+
+/// Whether each byte may stand in a receiver's name.
+fn has_name_bytes(text: &[u8]) -> bool
+    ensures { result ≡ are_name_bytes text.now }
+{
+    for byte in text {
+        if !byte.is_ascii_alphanumeric() && *byte != b'_' && *byte != b'-' && *byte != b'.' {
+            return false;
+        }
+    }
+    true
+}
+
+/// Whether a text is a receiver's name.
+fn is_name(text: &str) -> bool
+    ensures { result ≡ is_receiver_name text.now }
+{
+    if 1 <= text.len() && text.len() <= 32 {
+        has_name_bytes(text.as_bytes())
+    } else {
+        false
+    }
+}
+
+/// Whether a text is the name of a receiver that isn't declared yet.
+fn is_new(receivers: &Receivers, text: &str) -> bool
+    ensures new { OnTrue result (number_of receivers.now text.now ≡ None) }
+    ensures value { result ≡ is_new_name receivers.now text.now }
+{
+    if is_name(text) {
+        receivers.number_of(text).is_none()
+    } else {
+        false
+    }
+}
+
+/// A member that is the name of a receiver that isn't declared yet.
+fn new_name<'a>(receivers: &Receivers, members: &'a Map<String, Json>) -> Option<&'a str>
+    ensures new { IfSome result (λ text. number_of receivers.now text.now ≡ None) }
+    ensures read { option_map (λ text. text.now) result ≡ where_true (is_new_name receivers.now) (text_at (codes "name") (members_view members.now.entries)) }
+{
+    match text_in(members, "name") {
+        Some(text) => {
+            if is_new(receivers, text) {
+                Some(text)
+            } else {
+                None
+            }
+        }
+        None => None,
+    }
+}
+
+/// A member that is the name of a user.
+fn user_name(members: &Map<String, Json>) -> Option<&str>
+    ensures { option_map (λ text. text.now) result ≡ where_true is_user_name (text_at (codes "user") (members_view members.now.entries)) }
+{
+    match text_in(members, "user") {
+        Some(text) => {
+            if 1 <= text.len() && text.len() <= 64 {
+                Some(text)
+            } else {
+                None
+            }
+        }
+        None => None,
+    }
+}
+
+/// Whether an object has as many members as a receiver's, which takes its packets by itself.
+fn has_form(members: &Map<String, Json>) -> bool
+    ensures { result ≡ has_receiver_form (members_view members.now.entries) }
+{
+    count(members) == 4 && has_text(members, "take", "auto")
+}
+
+/// How many packets the queue of one receiver more holds, where there is room for it.
+fn places_of(receivers: &Receivers, members: &Map<String, Json>) -> Result<u64, ScriptKind>
+    ensures read { result ≡ places_said receivers.now (members_view members.now.entries) }
+    ensures most { IfOk result (λ places. places ≤ 32) }
+    ensures room { OnOk result (length receivers.now < 16) }
+{
+    match whole(member_in(members, "queue"), 1, 32) {
+        Ok(places) => {
+            if receivers.len() >= MOST_RECEIVERS {
+                Err(ScriptKind::Limit)
+            } else {
+                Ok(places)
+            }
+        }
+        Err(kind) => Err(overfull(receivers, kind)),
+    }
+}
+
+/// The fault of a queue, beside that of one receiver too many.
+fn overfull(receivers: &Receivers, kind: ScriptKind) -> ScriptKind
+    ensures { result ≡ (if nat_le (length receivers.now + 1) 16 then kind else least ScriptKind.Limit kind) }
+{
+    if receivers.len() >= MOST_RECEIVERS {
+        least(ScriptKind::Limit, kind)
+    } else {
+        kind
+    }
+}
+
+/// A text of its own.
+fn text_of(alloc: Global, text: &str) -> Result<Txt, NoMemory>
+    ensures { IfOk result (λ made. made ≡ text.now) }
+{
+    Ok(Txt::from_string(String::from_str(alloc, text)?))
+}
+
+/// The receiver that an object declares.
+fn receiver_of(
+    alloc: Global,
+    receivers: &Receivers,
+    members: &Map<String, Json>,
+) -> Result<ReceiverInfo, Halt>
+    ensures read { Tells result (receiver_in receivers.now (members_view members.now.entries)) }
+    ensures new { IfOk result (λ receiver. number_of receivers.now receiver.name ≡ None) }
+    ensures room { OnOk result (length receivers.now < 16) }
+{
+    if !has_form(members) {
+        return Err(Halt::Fault(ScriptKind::Member));
+    }
+    match new_name(receivers, members) {
+        Some(name) => match user_name(members) {
+            Some(user) => match places_of(receivers, members) {
+                Ok(places) => Ok(ReceiverInfo {
+                    name: text_of(alloc, name)?,
+                    user: text_of(alloc, user)?,
+                    places: places as u32,
+                    auto: true,
+                }),
+                Err(kind) => Err(Halt::Fault(kind)),
+            },
+            None => Err(Halt::Fault(ScriptKind::Member)),
+        },
+        None => Err(Halt::Fault(ScriptKind::Member)),
+    }
+}
+
+/// The receiver that a line declares beside those before it.
+pub fn read_receiver(
+    alloc: Global,
+    receivers: &Receivers,
+    json: &Json,
+) -> Result<ReceiverInfo, Halt>
+    ensures read { Tells result (receiver_said receivers.now (view json.now)) }
+    ensures new { IfOk result (λ receiver. number_of receivers.now receiver.name ≡ None) }
+    ensures room { OnOk result (length receivers.now < 16) }
+{
+    match object_by(json, "receiver") {
+        Ok(members) => receiver_of(alloc, receivers, members),
+        Err(kind) => Err(Halt::Fault(kind)),
+    }
+}
