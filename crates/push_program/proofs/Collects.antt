@@ -1,89 +1,77 @@
--- The rows of a tree, one after another.
-use Rattle.std.proofs.Common.{◌≡◌, ◌+◌, ◌-◌, ◌<◌, true, false, true≢false, ◌&&◌, List, [], ◌∷◌, ◌++◌, length, Some, None, refl, sym, ap, ◌∙◌, subst, cond, arith, append_assoc, append-nil, length-append}
-use Rattle.std.specs.List.{AllByRecursion}
-use Rattle.std.specs.Ordering.{is_lt, ordering_reverse}
-use Rattle.std.specs.declared.cmp.Ordering.TheVariants.{Less, Greater}
-use Rattle.std.proofs.lemmas.Cmp.{tied_itself}
+-- The rows at or below a path, found one after another.
+use Rattle.std.proofs.Common.{◌≡◌, true, false, true≢false, ◌&&◌, List, [], ◌∷◌, ◌++◌, ◌<◌, length, refl, sym, ap, ◌∙◌, cond, Some, None, append_assoc, append-nil}
+use Rattle.std.specs.Ordering.{is_eq, is_gt, is_lt}
+use Rattle.std.specs.declared.cmp.Ordering.TheVariants.{Less, Equal, Greater}
 use Rattle.yp_base.specs.declared.path.Seg.{Seg}
 use Rattle.yp_base.specs.declared.row.Row.{Row}
-use Rattle.yp_base.specs.Order.{path_cmp}
-use Rattle.yp_base.specs.OrderLaws.{paths_total}
-use Rattle.yp_base.specs.Rows.{AreInOrder, next_row}
-use Rattle.yp_base.proofs.RowLaws.{AllPast, first_order, rest_order}
-use Rattle.yp_schema.specs.declared.schema.SchemaNode.{SchemaNode}
-use Rattle.yp_schema.specs.Datastore.{is_path_of, IsRowOf}
-use Rattle.push_program.specs.Collected.{is_below_top, HavePaths, first_of}
+use Rattle.yp_base.specs.Order.{segment_cmp, path_cmp, is_within}
+use Rattle.yp_base.specs.Rows.{value_at, next_row, rows_within, AreInOrder}
+use Rattle.yp_base.proofs.Exact.{paths_exact}
+use Rattle.yp_base.proofs.Fronts.{front_not_after}
+use Rattle.yp_base.proofs.RowLaws.{all_past, first_order, rest_order}
+use Rattle.yp_edit.proofs.Alike.{none_there}
+use Rattle.yp_edit.proofs.Walking.{later, next_first, next_none, fewer_left, within_itself}
+use Rattle.push_program.specs.Collected.{own_rows}
 
-top_first : (path : List Seg) → is_below_top path ≡ true → is_lt (path_cmp [] path) ≡ true
-top_first [] some = absurd (true≢false (sym some))
-top_first (seg ∷ path) some = refl
+-- what comes before a path isn't at or below it
+pub outside : (path other : List Seg) → path_cmp path other ≡ Greater → is_within path other ≡ false
+outside path other after =
+    elim (is_within path other) as (λ w. is_within path other ≡ w → w ≡ false) [
+      | true ↦ λ within. absurd (true≢false (ap is_gt (sym after) ∙ front_not_after segment_cmp path other within))
+      | false ↦ λ within. refl
+    ] refl
 
--- past the top comes the first row
-pub past_top : (rows : List Row) → HavePaths rows → next_row [] [] rows ≡ first_of rows
-past_top [] have = refl
-past_top (row ∷ rows) have = ap (λ b. cond (b && true) (Some row) (next_row [] [] rows)) (top_first row.path have.0)
+-- where a path has no row, the rows at or below it are those past it
+within_later : (path : List Seg) (rows : List Row) → value_at path rows ≡ None → rows_within path rows ≡ later path path rows
+within_later path [] none = refl
+within_later path (row ∷ rows) none =
+    elim (path_cmp path row.path) as (λ o. path_cmp path row.path ≡ o → cond (is_eq o) (Some row.value) (value_at path rows) ≡ None → rows_within path (row ∷ rows) ≡ cond (is_lt o && is_within path row.path) (row ∷ later path path rows) (later path path rows)) [
+      | Less ↦ λ o h. (λ i. cond (is_within path row.path) (row ∷ within_later path rows h i) (within_later path rows h i))
+      | Equal ↦ λ o h. let no : Some row.value ≡ None = h in cc
+      | Greater ↦ λ o h. ap (λ w. cond w (row ∷ rows_within path rows) (rows_within path rows)) (outside path row.path o) ∙ within_later path rows h
+    ] refl none
 
-past_itself : (row : Row) (rest : List Row) → AreInOrder (row ∷ rest) → next_row row.path [] (row ∷ rest) ≡ next_row row.path [] rest
-past_itself row rest order = ap (λ o. cond (is_lt o && true) (Some row) (next_row row.path [] rest)) (tied_itself paths_total row.path)
+-- of rows in order, the row of a path comes first among those at or below it
+pub own_first : (path : List Seg) (rows : List Row) → AreInOrder rows → own_rows path (value_at path rows) ++ later path path rows ≡ rows_within path rows
+own_first path [] order = refl
+own_first path (row ∷ rows) order =
+    let past = first_order row rows order in
+    elim (path_cmp path row.path) as (λ o. path_cmp path row.path ≡ o
+    → own_rows path (cond (is_eq o) (Some row.value) (value_at path rows)) ++ cond (is_lt o && is_within path row.path) (row ∷ later path path rows) (later path path rows) ≡ rows_within path (row ∷ rows)) [
+      | Less ↦ λ o.
+          let none : value_at path rows ≡ None = none_there path rows (all_past path row.path rows o past) in
+          let missing : value_at path (row ∷ rows) ≡ None = ap (λ r. cond (is_eq r) (Some row.value) (value_at path rows)) o ∙ none in
+          let all : rows_within path (row ∷ rows) ≡ cond (is_within path row.path) (row ∷ later path path rows) (later path path rows) =
+          within_later path (row ∷ rows) missing ∙ ap (λ r. cond (is_lt r && is_within path row.path) (row ∷ later path path rows) (later path path rows)) o in
+          ap (λ v. own_rows path v ++ cond (is_within path row.path) (row ∷ later path path rows) (later path path rows)) none ∙ sym all
+      | Equal ↦ λ o.
+          let same : path ≡ row.path = paths_exact path row.path o in
+          let none : value_at path rows ≡ None = ap (λ p. value_at p rows) same ∙ none_there row.path rows past in
+          let here : is_within path row.path ≡ true = ap (is_within path) (sym same) ∙ within_itself path in
+          ap (λ p. record { path = p; value = row.value } ∷ later path path rows) same
+          ∙ ap (λ xs. row ∷ xs) (sym (within_later path rows none))
+          ∙ sym (ap (λ w. cond w (row ∷ rows_within path rows) (rows_within path rows)) here)
+      | Greater ↦ λ o. own_first path rows (rest_order row rows order) ∙ sym (ap (λ w. cond w (row ∷ rows_within path rows) (rows_within path rows)) (outside path row.path o))
+    ] refl
 
-to_first : (row : Row) (rest : List Row) → AllPast row.path rest → next_row row.path [] rest ≡ first_of rest
-to_first row [] past = refl
-to_first row (next ∷ rest) past = ap (λ o. cond (is_lt o && true) (Some next) (next_row row.path [] rest)) past.0
+module _ (under last : List Seg) (rows : List Row) where
+  module _ (order : AreInOrder rows) (row : Row) (next : next_row last under rows ≡ Some row) where
+    -- one row more
+    pub goes_on : (done made : List Row) → made ≡ done ++ row ∷ [] → done ++ later last under rows ≡ rows_within under rows → made ++ later row.path under rows ≡ rows_within under rows
+    goes_on done made push so_far =
+        ap (λ xs. xs ++ later row.path under rows) push
+        ∙ append_assoc done (row ∷ []) (later row.path under rows)
+        ∙ ap (λ xs. done ++ xs) (sym (next_first last under rows row order next))
+        ∙ so_far
 
-in_front : (first : Row) (done : List Row) (row : Row) (rest : List Row) → AllPast first.path (done ++ row ∷ rest) → path_cmp first.path row.path ≡ Less
-in_front first [] row rest past = past.0
-in_front first (other ∷ done) row rest past = in_front first done row rest past.1
+    pub fewer : length (later row.path under rows) < length (later last under rows)
+    fewer = fewer_left row (later last under rows) (later row.path under rows) (next_first last under rows row order next)
 
--- past a row comes the one behind it
-pub past_row : (done : List Row) (row : Row) (rest : List Row) → AreInOrder (done ++ row ∷ rest) → next_row row.path [] (done ++ row ∷ rest) ≡ first_of rest
-past_row [] row rest order = past_itself row rest order ∙ to_first row rest (first_order row rest order)
-past_row (first ∷ done) row rest order =
-    let behind : path_cmp row.path first.path ≡ Greater = paths_total.antisymm row.path first.path ∙ ap ordering_reverse (in_front first done row rest (first_order first (done ++ row ∷ rest) order)) in
-    ap (λ o. cond (is_lt o && true) (Some first) (next_row row.path [] (done ++ row ∷ rest))) behind ∙ past_row done row rest (rest_order first (done ++ row ∷ rest) order)
+  -- and no more
+  pub ends : (done : List Row) → next_row last under rows ≡ None → done ++ later last under rows ≡ rows_within under rows → done ≡ rows_within under rows
+  ends done none so_far = sym (append-nil done) ∙ ap (λ xs. done ++ xs) (sym (next_none last under rows none)) ∙ so_far
 
--- what was collected, and what comes next
-pub record Collects (rows done : List Row) (after : List Seg) : Type 0 where
-  pub left : List Row
-  pub all : done ++ left ≡ rows
-  pub next : next_row after [] rows ≡ first_of left
-
-pub begins : (rows : List Row) → HavePaths rows → Collects rows [] []
-begins rows have = record { left = rows; all = refl; next = past_top rows have }
-
-split_first : (left : List Row) (row : Row) → first_of left ≡ Some row → (more : List Row) × (left ≡ row ∷ more)
-split_first [] row is = cc
-split_first (first ∷ more) row is = (more, (let same : first ≡ row = cc in ap (λ x. x ∷ more) same))
-
-pub goes_on : (rows done made : List Row) (after : List Seg) (row : Row) → AreInOrder rows → Collects rows done after → next_row after [] rows ≡ Some row → made ≡ done ++ row ∷ [] → Collects rows made row.path
-goes_on rows done made after row order c found push =
-    let s = split_first c.left row (sym c.next ∙ found) in
-    let here : done ++ row ∷ s.0 ≡ rows = ap (λ left. done ++ left) (sym s.1) ∙ c.all in
-    record {
-      left = s.0;
-      all = ap (λ m. m ++ s.0) push ∙ append_assoc done (row ∷ []) s.0 ∙ here;
-      next = ap (next_row row.path []) (sym here) ∙ past_row done row s.0 (subst AreInOrder (sym here) order);
-    }
-
-none_left : (left : List Row) → first_of left ≡ None → left ≡ []
-none_left [] is = refl
-none_left (row ∷ left) is = cc
-
-pub ends : (rows done : List Row) (after : List Seg) → Collects rows done after → next_row after [] rows ≡ None → done ≡ rows
-ends rows done after c found = sym (append-nil done) ∙ ap (λ left. done ++ left) (sym (none_left c.left (sym c.next ∙ found))) ∙ c.all
-
-some_left : (left : List Row) (row : Row) → first_of left ≡ Some row → 0 < length left
-some_left [] row is = cc
-some_left (first ∷ left) row is = omega arith
-
-pub fewer : (rows done made : List Row) (after : List Seg) (row : Row) → Collects rows done after → next_row after [] rows ≡ Some row → made ≡ done ++ row ∷ [] → length rows - length made < length rows - length done
-fewer rows done made after row c found push =
-    omega (arith, ap length c.all, length-append done c.left, some_left c.left row (sym c.next ∙ found), ap length push, length-append done (row ∷ []))
-
-below : (nodes : List SchemaNode) (path : List Seg) → is_path_of nodes path ≡ true → is_below_top path ≡ true
-below nodes [] is = absurd (true≢false (sym is))
-below nodes (seg ∷ path) is = refl
-
--- rows of a schema have paths
-pub of_schema : (nodes : List SchemaNode) (rows : List Row) → AllByRecursion (IsRowOf nodes) rows → HavePaths rows
-of_schema nodes [] all = tt
-of_schema nodes (row ∷ rows) all = (below nodes row.path all.0.path, of_schema nodes rows all.1)
+-- all rows are at or below the top
+pub within_top : (rows : List Row) → rows_within [] rows ≡ rows
+within_top [] = refl
+within_top (row ∷ rows) = ap (λ xs. row ∷ xs) (within_top rows)

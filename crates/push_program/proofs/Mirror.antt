@@ -1,219 +1,227 @@
--- A receiver's rows are fresh selection after each update.
-use Rattle.std.proofs.Common.{◌≡◌, ℕ, zero, suc, ◌+◌, ◌<◌, Bool, true, false, true≢false, List, [], ◌∷◌, ◌++◌, take, length, Result, Ok, Err, refl, sym, ap, ◌∙◌, subst, cond, arith, nat_lt}
-use Rattle.std.specs.List.{AllByRecursion}
-use Rattle.yp_base.specs.declared.path.Seg.{Seg}
+-- After each update of a subscription its receiver's rows are fresh selection; the positions of its updates rise.
+use Rattle.std.proofs.Common.{◌≡◌, ℕ, zero, suc, ◌+◌, ◌==◌, ◌<◌, Bool, true, false, true≢false, List, [], ◌∷◌, ◌++◌, take, Option, Some, None, is_some, unwrap_or, refl, sym, ap, ◌∙◌, subst, cond, arith}
+use Rattle.std.proofs.lemmas.List.Elements.{filter-append}
+use Rattle.yp_base.specs.declared.notice.Change.{Change}
+use Rattle.yp_base.specs.declared.notice.Notice.TheVariants.{Full, Changes}
 use Rattle.yp_base.specs.declared.row.Row.{Row}
-use Rattle.yp_base.specs.declared.notice.Notice.{Notice}
-use Rattle.yp_base.specs.Order.{is_within}
-use Rattle.yp_base.specs.Rows.{AreInOrder, put_rows, has_within, rows_within}
-use Rattle.yp_base.proofs.RowLaws.{picked-puts, puts_order, put_to_none, none_order}
-use Rattle.yp_base.proofs.RowLaws.{some_keep_order}
 use Rattle.yp_schema.specs.declared.schema.SchemaNode.{SchemaNode}
-use Rattle.push_program.specs.declared.command.Command.{Command}
-use Rattle.push_program.specs.declared.command.Command.TheVariants.{Create, Establish}
-use Rattle.push_program.specs.declared.command.Tag.{Tag}
-use Rattle.push_program.specs.declared.command.Tag.TheVariants.{DataMissing, DataExists, TooBig}
-use Rattle.push_program.specs.Access.{is_readable, visible_rows}
-use Rattle.push_program.specs.Journal.{stand_above, within_limit, row_limit, created, rows_or, rows_after, state_after}
-use Rattle.push_program.specs.Notices.{Made, selection, creation_of, change_record, made_at, lives_after, made_from}
-use Rattle.push_program.specs.Received.{changed_by, heard, received, AllWithin, IsCommand, Mirrors}
-use Rattle.push_program.proofs.Picks.{kept, dropped, closed_below, all_picked, none_picked, none_within, all_without}
+use Rattle.yp_schema.specs.Datastore.{IsDatastore}
+use Rattle.yp_schema.specs.WellFormed.{IsSchema}
+use Rattle.yp_journal.specs.declared.command.Command.{Command}
+use Rattle.yp_journal.specs.declared.command.Command.TheVariants as commands
+use Rattle.yp_journal.specs.declared.entry.Entry.{Entry}
+use Rattle.yp_journal.specs.declared.receiver.ReceiverInfo.{ReceiverInfo}
+use Rattle.yp_journal.specs.declared.subscription.Subscription.{Subscription}
+use Rattle.yp_journal.specs.History.{JournalState, first_state, next_state, state_of}
+use Rattle.yp_journal.proofs.Keeping.{opening_datastore, command_keeps}
+use Rattle.yp_script.specs.declared.script.Script.{Script}
+use Rattle.push_program.specs.Concealed.{RisesPast, Rises}
+use Rattle.push_program.specs.Notices.{Made, selection, is_given, change_update, updates_of, made_of, made_at, made_from, made_by}
+use Rattle.push_program.specs.Progress.{Fits}
+use Rattle.push_program.specs.Received.{changed_by, heard, received, updates, Mirrors}
+use Rattle.push_program.specs.Records.{change_record}
+use Rattle.push_program.specs.Report.{given_by}
+use Rattle.push_program.specs.Turns.{journal_of}
+use Rattle.push_program.proofs.Own.{own, own_update, own_at, received_own, own_split}
+use Rattle.push_program.proofs.RecordLaws.{record_mirrors, no_record}
+use Rattle.push_program.proofs.Subscriptions.{of_id, given_is, ids_kept, given_stays, has_id}
 
--- a creation that is accepted puts rows where none were
-pub record IsCreated (nodes : List SchemaNode) (target : List Seg) (new rows after : List Row) : Type 0 where
-  pub apart : has_within target rows ≡ false
-  pub put : after ≡ put_rows new rows
+pub fits_first : (script : Script) → IsSchema script.schema → Fits script.schema (first_state script.receivers)
+fits_first script schema = record { schema = schema; datastore = opening_datastore script.schema script.receivers; ids = tt }
 
-limit_ok : (b : Bool) (rows after : List Row) → cond b (Err TooBig) (Ok rows) ≡ Ok after → after ≡ rows
-limit_ok true rows after h = cc
-limit_ok false rows after h = cc
+pub fits_next : (nodes : List SchemaNode) (state : JournalState) (command : Command) → Fits nodes state → Fits nodes (next_state nodes state command)
+fits_next nodes state command fits = record { schema = fits.schema; datastore = command_keeps nodes state command fits.datastore; ids = ids_kept nodes state command fits.ids }
 
-apart_ok : (b c : Bool) (new rows after : List Row) → cond b (cond c (Err DataExists) (within_limit (put_rows new rows))) (Err DataMissing) ≡ Ok after → (c ≡ false) × (after ≡ put_rows new rows)
-apart_ok true true new rows after h = cc
-apart_ok true false new rows after h = (refl, limit_ok (nat_lt row_limit (length (put_rows new rows))) (put_rows new rows) after h)
-apart_ok false c new rows after h = cc
+pub next_position : (nodes : List SchemaNode) (state : JournalState) (command : Command) → (next_state nodes state command).position ≡ state.position + 1
+next_position nodes state (commands.Tick tick) = refl
+next_position nodes state (commands.Edit patch) = refl
+next_position nodes state (commands.Everything by) = refl
 
-pub created_ok : (nodes : List SchemaNode) (target : List Seg) (new rows after : List Row) → created nodes target new rows ≡ Ok after → IsCreated nodes target new rows after
-created_ok nodes target new rows after h =
-    let both = apart_ok (stand_above nodes [] target rows) (has_within target rows) new rows after h in
-    record { apart = both.0; put = both.1 }
+-- ---- one step
 
--- what is selected after a creation
-selected : (nodes : List SchemaNode) (target : List Seg) (new rows after : List Row) → AreInOrder rows → IsCreated nodes target new rows after
-    → selection nodes after ≡ put_rows (visible_rows nodes new) (visible_rows nodes rows)
-selected nodes target new rows after order is = ap (selection nodes) is.put ∙ picked-puts (is_readable nodes) new rows order
+-- where a subscription is the receiver's, these rows are held of it
+abbrev Holds : List SchemaNode → ℕ → ℕ → JournalState → Option (List Row) → Type 0
+Holds nodes receiver id state held = (s : Subscription) → of_id id state.subscriptions ≡ Some s → (s.receiver == receiver) ≡ true → held ≡ Some (selection nodes state.rows)
 
--- what a creation shows is what its own rows show
-pub carried : (nodes : List SchemaNode) (target : List Seg) (new rows after : List Row) → AreInOrder rows → AreInOrder new × AllWithin target new → IsCreated nodes target new rows after
-    → rows_within target (selection nodes after) ≡ visible_rows nodes new
-carried nodes target new rows after order command is =
-    let seen = visible_rows nodes new in
-    let before = visible_rows nodes rows in
-    ap (rows_within target) (selected nodes target new rows after order is)
-    ∙ picked-puts (is_within target) seen before (some_keep_order (is_readable nodes) rows order)
-    ∙ (λ i. put_rows (kept (is_within target) seen (all_picked (is_readable nodes) target new command.1) i) (none_within target before (none_picked (is_readable nodes) target rows is.apart) i))
-    ∙ put_to_none seen (some_keep_order (is_readable nodes) new command.0)
+-- what a step makes for a subscription: nothing where nothing has to be heard, or one update that leaves fresh selection
+abbrev IsStep : List SchemaNode → ℕ → ℕ → JournalState → Option (List Row) → List Made → Type 0
+IsStep nodes receiver id after held [] = Holds nodes receiver id after held
+IsStep nodes receiver id after held (made ∷ []) = (made.position ≡ after.position) × (heard id made.notice held ≡ Some (selection nodes after.rows))
+IsStep nodes receiver id after held (made ∷ other ∷ more) = ⊥
 
--- the record of a readable creation leads from one selection to the next
-shown : (nodes : List SchemaNode) (target : List Seg) (new rows after : List Row) → AreInOrder rows → AreInOrder new × AllWithin target new → IsCreated nodes target new rows after
-    → changed_by (creation_of target (selection nodes after) ∷ []) (selection nodes rows) ≡ selection nodes after
-shown nodes target new rows after order command is =
-    (λ i. put_rows (carried nodes target new rows after order command is i) (all_without target (visible_rows nodes rows) (none_picked (is_readable nodes) target rows is.apart) i))
-    ∙ sym (selected nodes target new rows after order is)
+none_held : (nodes : List SchemaNode) (receiver id : ℕ) (after : JournalState) (held : Option (List Row)) (s : Subscription) → of_id id after.subscriptions ≡ Some s → (s.receiver == receiver) ≡ false → Holds nodes receiver id after held
+none_held nodes receiver id after held s is other t there mine = let one : s ≡ t = cc in absurd (true≢false (sym mine ∙ ap (λ (u : Subscription). u.receiver == receiver) (sym one) ∙ other))
 
--- a creation that can't be read changes no selection
-hidden : (nodes : List SchemaNode) (target : List Seg) (new rows after : List Row) → AreInOrder rows → AllWithin target new → IsCreated nodes target new rows after
-    → is_readable nodes target ≡ false → selection nodes after ≡ selection nodes rows
-hidden nodes target new rows after order within is closed =
-    selected nodes target new rows after order is
-    ∙ ap (λ seen. put_rows seen (visible_rows nodes rows)) (dropped (is_readable nodes) new (closed_below nodes target new closed within))
+itself : (id other : ℕ) → other ≡ id → (other == id) ≡ true
+itself id other is = grind (arith, is)
 
--- the receiver's rows are the selection, where the subscription is there
-abbrev Follows : List SchemaNode → Bool → List Row → List Row → Type 0
-Follows nodes live mirror rows = live ≡ true → mirror ≡ selection nodes rows
+-- a subscription that was there hears what changed
+given_step : (nodes : List SchemaNode) (receiver id : ℕ) (before after : JournalState) (held : Option (List Row)) (s : Subscription) (changes : List Change)
+    → changes ≡ change_record (selection nodes before.rows) (selection nodes after.rows) → Fits nodes before → Fits nodes after → held ≡ Some (selection nodes before.rows) → s.id ≡ id
+    → IsStep nodes receiver id after held (made_of after (change_update s.id after.position changes))
+given_step nodes receiver id before after held s [] is fits next held_is same = λ t there mine.
+    held_is ∙ ap (λ (rows : List Row). Some rows) (no_record nodes before.rows after.rows fits.schema fits.datastore next.datastore (sym is))
+given_step nodes receiver id before after held s (change ∷ changes) is fits next held_is same = (refl, (
+      ap (λ b. cond b (Some (changed_by (change ∷ changes) (unwrap_or held []))) held) (itself id s.id same)
+      ∙ ap (λ h. Some (changed_by (change ∷ changes) (unwrap_or h []))) held_is
+      ∙ ap (λ cs. Some (changed_by cs (selection nodes before.rows))) is
+      ∙ ap (λ (rows : List Row). Some rows) (record_mirrors nodes before.rows after.rows fits.schema fits.datastore next.datastore)
+    ))
 
--- what one command makes: nothing, or one update that leads to its selection
-abbrev Leads : List SchemaNode → ℕ → List Row → List Row → Bool → List Made → Type 0
-Leads nodes n mirror after live [] = Follows nodes live mirror after
-Leads nodes n mirror after live (made ∷ []) = (made.position ≡ n) × (heard made.notice mirror ≡ selection nodes after)
-Leads nodes n mirror after live (made ∷ other ∷ more) = ⊥
+was_given : (nodes : List SchemaNode) (receiver id : ℕ) (before after : JournalState) (held : Option (List Row)) (s : Subscription) (r : Bool)
+    → (s.receiver == receiver) ≡ r → of_id id before.subscriptions ≡ Some s → of_id id after.subscriptions ≡ Some s → Fits nodes before → Fits nodes after → Holds nodes receiver id before held
+    → IsStep nodes receiver id after held (cond r (made_of after (updates_of nodes before after s)) [])
+was_given nodes receiver id before after held s false mine was is fits next holds = none_held nodes receiver id after held s is mine
+was_given nodes receiver id before after held s true mine was is fits next holds =
+    let same : s.id ≡ id = has_id id before.subscriptions s was in
+    let given : is_given s.id before.subscriptions ≡ true = ap (λ n. is_given n before.subscriptions) same ∙ given_is id before.subscriptions ∙ ap (λ (o : Option Subscription). is_some o) was in
+    subst (λ (b : Bool). IsStep nodes receiver id after held (made_of after (cond b (change_update s.id after.position (change_record (selection nodes before.rows) (selection nodes after.rows))) (Full s.id (selection nodes after.rows) ∷ [])))) (sym given)
+    (given_step nodes receiver id before after held s (change_record (selection nodes before.rows) (selection nodes after.rows)) refl fits next (holds s was mine) same)
 
-record_leads_at : (b : Bool) (nodes : List SchemaNode) (n : ℕ) (mirror : List Row) (target : List Seg) (new rows after : List Row) → is_readable nodes target ≡ b
-    → mirror ≡ selection nodes rows → AreInOrder rows → AreInOrder new × AllWithin target new → IsCreated nodes target new rows after
-    → Leads nodes n mirror after true (cond b (record { position = n; notice = Notice.Changes 2147483648 n (creation_of target (selection nodes after) ∷ []) false } ∷ []) [])
-record_leads_at true nodes n mirror target new rows after is same order command ok = (refl, ap (changed_by (creation_of target (selection nodes after) ∷ [])) same ∙ shown nodes target new rows after order command ok)
-record_leads_at false nodes n mirror target new rows after is same order command ok = λ live. same ∙ sym (hidden nodes target new rows after order command.1 ok is)
+-- one that the step establishes hears all
+is_new : (nodes : List SchemaNode) (receiver id : ℕ) (before after : JournalState) (held : Option (List Row)) (s : Subscription) (r : Bool)
+    → (s.receiver == receiver) ≡ r → of_id id before.subscriptions ≡ None → of_id id after.subscriptions ≡ Some s
+    → IsStep nodes receiver id after held (cond r (made_of after (updates_of nodes before after s)) [])
+is_new nodes receiver id before after held s false mine was is = none_held nodes receiver id after held s is mine
+is_new nodes receiver id before after held s true mine was is =
+    let same : s.id ≡ id = has_id id after.subscriptions s is in
+    let given : is_given s.id before.subscriptions ≡ false = ap (λ n. is_given n before.subscriptions) same ∙ given_is id before.subscriptions ∙ ap (λ (o : Option Subscription). is_some o) was in
+    subst (λ (b : Bool). IsStep nodes receiver id after held (made_of after (cond b (change_update s.id after.position (change_record (selection nodes before.rows) (selection nodes after.rows))) (Full s.id (selection nodes after.rows) ∷ [])))) (sym given)
+    (refl, ap (λ b. cond b (Some (selection nodes after.rows)) held) (itself id s.id same))
 
-record_leads : (r : Result (List Row) Tag) (nodes : List SchemaNode) (n : ℕ) (live : Bool) (mirror : List Row) (target : List Seg) (new rows : List Row) → created nodes target new rows ≡ r
-    → Follows nodes live mirror rows → AreInOrder rows → AreInOrder new × AllWithin target new
-    → Leads nodes n mirror (rows_or rows r) live (change_record nodes n live target r)
-record_leads (Ok after) nodes n true mirror target new rows is follows order command =
-    record_leads_at (is_readable nodes target) nodes n mirror target new rows after refl (follows refl) order command (created_ok nodes target new rows after is)
-record_leads (Ok after) nodes n false mirror target new rows is follows order command = λ live. absurd (true≢false (sym live))
-record_leads (Err tag) nodes n true mirror target new rows is follows order command = follows
-record_leads (Err tag) nodes n false mirror target new rows is follows order command = follows
+new_or_none : (nodes : List SchemaNode) (receiver id : ℕ) (before after : JournalState) (held : Option (List Row)) (now : Option Subscription)
+    → of_id id before.subscriptions ≡ None → of_id id after.subscriptions ≡ now → IsStep nodes receiver id after held (own_update nodes receiver before after now)
+new_or_none nodes receiver id before after held None was is = λ s there mine. let never : None ≡ Some s = sym is ∙ there in cc
+new_or_none nodes receiver id before after held (Some s) was is = is_new nodes receiver id before after held s (s.receiver == receiver) refl was is
 
-command_leads : (nodes : List SchemaNode) (n : ℕ) (live : Bool) (mirror rows : List Row) (command : Command) → Follows nodes live mirror rows → AreInOrder rows → IsCommand nodes command
-    → Leads nodes n mirror (rows_after nodes rows command) (lives_after live command) (made_at nodes n live rows command)
-command_leads nodes n live mirror rows (Create edit_id target new) follows order command =
-    record_leads (created nodes target new rows) nodes n live mirror target new rows refl follows order (command.1.writable.in_order, command.1.writable.within)
-command_leads nodes n live mirror rows Establish follows order command = (refl, refl)
+one_step : (nodes : List SchemaNode) (receiver id : ℕ) (before : JournalState) (command : Command) (held : Option (List Row)) (was : Option Subscription) → of_id id before.subscriptions ≡ was → Fits nodes before → Holds nodes receiver id before held
+    → IsStep nodes receiver id (next_state nodes before command) held (own_update nodes receiver before (next_state nodes before command) (of_id id (next_state nodes before command).subscriptions))
+one_step nodes receiver id before command held None was fits holds = new_or_none nodes receiver id before (next_state nodes before command) held (of_id id (next_state nodes before command).subscriptions) was refl
+one_step nodes receiver id before command held (Some s) was fits holds =
+    let is : of_id id (next_state nodes before command).subscriptions ≡ Some s = given_stays nodes before command id s was in
+    subst (λ (o : Option Subscription). IsStep nodes receiver id (next_state nodes before command) held (own_update nodes receiver before (next_state nodes before command) o)) (sym is)
+    (was_given nodes receiver id before (next_state nodes before command) held s (s.receiver == receiver) refl was is fits (fits_next nodes before command fits) holds)
 
-or_order : (r : Result (List Row) Tag) (nodes : List SchemaNode) (target : List Seg) (new rows : List Row) → created nodes target new rows ≡ r → AreInOrder rows → AreInOrder (rows_or rows r)
-or_order (Ok after) nodes target new rows is order = subst AreInOrder (sym (created_ok nodes target new rows after is).put) (puts_order new rows order)
-or_order (Err tag) nodes target new rows is order = order
+step_own : (nodes : List SchemaNode) (receiver id : ℕ) (before : JournalState) (command : Command) (held : Option (List Row)) → Fits nodes before → Holds nodes receiver id before held
+    → IsStep nodes receiver id (next_state nodes before command) held (own id (made_at nodes receiver before (next_state nodes before command)))
+step_own nodes receiver id before command held fits holds =
+    subst (λ (made : List Made). IsStep nodes receiver id (next_state nodes before command) held made) (sym (own_at nodes receiver id before (next_state nodes before command) (fits_next nodes before command fits).ids))
+    (one_step nodes receiver id before command held (of_id id before.subscriptions) refl fits holds)
 
--- commands keep the rows in order
-pub after_order : (nodes : List SchemaNode) (rows : List Row) (command : Command) → AreInOrder rows → AreInOrder (rows_after nodes rows command)
-after_order nodes rows (Create edit_id target new) order = or_order (created nodes target new rows) nodes target new rows refl order
-after_order nodes rows Establish order = order
+-- ---- all steps
+
+-- after an update at some position the rows that are held are fresh selection at that position
+record IsMirrored (nodes : List SchemaNode) (id : ℕ) (state : JournalState) (held : Option (List Row)) (entries : List Entry) (before : List Made) (update : Made) : Type 0 where
+  count : ℕ
+  position : update.position ≡ state.position + count
+  rows : received id held (before ++ update ∷ []) ≡ Some (selection nodes (state_of nodes state (take count entries)).rows)
+
+further : (nodes : List SchemaNode) (id : ℕ) (state : JournalState) (entry : Entry) (entries : List Entry) (held was : Option (List Row)) (before all : List Made) (update : Made)
+    → received id was (all ++ update ∷ []) ≡ received id held (before ++ update ∷ [])
+    → IsMirrored nodes id (next_state nodes state entry.command) held entries before update → IsMirrored nodes id state was (entry ∷ entries) all update
+further nodes id state entry entries held was before all update same is = record {
+  count = suc is.count;
+  position = omega (arith, is.position, next_position nodes state entry.command);
+  rows = same ∙ is.rows;
+}
+
+-- what one step makes stands in front
+mirrored_at : (nodes : List SchemaNode) (receiver id : ℕ) (state : JournalState) (held : Option (List Row)) (entry : Entry) (entries : List Entry) (made before : List Made) (update : Made) (after : List Made)
+    → IsStep nodes receiver id (next_state nodes state entry.command) held made
+    → made ++ own id (made_from nodes receiver (next_state nodes state entry.command) entries) ≡ before ++ update ∷ after
+    → ((now : Option (List Row)) (front : List Made) → Holds nodes receiver id (next_state nodes state entry.command) now → own id (made_from nodes receiver (next_state nodes state entry.command) entries) ≡ front ++ update ∷ after
+    → IsMirrored nodes id (next_state nodes state entry.command) now entries front update)
+    → IsMirrored nodes id state held (entry ∷ entries) before update
+mirrored_at nodes receiver id state held entry entries [] before update after step is later =
+    further nodes id state entry entries held held before before update refl (later held before step is)
+mirrored_at nodes receiver id state held entry entries (made ∷ []) [] update after step is later =
+    let one : made ≡ update = cc in
+    record {
+      count = 1;
+      position = ap (λ (m : Made). m.position) (sym one) ∙ step.0 ∙ next_position nodes state entry.command;
+      rows = ap (λ (m : Made). heard id m.notice held) (sym one) ∙ step.1;
+    }
+mirrored_at nodes receiver id state held entry entries (made ∷ []) (m ∷ before) update after step is later =
+    let one : made ≡ m = cc in
+    let rest : own id (made_from nodes receiver (next_state nodes state entry.command) entries) ≡ before ++ update ∷ after = cc in
+    further nodes id state entry entries (heard id made.notice held) held before (m ∷ before) update (ap (λ (x : Made). received id (heard id x.notice held) (before ++ update ∷ [])) (sym one))
+    (later (heard id made.notice held) before (λ s there mine. step.1) rest)
+mirrored_at nodes receiver id state held entry entries (made ∷ other ∷ more) before update after step is later = absurd step
+
+mirrored : (nodes : List SchemaNode) (receiver id : ℕ) (state : JournalState) (held : Option (List Row)) (entries : List Entry) (before : List Made) (update : Made) (after : List Made) → Fits nodes state → Holds nodes receiver id state held
+    → own id (made_from nodes receiver state entries) ≡ before ++ update ∷ after → IsMirrored nodes id state held entries before update
+mirrored nodes receiver id state held [] [] update after fits holds is = absurd cc
+mirrored nodes receiver id state held [] (m ∷ before) update after fits holds is = absurd cc
+mirrored nodes receiver id state held (entry ∷ entries) before update after fits holds is =
+    mirrored_at nodes receiver id state held entry entries (own id (made_at nodes receiver state (next_state nodes state entry.command))) before update after (step_own nodes receiver id state entry.command held fits holds)
+    (sym (filter-append (λ (m : Made). updates id m.notice) (made_at nodes receiver state (next_state nodes state entry.command)) (made_from nodes receiver (next_state nodes state entry.command) entries)) ∙ is)
+    (λ now front holds_now. mirrored nodes receiver id (next_state nodes state entry.command) now entries front update after (fits_next nodes state entry.command fits) holds_now)
+
+-- before any command nothing is given
+pub none_given : (nodes : List SchemaNode) (receiver id : ℕ) (receivers : List ReceiverInfo) → Holds nodes receiver id (first_state receivers) None
+none_given nodes receiver id receivers s there mine = let never : None ≡ Some s = there in cc
+
+pub mirrors : (script : Script) → IsSchema script.schema → Mirrors script
+mirrors script schema receiver id before update after is mine =
+    let m = mirrored script.schema receiver id (first_state script.receivers) None (journal_of script) (own id before) update (own id after) (fits_first script schema) (none_given script.schema receiver id script.receivers)
+        (ap (own id) is ∙ own_split id before update after mine) in
+    let position : update.position ≡ 0 + m.count = m.position in
+    let at : m.count ≡ update.position = omega (arith, position) in
+    received_own id (before ++ update ∷ []) None
+    ∙ ap (λ made. received id None made) (own_split id before update [] mine)
+    ∙ m.rows
+    ∙ ap (λ n. Some (selection script.schema (state_of script.schema (first_state script.receivers) (take n (journal_of script))).rows)) at
+
+-- ---- at the end
+
+held_at : (nodes : List SchemaNode) (receiver id : ℕ) (state : JournalState) (held : Option (List Row)) (entry : Entry) (entries : List Entry) (made : List Made) → IsStep nodes receiver id (next_state nodes state entry.command) held made
+    → ((now : Option (List Row)) → Holds nodes receiver id (next_state nodes state entry.command) now
+    → Holds nodes receiver id (state_of nodes (next_state nodes state entry.command) entries) (received id now (own id (made_from nodes receiver (next_state nodes state entry.command) entries))))
+    → Holds nodes receiver id (state_of nodes (next_state nodes state entry.command) entries) (received id held (made ++ own id (made_from nodes receiver (next_state nodes state entry.command) entries)))
+held_at nodes receiver id state held entry entries [] step later = later held step
+held_at nodes receiver id state held entry entries (made ∷ []) step later = later (heard id made.notice held) (λ s there mine. step.1)
+held_at nodes receiver id state held entry entries (made ∷ other ∷ more) step later = absurd step
+
+held_on : (nodes : List SchemaNode) (receiver id : ℕ) (state : JournalState) (held : Option (List Row)) (entries : List Entry) → Fits nodes state → Holds nodes receiver id state held
+    → Holds nodes receiver id (state_of nodes state entries) (received id held (own id (made_from nodes receiver state entries)))
+held_on nodes receiver id state held [] fits holds = holds
+held_on nodes receiver id state held (entry ∷ entries) fits holds =
+    subst (λ (made : List Made). Holds nodes receiver id (state_of nodes (next_state nodes state entry.command) entries) (received id held made))
+    (sym (filter-append (λ (m : Made). updates id m.notice) (made_at nodes receiver state (next_state nodes state entry.command)) (made_from nodes receiver (next_state nodes state entry.command) entries)))
+    (held_at nodes receiver id state held entry entries (own id (made_at nodes receiver state (next_state nodes state entry.command))) (step_own nodes receiver id state entry.command held fits holds)
+    (λ now holds_now. held_on nodes receiver id (next_state nodes state entry.command) now entries (fits_next nodes state entry.command fits) holds_now))
+
+-- a subscription that was given has fresh selection held of it
+pub held_at_end : (script : Script) (receiver : ℕ) (s : Subscription) → IsSchema script.schema → of_id s.id (given_by script) ≡ Some s → (s.receiver == receiver) ≡ true
+    → received s.id None (made_by script receiver) ≡ Some (selection script.schema (state_of script.schema (first_state script.receivers) (journal_of script)).rows)
+held_at_end script receiver s schema there mine =
+    received_own s.id (made_by script receiver) None
+    ∙ held_on script.schema receiver s.id (first_state script.receivers) None (journal_of script) (fits_first script schema) (none_given script.schema receiver s.id script.receivers) s there mine
 
 -- ---- positions
 
-record_positions_at : (b : Bool) (n : ℕ) (made : Made) → made.position ≡ n → AllByRecursion (λ m. m.position ≡ n) (cond b (made ∷ []) [])
-record_positions_at true n made is = (is, tt)
-record_positions_at false n made is = tt
+sooner : (n k : ℕ) (made : List Made) → n < k → RisesPast k made → RisesPast n made
+sooner n k [] less all = tt
+sooner n k (m ∷ made) less all = (omega (arith, less, all.0), all.1)
 
-record_positions : (r : Result (List Row) Tag) (nodes : List SchemaNode) (n : ℕ) (live : Bool) (target : List Seg) → AllByRecursion (λ m. m.position ≡ n) (change_record nodes n live target r)
-record_positions (Ok after) nodes n true target = record_positions_at (is_readable nodes target) n _ refl
-record_positions (Ok after) nodes n false target = tt
-record_positions (Err tag) nodes n true target = tt
-record_positions (Err tag) nodes n false target = tt
+rise_at : (nodes : List SchemaNode) (receiver id : ℕ) (state : JournalState) (held : Option (List Row)) (entry : Entry) (entries : List Entry) (made : List Made) → IsStep nodes receiver id (next_state nodes state entry.command) held made
+    → ((now : Option (List Row)) → Holds nodes receiver id (next_state nodes state entry.command) now → RisesPast (next_state nodes state entry.command).position (own id (made_from nodes receiver (next_state nodes state entry.command) entries)))
+    → RisesPast state.position (made ++ own id (made_from nodes receiver (next_state nodes state entry.command) entries))
+rise_at nodes receiver id state held entry entries [] step later =
+    let past : state.position < (next_state nodes state entry.command).position = omega (arith, next_position nodes state entry.command) in
+    sooner state.position (next_state nodes state entry.command).position (own id (made_from nodes receiver (next_state nodes state entry.command) entries)) past (later held step)
+rise_at nodes receiver id state held entry entries (made ∷ []) step later =
+    let past : state.position < made.position = omega (arith, step.0, next_position nodes state entry.command) in
+    (past, subst (λ (n : ℕ). RisesPast n (own id (made_from nodes receiver (next_state nodes state entry.command) entries))) (sym step.0) (later (heard id made.notice held) (λ s there mine. step.1)))
+rise_at nodes receiver id state held entry entries (made ∷ other ∷ more) step later = absurd step
 
-positions_at : (nodes : List SchemaNode) (n : ℕ) (live : Bool) (rows : List Row) (command : Command) → AllByRecursion (λ m. m.position ≡ n) (made_at nodes n live rows command)
-positions_at nodes n live rows (Create edit_id target new) = record_positions (created nodes target new rows) nodes n live target
-positions_at nodes n live rows Establish = (refl, tt)
+rise : (nodes : List SchemaNode) (receiver id : ℕ) (state : JournalState) (held : Option (List Row)) (entries : List Entry) → Fits nodes state → Holds nodes receiver id state held → RisesPast state.position (own id (made_from nodes receiver state entries))
+rise nodes receiver id state held [] fits holds = tt
+rise nodes receiver id state held (entry ∷ entries) fits holds =
+    subst (λ (made : List Made). RisesPast state.position made)
+    (sym (filter-append (λ (m : Made). updates id m.notice) (made_at nodes receiver state (next_state nodes state entry.command)) (made_from nodes receiver (next_state nodes state entry.command) entries)))
+    (rise_at nodes receiver id state held entry entries (own id (made_at nodes receiver state (next_state nodes state entry.command))) (step_own nodes receiver id state entry.command held fits holds)
+    (λ now holds_now. rise nodes receiver id (next_state nodes state entry.command) now entries (fits_next nodes state entry.command fits) holds_now))
 
-join_past : (n : ℕ) (ms rest : List Made) → AllByRecursion (λ m. m.position ≡ n + 1) ms → AllByRecursion (λ m. n + 1 < m.position) rest → AllByRecursion (λ m. n < m.position) (ms ++ rest)
-join_past n [] [] here later = tt
-join_past n [] (m ∷ rest) here later = (omega (arith, later.0), join_past n [] rest here later.1)
-join_past n (m ∷ ms) rest here later = (omega (arith, here.0), join_past n ms rest here.1 later)
-
--- what follows a position is made past it
-positions_past : (nodes : List SchemaNode) (n : ℕ) (live : Bool) (rows : List Row) (commands : List Command) → AllByRecursion (λ m. n < m.position) (made_from nodes n live rows commands)
-positions_past nodes n live rows [] = tt
-positions_past nodes n live rows (command ∷ commands) =
-    join_past n (made_at nodes (n + 1) live rows command) _ (positions_at nodes (n + 1) live rows command) (positions_past nodes (n + 1) (lives_after live command) (rows_after nodes rows command) commands)
-
-in_middle : (P : Made → Type 0) (before : List Made) (update : Made) (after : List Made) → AllByRecursion P (before ++ update ∷ after) → P update
-in_middle P [] update after all = all.0
-in_middle P (m ∷ before) update after all = in_middle P before update after all.1
-
-past_of : (n : ℕ) (ms before : List Made) (update : Made) (after : List Made) → AllByRecursion (λ m. n < m.position) ms → ms ≡ before ++ update ∷ after → n < update.position
-past_of n ms before update after all is = in_middle (λ m. n < m.position) before update after (subst (AllByRecursion (λ m. n < m.position)) is all)
-
--- ---- the whole run
-
-head_of : Made → List Made → Made
-head_of d [] = d
-head_of d (x ∷ xs) = x
-
-tail_of : List Made → List Made
-tail_of [] = []
-tail_of (x ∷ xs) = xs
-
-first_same : (x y : Made) (xs ys : List Made) → x ∷ xs ≡ y ∷ ys → x ≡ y
-unfolding head_of
-first_same x y xs ys h = ap (head_of x) h
-
-rest_same : (x y : Made) (xs ys : List Made) → x ∷ xs ≡ y ∷ ys → xs ≡ ys
-unfolding tail_of
-rest_same x y xs ys h = ap tail_of h
-
-nothing_made : (before : List Made) (update : Made) (after : List Made) → [] ≡ before ++ update ∷ after → ⊥
-nothing_made [] update after h = cc
-nothing_made (m ∷ before) update after h = cc
-
--- the statement for what follows a position
-abbrev FollowsOn : List SchemaNode → ℕ → Bool → List Row → List Row → List Command → Type 0
-FollowsOn nodes n live mirror rows commands = (before : List Made) (update : Made) (after : List Made) → made_from nodes n live rows commands ≡ before ++ update ∷ after
-    → (k : ℕ) → update.position ≡ n + k → received mirror (before ++ update ∷ []) ≡ selection nodes (state_after nodes rows (take k commands))
-
-follow_none : (nodes : List SchemaNode) (n : ℕ) (mirror rows : List Row) (command : Command) (commands : List Command) (live : Bool)
-    → FollowsOn nodes (n + 1) live mirror (rows_after nodes rows command) commands
-    → (before : List Made) (update : Made) (after : List Made) → made_from nodes (n + 1) live (rows_after nodes rows command) commands ≡ before ++ update ∷ after
-    → (k : ℕ) → update.position ≡ n + k → received mirror (before ++ update ∷ []) ≡ selection nodes (state_after nodes rows (take k (command ∷ commands)))
-follow_none nodes n mirror rows command commands live later before update after is zero at =
-    let past = past_of (n + 1) _ before update after (positions_past nodes (n + 1) live (rows_after nodes rows command) commands) is in absurd (omega (arith, past, at))
-follow_none nodes n mirror rows command commands live later before update after is (suc k) at =
-    later before update after is k (omega (arith, at))
-
-follow_one : (nodes : List SchemaNode) (n : ℕ) (mirror rows : List Row) (command : Command) (commands : List Command) (live : Bool) (made : Made)
-    → made.position ≡ n + 1 → heard made.notice mirror ≡ selection nodes (rows_after nodes rows command)
-    → FollowsOn nodes (n + 1) live (heard made.notice mirror) (rows_after nodes rows command) commands
-    → (before : List Made) (update : Made) (after : List Made) → made ∷ made_from nodes (n + 1) live (rows_after nodes rows command) commands ≡ before ++ update ∷ after
-    → (k : ℕ) → update.position ≡ n + k → received mirror (before ++ update ∷ []) ≡ selection nodes (state_after nodes rows (take k (command ∷ commands)))
-follow_one nodes n mirror rows command commands live made here leads later [] update after is zero at =
-    let same = ap (λ m. m.position) (first_same made update _ after is) in absurd (omega (arith, same, here, at))
-follow_one nodes n mirror rows command commands live made here leads later [] update after is (suc zero) at =
-    ap (λ m. heard m.notice mirror) (sym (first_same made update _ after is)) ∙ leads
-follow_one nodes n mirror rows command commands live made here leads later [] update after is (suc (suc k)) at =
-    let same = ap (λ m. m.position) (first_same made update _ after is) in absurd (omega (arith, same, here, at))
-follow_one nodes n mirror rows command commands live made here leads later (m ∷ before) update after is k at =
-    ap (λ x. received (heard x.notice mirror) (before ++ update ∷ [])) (sym (first_same made m _ _ is))
-    ∙ follow_none nodes n (heard made.notice mirror) rows command commands live later before update after (rest_same made m _ _ is) k at
-
-follow_step : (ms : List Made) (nodes : List SchemaNode) (n : ℕ) (mirror rows : List Row) (command : Command) (commands : List Command) (live : Bool)
-    → Leads nodes (n + 1) mirror (rows_after nodes rows command) live ms
-    → ((seen : List Row) → Follows nodes live seen (rows_after nodes rows command) → FollowsOn nodes (n + 1) live seen (rows_after nodes rows command) commands)
-    → (before : List Made) (update : Made) (after : List Made) → ms ++ made_from nodes (n + 1) live (rows_after nodes rows command) commands ≡ before ++ update ∷ after
-    → (k : ℕ) → update.position ≡ n + k → received mirror (before ++ update ∷ []) ≡ selection nodes (state_after nodes rows (take k (command ∷ commands)))
-follow_step [] nodes n mirror rows command commands live leads later before update after is k at =
-    follow_none nodes n mirror rows command commands live (later mirror leads) before update after is k at
-follow_step (made ∷ []) nodes n mirror rows command commands live leads later before update after is k at =
-    follow_one nodes n mirror rows command commands live made leads.0 leads.1 (later (heard made.notice mirror) (λ alive. leads.1)) before update after is k at
-follow_step (made ∷ other ∷ ms) nodes n mirror rows command commands live leads later before update after is k at = absurd leads
-
-follow : (nodes : List SchemaNode) (n : ℕ) (live : Bool) (mirror rows : List Row) (commands : List Command) → Follows nodes live mirror rows → AreInOrder rows → AllByRecursion (IsCommand nodes) commands
-    → FollowsOn nodes n live mirror rows commands
-follow nodes n live mirror rows [] follows order all before update after is k at = absurd (nothing_made before update after is)
-follow nodes n live mirror rows (command ∷ commands) follows order all before update after is k at =
-    follow_step (made_at nodes (n + 1) live rows command) nodes n mirror rows command commands (lives_after live command)
-    (command_leads nodes (n + 1) live mirror rows command follows order all.0)
-    (λ seen same. follow nodes (n + 1) (lives_after live command) seen (rows_after nodes rows command) commands same (after_order nodes rows command order) all.1)
-    before update after is k at
-
--- after each update the receiver's rows are fresh selection at its position
-pub mirrors : (nodes : List SchemaNode) (commands : List Command) → AllByRecursion (IsCommand nodes) commands → Mirrors nodes commands
-mirrors nodes commands all before update after is =
-    follow nodes 0 false [] [] commands (λ live. absurd (true≢false (sym live))) none_order all before update after is update.position (omega arith)
+pub rises : (script : Script) → IsSchema script.schema → Rises script
+rises script schema receiver id = rise script.schema receiver id (first_state script.receivers) None (journal_of script) (fits_first script schema) (none_given script.schema receiver id script.receivers)

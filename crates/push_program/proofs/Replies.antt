@@ -1,11 +1,16 @@
--- No reply has a floating-point number.
-use Rattle.std.proofs.Common.{◌≡◌, false, refl}
-use Rattle.serde_json.specs.Written.{has_float}
-use Rattle.push_program.specs.declared.command.Reply.{Reply}
-use Rattle.push_program.specs.declared.command.Reply.TheVariants.{Id, Done, Refused}
+-- The text of an accepted command's reply.
+use Rattle.std.proofs.Common.{◌≡◌, ℕ, List, Result, Ok, Err, refl, sym, ap, ◌∙◌, codes}
+use Rattle.std.specs.Prelude.{IfOk}
+use Rattle.json.specs.Print.{escape_byte}
+use Rattle.serde_json.specs.Written.{compact_text}
+use Rattle.yp_journal.specs.declared.reply.Reply.{Reply}
+use Rattle.yp_journal.specs.declared.reply.Reply.TheVariants.{Done}
 use Rattle.push_program.specs.Report.{reply_data}
 
-pub reply_none : (reply : Reply) → has_float (reply_data reply) ≡ false
-reply_none (Id id) = refl
-reply_none Done = refl
-reply_none (Refused edit_id tag) = refl
+done_text : compact_text (reply_data Done) ≡ codes "{\"ok\":true}"
+unfolding escape_byte
+done_text = refl
+
+pub done_told : {S E : Type 0} (bytes : S → List ℕ) (made : Result S E) (reply : Reply) → reply ≡ Done → IfOk made (λ text. bytes text ≡ codes "{\"ok\":true}") → IfOk made (λ text. bytes text ≡ compact_text (reply_data reply))
+done_told bytes (Ok text) reply is h = h ∙ sym done_text ∙ ap (λ r. compact_text (reply_data r)) (sym is)
+done_told bytes (Err e) reply is h = tt

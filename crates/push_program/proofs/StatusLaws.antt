@@ -1,19 +1,19 @@
 -- What each status tells a caller follows from the one relation of a call.
-use Rattle.std.proofs.Common.{◌≡◌, ℕ, true, false, true≢false, List, [], Option, Some, None, take, drop, Result, Ok, Err, refl, sym, ap, ◌∙◌, subst}
+use Rattle.std.proofs.Common.{◌≡◌, ℕ, true, false, true≢false, List, [], Option, Some, None, drop, Result, Ok, Err, refl, sym, ap, ◌∙◌, subst}
 use Rattle.std.specs.Prelude.{IfSome, ◌++◌}
-use Rattle.push_program.specs.declared.fault.ScriptFault.{ScriptFault}
-use Rattle.push_program.specs.declared.fault.ScriptFault.TheVariants.{At}
-use Rattle.push_program.specs.declared.fault.ScriptKind.{ScriptKind}
-use Rattle.push_program.specs.declared.script.Script.{Script}
+use Rattle.yp_script.specs.declared.fault.ScriptFault.{ScriptFault}
+use Rattle.yp_script.specs.declared.fault.ScriptFault.TheVariants.{At}
+use Rattle.yp_script.specs.declared.fault.ScriptKind.{ScriptKind}
+use Rattle.yp_script.specs.declared.script.Script.{Script}
 use Rattle.push_program.specs.declared.top.Status.{Status}
 use Rattle.push_program.specs.declared.top.Status.TheVariants.{Done, BadWords, BadScript, ReadFault, WriteFault, NoMemory}
-use Rattle.push_program.specs.Answers.{Streams, Answers, is_run, tells_good_words, IsTold, Reports, ReportsFront, tells_whole_reading, TellsReading, TellsWriting, tells_no_writing, FitsScript, IsComplete}
+use Rattle.push_program.specs.Answers.{Streams, Answers, CanRun, is_run, tells_good_words, IsTold, Reports, ReportsFront, tells_whole_reading, TellsReading, TellsWriting, tells_no_writing, FitsScript, IsComplete}
 use Rattle.push_program.specs.Report.{report_text}
-use Rattle.push_program.specs.Script.{script_in}
-use Rattle.push_program.proofs.Commands.{script_commands}
-use Rattle.push_program.proofs.Concealing.{conceals, rises}
-use Rattle.push_program.proofs.Mirror.{mirrors}
-use Rattle.push_program.proofs.WholeScript.{nothing_behind}
+use Rattle.yp_script.specs.Script.{script_in}
+use Rattle.yp_script.proofs.Limits.{nothing_behind}
+use Rattle.push_program.proofs.Concealing.{conceals}
+use Rattle.push_program.proofs.Mirror.{mirrors, rises}
+use Rattle.push_program.proofs.Turns.{legal}
 
 pub words_told : (words : List (List ℕ)) (s : Streams) (status : Status) → Answers words s status → tells_good_words status ≡ is_run words
 words_told words s Done h = sym h.0
@@ -31,17 +31,18 @@ unread_told words s ReadFault h is = cc
 unread_told words s WriteFault h is = cc
 unread_told words s NoMemory h is = cc
 
--- what holds of each script that is read
-all_told : (bytes : List ℕ) (script : Script) → script_in bytes ≡ Ok script → IsTold script
-all_told bytes script is = record {
-  mirrored = mirrors script.schema script.commands (script_commands (take 67108865 bytes) script is);
-  rising = rises script.schema script.commands;
-  concealed = conceals script.schema script.commands;
+-- what holds of each script that can be run
+all_told : (script : Script) → CanRun script → IsTold script
+all_told script can = record {
+  mirrored = mirrors script can.schema;
+  rising = rises script can.schema;
+  concealed = conceals script;
+  legal = legal script can.commands;
 }
 
-reported : (left before after : Option (List ℕ)) → IfSome left (λ bytes. (script : Script) × (script_in bytes ≡ Ok script) × IfSome before (λ front. after ≡ Some (front ++ report_text script))) → Reports left before after
+reported : (left before after : Option (List ℕ)) → IfSome left (λ bytes. (script : Script) × (script_in bytes ≡ Ok script) × CanRun script × IfSome before (λ front. after ≡ Some (front ++ report_text script))) → Reports left before after
 reported None before after h = h
-reported (Some bytes) before after h = (h.0, h.1, h.2, all_told bytes h.0 h.1)
+reported (Some bytes) before after h = (h.0, h.1, h.3, all_told h.0 h.2)
 
 pub done_told : (words : List (List ℕ)) (s : Streams) (status : Status) → Answers words s status → status ≡ Done → Reports s.left_before s.written_before s.written_after
 done_told words s Done h is = reported s.left_before s.written_before s.written_after h.2
@@ -52,7 +53,7 @@ done_told words s WriteFault h is = absurd cc
 done_told words s NoMemory h is = absurd cc
 
 ended : (left before after written : Option (List ℕ)) → IfSome left (λ bytes. after ≡ Some (drop 67108865 bytes))
-    → IfSome left (λ bytes. (script : Script) × (script_in bytes ≡ Ok script) × IfSome before (λ front. written ≡ Some (front ++ report_text script)))
+    → IfSome left (λ bytes. (script : Script) × (script_in bytes ≡ Ok script) × CanRun script × IfSome before (λ front. written ≡ Some (front ++ report_text script)))
     → IfSome left (λ bytes. after ≡ Some [])
 ended None before after written read h = h
 ended (Some bytes) before after written read h = read ∙ ap (λ (rest : List ℕ). Some rest) (nothing_behind bytes h.0 h.1)
@@ -119,7 +120,7 @@ unwritten_told words s NoMemory h is = h.2.0
 
 -- ---- completeness
 
-fits_done : (left before after : Option (List ℕ)) → IfSome left (λ bytes. (script : Script) × (script_in bytes ≡ Ok script) × IfSome before (λ front. after ≡ Some (front ++ report_text script)))
+fits_done : (left before after : Option (List ℕ)) → IfSome left (λ bytes. (script : Script) × (script_in bytes ≡ Ok script) × CanRun script × IfSome before (λ front. after ≡ Some (front ++ report_text script)))
     → IfSome left (λ bytes. FitsScript (script_in bytes) Done)
 fits_done None before after h = h
 fits_done (Some bytes) before after h = subst (λ (r : Result Script ScriptFault). FitsScript r Done) (sym h.1) tt

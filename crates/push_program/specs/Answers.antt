@@ -3,15 +3,18 @@ use Rattle.std.specs.Prelude.{◌≡◌, ℕ, List, [], ◌∷◌, ◌++◌, dro
 use Rattle.std.specs.Cmp.Lexicographic.{pointwise}
 use Rattle.yp_io.specs.Causes.{Rose}
 use Rattle.yp_io.specs.Whole.{AppendsPrefix}
-use Rattle.push_program.specs.declared.fault.ScriptFault.{ScriptFault}
-use Rattle.push_program.specs.declared.fault.ScriptFault.TheVariants.{At}
-use Rattle.push_program.specs.declared.script.Script.{Script}
+use Rattle.yp_script.specs.declared.fault.ScriptFault.{ScriptFault}
+use Rattle.yp_script.specs.declared.fault.ScriptFault.TheVariants.{At, Memory}
+use Rattle.yp_script.specs.declared.script.Script.{Script}
 use Rattle.push_program.specs.declared.top.Status.{Status}
 use Rattle.push_program.specs.declared.top.Status.TheVariants.{Done, BadWords, BadScript, ReadFault, WriteFault, NoMemory}
 use Rattle.push_program.specs.Concealed.{Conceals, Rises}
 use Rattle.push_program.specs.Received.{Mirrors}
+use Rattle.yp_journal.specs.History.{IsLegal, first_state}
+use Rattle.yp_schema.specs.WellFormed.{IsSchema}
+use Rattle.yp_script.specs.Script.{MayRun, script_in}
 use Rattle.push_program.specs.Report.{report_text}
-use Rattle.push_program.specs.Script.{script_in}
+use Rattle.push_program.specs.Turns.{journal_of}
 
 -- the words are the one word run
 abbrev pub is_run : List (List ℕ) → Bool
@@ -38,10 +41,20 @@ ReadsAll s = IfSome s.left_before (λ bytes. s.left_after ≡ Some (drop 6710886
 abbrev pub WritesNothing : Streams → Type 0
 WritesNothing s = (s.written_after ≡ s.written_before) × (s.write_faults_after ≡ s.write_faults_before)
 
+-- a script that can be run: its schema is one, and each of its commands may come
+pub record CanRun (script : Script) : Type 0 where
+  pub schema : IsSchema script.schema
+  pub commands : MayRun script
+
+-- a fault is that of the script, but where memory ran out
+abbrev pub Fails : ScriptFault → Result Script ScriptFault → Type 0
+Fails (At line kind) read = read ≡ Err (At line kind)
+Fails Memory read = Unit {0}
+
 -- the report of the script that was read, whole
 abbrev pub WritesReport : Streams → Type 0
 WritesReport s = IfSome s.left_before (λ bytes.
-    (script : Script) × (script_in bytes ≡ Ok script) × IfSome s.written_before (λ before. s.written_after ≡ Some (before ++ report_text script)))
+    (script : Script) × (script_in bytes ≡ Ok script) × CanRun script × IfSome s.written_before (λ before. s.written_after ≡ Some (before ++ report_text script)))
 
 -- a front of the report
 abbrev pub WritesPrefix : Streams → Type 0
@@ -67,11 +80,12 @@ tells_good_words ReadFault = true
 tells_good_words WriteFault = true
 tells_good_words NoMemory = true
 
--- what holds of a script whose report is told: after each update the receiver's rows are fresh selection at the update's position, positions rise, and no update names what may not be read
+-- what holds of a script whose report is told: after each update the receiver's rows are fresh selection at the update's position, positions rise, no update names what may not be read, and the journal that is replied is legal
 pub record IsTold (script : Script) : Type 0 where
-  pub mirrored : Mirrors script.schema script.commands
-  pub rising : Rises script.schema script.commands
-  pub concealed : Conceals script.schema script.commands
+  pub mirrored : Mirrors script
+  pub rising : Rises script
+  pub concealed : Conceals script
+  pub legal : IsLegal script.schema (first_state script.receivers) (journal_of script)
 
 -- of the bytes that were left, all of which are a script, the report was written, whole
 abbrev pub Reports : Option (List ℕ) → Option (List ℕ) → Option (List ℕ) → Type 0

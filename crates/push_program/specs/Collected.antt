@@ -1,17 +1,10 @@
--- Rows that have paths.
-use Rattle.std.specs.Prelude.{◌≡◌, List, [], ◌∷◌, Bool, true, false, Option, Some, None}
-use Rattle.std.specs.List.{AllByRecursion}
+-- The row of a path.
+use Rattle.std.specs.Prelude.{List, [], ◌∷◌, Option, Some, None}
 use Rattle.yp_base.specs.declared.path.Seg.{Seg}
+use Rattle.yp_base.specs.declared.row.Value.{Value}
 use Rattle.yp_base.specs.declared.row.Row.{Row}
 
-abbrev pub is_below_top : List Seg → Bool
-is_below_top [] = false
-is_below_top (seg ∷ path) = true
-
--- no row is that of the whole datastore
-abbrev pub HavePaths : List Row → Type 0
-HavePaths rows = AllByRecursion (λ row. is_below_top row.path ≡ true) rows
-
-abbrev pub first_of : List Row → Option Row
-first_of [] = None
-first_of (row ∷ rows) = Some row
+-- the row that has this path and this value, or none where there is no value
+abbrev pub own_rows : List Seg → Option Value → List Row
+own_rows path None = []
+own_rows path (Some value) = record { path = path; value = value } ∷ []

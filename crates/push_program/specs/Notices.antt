@@ -1,59 +1,64 @@
--- The updates of a subscription of everything (RFC 8641 sections 3.7 and 3.9): a full update where it is established, and then the record of each position that changes what its receiver may read.
-use Rattle.std.specs.Prelude.{ℕ, ◌+◌, List, [], ◌∷◌, ◌++◌, Bool, true, false, None, Result, Ok, Err, if◌then◌else◌}
-use Rattle.yp_base.specs.declared.path.Seg.{Seg}
+-- The updates of subscriptions of everything (RFC 8641 sections 3.7 and 3.9): a full update where a subscription is established, and then the record of each step that changes what its receiver may read.
+use Rattle.std.specs.Prelude.{ℕ, ◌==◌, List, [], ◌∷◌, ◌++◌, map, Bool, false, if◌then◌else◌}
+use Rattle.std.specs.List.{list_any}
 use Rattle.yp_base.specs.declared.row.Row.{Row}
 use Rattle.yp_base.specs.declared.notice.Change.{Change}
-use Rattle.yp_base.specs.declared.notice.ChangeKind.TheVariants as kinds
 use Rattle.yp_base.specs.declared.notice.Notice.{Notice}
 use Rattle.yp_base.specs.declared.notice.Notice.TheVariants.{Full, Changes}
-use Rattle.yp_base.specs.Rows.{rows_within}
 use Rattle.yp_schema.specs.declared.schema.SchemaNode.{SchemaNode}
-use Rattle.push_program.specs.declared.command.Command.{Command}
-use Rattle.push_program.specs.declared.command.Command.TheVariants.{Create, Establish}
-use Rattle.push_program.specs.declared.command.Tag.{Tag}
-use Rattle.push_program.specs.Access.{is_readable, visible_rows}
-use Rattle.push_program.specs.Journal.{created, rows_after, first_id}
+use Rattle.yp_journal.specs.declared.entry.Entry.{Entry}
+use Rattle.yp_journal.specs.declared.subscription.Subscription.{Subscription}
+use Rattle.yp_journal.specs.History.{JournalState, first_state, next_state}
+use Rattle.yp_script.specs.declared.script.Script.{Script}
+use Rattle.push_program.specs.Access.{visible_rows}
+use Rattle.push_program.specs.Records.{change_record}
+use Rattle.push_program.specs.Turns.{journal_of}
 
 -- what a subscription of everything selects
 abbrev pub selection : List SchemaNode → List Row → List Row
 selection nodes rows = visible_rows nodes rows
 
-abbrev pub created_change : List Seg → List Row → Change
-created_change target rows = record { kind = kinds.Create; target = target; rows = rows; after = None }
-
--- the creation of a target that a selection holds, with all that it holds there
-abbrev pub creation_of : List Seg → List Row → Change
-creation_of target selected = created_change target (rows_within target selected)
-
--- a notice, and the position of the journal at which it was made
+-- a notice, with the position of the journal and the tick at which it was made
 pub record Made : Type 0 where
   pub position : ℕ
+  pub stamp : ℕ
   pub notice : Notice
 
--- the record of a position that creates a target, for a subscription that is there
-abbrev pub change_record : List SchemaNode → ℕ → Bool → List Seg → Result (List Row) Tag → List Made
-change_record nodes n false target after = []
-change_record nodes n true target (Err tag) = []
-change_record nodes n true target (Ok after) =
-    if is_readable nodes target
-    then record { position = n; notice = Changes first_id n (creation_of target (selection nodes after) ∷ []) false } ∷ []
-    else []
+abbrev pub is_given : ℕ → List Subscription → Bool
+is_given id subscriptions = list_any (λ subscription. subscription.id == id) subscriptions
 
--- what is made at position n, where the command finds these rows; `live` says whether the subscription is there
-abbrev pub made_at : List SchemaNode → ℕ → Bool → List Row → Command → List Made
-made_at nodes n live rows (Create edit_id target new) = change_record nodes n live target (created nodes target new rows)
-made_at nodes n live rows Establish = record { position = n; notice = Full first_id (selection nodes rows) } ∷ []
+-- a change update, where anything changed
+abbrev pub change_update : ℕ → ℕ → List Change → List Notice
+change_update id n [] = []
+change_update id n (change ∷ changes) = Changes id n (change ∷ changes) false ∷ []
 
-abbrev pub lives_after : Bool → Command → Bool
-lives_after live (Create edit_id target new) = live
-lives_after live Establish = true
+-- the update of a subscription for a step from one state to the next: what the step changed of its selection, or all of that where the step established it
+abbrev pub updates_of : List SchemaNode → JournalState → JournalState → Subscription → List Notice
+updates_of nodes before after subscription =
+    if is_given subscription.id before.subscriptions
+    then change_update subscription.id after.position (change_record (selection nodes before.rows) (selection nodes after.rows))
+    else Full subscription.id (selection nodes after.rows) ∷ []
 
--- all that is made by commands that follow position n
-abbrev pub made_from : List SchemaNode → ℕ → Bool → List Row → List Command → List Made
-made_from nodes n live rows [] = []
-made_from nodes n live rows (command ∷ commands) =
-    made_at nodes (n + 1) live rows command ++ made_from nodes (n + 1) (lives_after live command) (rows_after nodes rows command) commands
+-- notices that are made at the position and the tick of a state
+abbrev pub made_of : JournalState → List Notice → List Made
+made_of state notices = map (λ notice. record { position = state.position; stamp = state.stamp; notice = notice }) notices
 
--- all that is made by the commands of a script
-abbrev pub made_by : List SchemaNode → List Command → List Made
-made_by nodes commands = made_from nodes 0 false [] commands
+-- the same for these subscriptions in order, where they are the receiver's of this number
+abbrev pub made_for : List SchemaNode → ℕ → JournalState → JournalState → List Subscription → List Made
+made_for nodes receiver before after [] = []
+made_for nodes receiver before after (subscription ∷ subscriptions) =
+    (if subscription.receiver == receiver then made_of after (updates_of nodes before after subscription) else []) ++ made_for nodes receiver before after subscriptions
+
+-- all that is made for a receiver by a step
+abbrev pub made_at : List SchemaNode → ℕ → JournalState → JournalState → List Made
+made_at nodes receiver before after = made_for nodes receiver before after after.subscriptions
+
+-- by the entries of a journal that find this state
+abbrev pub made_from : List SchemaNode → ℕ → JournalState → List Entry → List Made
+made_from nodes receiver state [] = []
+made_from nodes receiver state (entry ∷ entries) =
+    made_at nodes receiver state (next_state nodes state entry.command) ++ made_from nodes receiver (next_state nodes state entry.command) entries
+
+-- all that is made for a receiver in a run of a script
+abbrev pub made_by : Script → ℕ → List Made
+made_by script receiver = made_from script.schema receiver (first_state script.receivers) (journal_of script)

@@ -1,28 +1,65 @@
--- What a run adds, command by command.
-use Rattle.std.specs.Prelude.{◌≡◌, ℕ, ◌+◌, List, [], ◌++◌, false, string_bytes}
+-- How far a run has come.
+use Rattle.std.specs.Prelude.{◌≡◌, ℕ, ◌+◌, ◌==◌, List, [], ◌∷◌, ◌++◌, map, length, string_bytes, if◌then◌else◌}
 use Rattle.std.specs.List.{AllByRecursion}
+use Rattle.yp_base.specs.declared.row.Row.{Row}
 use Rattle.yp_schema.specs.declared.schema.SchemaNode.{SchemaNode}
-use Rattle.yp_schema.specs.Datastore.{IsRowOf}
-use Rattle.push_program.specs.declared.command.Command.{Command}
+use Rattle.yp_schema.specs.Datastore.{IsDatastore}
+use Rattle.yp_schema.specs.WellFormed.{IsSchema}
+use Rattle.yp_journal.specs.declared.subscription.Subscription.{Subscription}
+use Rattle.yp_journal.specs.History.{JournalState, first_state, next_id, next_state, reply_to, state_of}
+use Rattle.yp_script.specs.declared.script.Script.{Script}
 use Rattle.push_program.specs.declared.progress.Progress.{Progress}
-use Rattle.push_program.specs.Journal.{rows_after, reply_to}
-use Rattle.push_program.specs.Notices.{made_at, lives_after, made_by}
-use Rattle.push_program.specs.Received.{received}
-use Rattle.push_program.specs.Report.{reply_line, reply_lines, sent_lines}
-use Rattle.push_program.specs.Shown.{lives_through}
+use Rattle.push_program.specs.Desks.{Sending, with_lines, desks_for}
+use Rattle.push_program.specs.Notices.{selection, made_at, made_from, made_by}
+use Rattle.push_program.specs.Report.{reply_line, reply_lines, tree_line}
+use Rattle.push_program.specs.Turns.{Turn, entries_from, journal_of}
 
--- the command at position n
-pub record Advances (nodes : List SchemaNode) (start : ℕ) (name : List ℕ) (n : ℕ) (command : Command) (before after : Progress) : Type 0 where
-  pub rows : after.rows ≡ rows_after nodes before.rows command
-  pub live : after.live ≡ lives_after before.live command
-  pub mirror : after.mirror ≡ received before.mirror (made_at nodes n before.live before.rows command)
-  pub replies : string_bytes after.replies ≡ string_bytes before.replies ++ reply_line n (reply_to nodes before.rows command)
-  pub sent : string_bytes after.sent ≡ string_bytes before.sent ++ sent_lines nodes start name (made_at nodes n before.live before.rows command)
+-- ids that follow one another, the first where so many were given before
+abbrev pub AreIds : ℕ → List Subscription → Type 0
+AreIds n [] = Unit {0}
+AreIds n (subscription ∷ subscriptions) = (subscription.id ≡ next_id n) × AreIds (n + 1) subscriptions
 
--- all commands of a script
-pub record Ends (nodes : List SchemaNode) (start : ℕ) (name : List ℕ) (commands : List Command) (run : Progress) : Type 0 where
-  pub live : run.live ≡ lives_through false commands
-  pub mirror : run.mirror ≡ received [] (made_by nodes commands)
-  pub replies : string_bytes run.replies ≡ reply_lines nodes 0 [] commands
-  pub sent : string_bytes run.sent ≡ sent_lines nodes start name (made_by nodes commands)
-  pub of_schema : AllByRecursion (IsRowOf nodes) run.mirror
+-- a state that commands leave: its rows are a datastore, and its ids follow one another
+pub record Fits (nodes : List SchemaNode) (state : JournalState) : Type 0 where
+  pub schema : IsSchema nodes
+  pub datastore : IsDatastore nodes state.rows
+  pub ids : AreIds 0 state.subscriptions
+
+-- each of these is fresh selection of the rows
+abbrev pub AllMirror : List SchemaNode → List Row → List (List Row) → Type 0
+AllMirror nodes rows mirrors = AllByRecursion (λ held. held ≡ selection nodes rows) mirrors
+
+-- what a turn finds: a state that turns leave, and fresh selection held of each subscription
+pub record Ready (script : Script) (run : Progress) : Type 0 where
+  pub fits : Fits script.schema run.state
+  pub receivers : run.state.receivers ≡ script.receivers
+  pub mirrors : AllMirror script.schema run.state.rows run.mirrors.items
+  pub each : length run.mirrors.items ≡ length run.state.subscriptions
+
+-- what a turn adds
+pub record Advances (script : Script) (turn : Turn) (before after : Progress) : Type 0 where
+  pub state : after.state ≡ next_state script.schema before.state turn.command
+  pub replies : string_bytes after.replies ≡ string_bytes before.replies ++ reply_line after.state.position turn.lane turn.index (reply_to script.schema before.state turn.command)
+  pub desks : after.desks.items ≡ map (λ desk. with_lines script.schema script.start (made_at script.schema desk.number before.state after.state) desk) before.desks.items
+  pub mirrors : AllMirror script.schema after.state.rows after.mirrors.items
+  pub each : length after.mirrors.items ≡ length after.state.subscriptions
+
+-- the run so far, behind which these turns are left of a script's
+pub record Goes (script : Script) (left : List Turn) (run : Progress) : Type 0 where
+  pub state : state_of script.schema run.state (entries_from script.schema run.state left) ≡ state_of script.schema (first_state script.receivers) (journal_of script)
+  pub replies : string_bytes run.replies ++ reply_lines run.state.position (entries_from script.schema run.state left) ≡ reply_lines 0 (journal_of script)
+  pub desks : map (λ desk. with_lines script.schema script.start (made_from script.schema desk.number run.state (entries_from script.schema run.state left)) desk) run.desks.items ≡ desks_for script.schema script.start (made_by script) 0 script.receivers
+
+-- the line of what is held of a subscription, where that is the receiver's
+abbrev pub held_line : List SchemaNode → Sending → Subscription → List Row → List ℕ
+held_line nodes desk subscription rows = if subscription.receiver == desk.number then tree_line nodes desk.name subscription.id rows else []
+
+-- those of subscriptions in order, fresh selection being held of each
+abbrev pub mirror_lines : List SchemaNode → Sending → List Row → List Subscription → List ℕ
+mirror_lines nodes desk rows [] = []
+mirror_lines nodes desk rows (subscription ∷ subscriptions) = held_line nodes desk subscription (selection nodes rows) ++ mirror_lines nodes desk rows subscriptions
+
+-- the lines of receivers: what each was sent, and what is held of its subscriptions
+abbrev pub desk_lines : List SchemaNode → List Row → List Subscription → List Sending → List ℕ
+desk_lines nodes rows subscriptions [] = []
+desk_lines nodes rows subscriptions (desk ∷ desks) = desk.sent ++ (mirror_lines nodes desk rows subscriptions ++ desk_lines nodes rows subscriptions desks)

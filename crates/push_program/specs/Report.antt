@@ -1,66 +1,91 @@
--- The report of a run: replies by position, then what the receiver was sent and its tree, and `end`.
-use Rattle.std.specs.Prelude.{ℕ, ◌+◌, List, [], ◌∷◌, ◌++◌, true, codes, decimal}
-use Rattle.serde_json.specs.Data.{Data, boolean, number, unsigned, string, object, no_members, member}
+-- The report of a run: replies by position, then for each receiver what it was sent and its trees, and `end`.
+use Rattle.std.specs.Prelude.{ℕ, ◌+◌, ◌==◌, List, [], ◌∷◌, ◌++◌, true, Option, Some, None, if◌then◌else◌, codes, decimal}
+use Rattle.serde_json.specs.Data.{Data, boolean, number, unsigned, string, object, Members, no_members, member}
 use Rattle.serde_json.specs.Written.{compact_text}
 use Rattle.yp_base.specs.declared.notice.Notice.{Notice}
 use Rattle.yp_base.specs.declared.row.Row.{Row}
 use Rattle.yp_schema.specs.declared.schema.SchemaNode.{SchemaNode}
 use Rattle.yp_data_json.specs.Writing.{rows_json}
+use Rattle.yp_edit.specs.declared.fault.Tag.{Tag}
+use Rattle.yp_edit.specs.declared.fault.Tag.TheVariants.{UnknownElement, InvalidValue, DataMissing, DataExists, TooBig}
 use Rattle.yp_encode.specs.Lines.{line_of}
-use Rattle.push_program.specs.declared.command.Command.{Command}
-use Rattle.push_program.specs.declared.command.Tag.{Tag}
-use Rattle.push_program.specs.declared.command.Tag.TheVariants.{DataMissing, DataExists, TooBig}
-use Rattle.push_program.specs.declared.command.Reply.{Reply}
-use Rattle.push_program.specs.declared.command.Reply.TheVariants.{Id, Done, Refused}
-use Rattle.push_program.specs.declared.script.Script.{Script}
-use Rattle.push_program.specs.Journal.{rows_after, reply_to, first_id}
+use Rattle.yp_journal.specs.declared.entry.Entry.{Entry}
+use Rattle.yp_journal.specs.declared.receiver.ReceiverInfo.{ReceiverInfo}
+use Rattle.yp_journal.specs.declared.reply.Reply.{Reply}
+use Rattle.yp_journal.specs.declared.reply.Reply.TheVariants.{Id, Done, Edit}
+use Rattle.yp_journal.specs.declared.subscription.Subscription.{Subscription}
+use Rattle.yp_journal.specs.History.{first_state, state_of}
+use Rattle.yp_script.specs.declared.script.Script.{Script}
 use Rattle.push_program.specs.Notices.{Made, made_by}
 use Rattle.push_program.specs.Received.{received}
+use Rattle.push_program.specs.Turns.{journal_of}
 
 -- ---- replies
 
 abbrev pub tag_word : Tag → List ℕ
+tag_word UnknownElement = codes "unknown-element"
+tag_word InvalidValue = codes "invalid-value"
 tag_word DataMissing = codes "data-missing"
 tag_word DataExists = codes "data-exists"
 tag_word TooBig = codes "too-big"
 
+abbrev pub path_member : Option (List ℕ) → Members
+path_member None = no_members
+path_member (Some text) = member (codes "path") (string text) no_members
+
 abbrev pub reply_data : Reply → Data
 reply_data (Id id) = object (member (codes "id") (number (unsigned id)) no_members)
 reply_data Done = object (member (codes "ok") (boolean true) no_members)
-reply_data (Refused edit_id tag) = object (member (codes "edit-id") (string edit_id) (member (codes "error") (string (tag_word tag)) no_members))
+reply_data (Edit edit_id tag path) = object (member (codes "edit-id") (string edit_id) (member (codes "error") (string (tag_word tag)) (path_member path)))
 
--- the reply to the command at a position; commands outside of lanes are of lane 0, and counted through
-unfoldable pub reply_line : ℕ → Reply → List ℕ
-reply_line n reply = codes "reply " ++ decimal n ++ codes " 0 " ++ decimal n ++ codes " " ++ compact_text (reply_data reply) ++ codes "\n"
+-- the reply to the command at a position, by its lane and its number there
+unfoldable pub reply_line : ℕ → ℕ → ℕ → Reply → List ℕ
+reply_line n lane index reply = codes "reply " ++ decimal n ++ codes " " ++ decimal lane ++ codes " " ++ decimal index ++ codes " " ++ compact_text (reply_data reply) ++ codes "\n"
 
--- the replies to commands that follow position n
-abbrev pub reply_lines : List SchemaNode → ℕ → List Row → List Command → List ℕ
-reply_lines nodes n rows [] = []
-reply_lines nodes n rows (command ∷ commands) = reply_line (n + 1) (reply_to nodes rows command) ++ reply_lines nodes (n + 1) (rows_after nodes rows command) commands
+-- the replies of entries that follow position n
+abbrev pub reply_lines : ℕ → List Entry → List ℕ
+reply_lines n [] = []
+reply_lines n (entry ∷ entries) = reply_line (n + 1) entry.lane entry.index entry.reply ++ reply_lines (n + 1) entries
 
--- ---- what the receiver was sent; a queue of one place or more never fills, since a receiver that takes by itself takes each packet at once
+-- ---- what a receiver was sent; a queue of one place or more never fills, since a receiver that takes by itself takes each packet at once
 
-unfoldable pub sent_line : List SchemaNode → ℕ → List ℕ → Notice → List ℕ
-sent_line nodes start name notice = codes "to " ++ name ++ codes " " ++ line_of nodes start 0 notice ++ codes "\n"
+unfoldable pub sent_line : List SchemaNode → ℕ → List ℕ → ℕ → Notice → List ℕ
+sent_line nodes start name stamp notice = codes "to " ++ name ++ codes " " ++ line_of nodes start stamp notice ++ codes "\n"
 
 abbrev pub sent_lines : List SchemaNode → ℕ → List ℕ → List Made → List ℕ
 sent_lines nodes start name [] = []
-sent_lines nodes start name (made ∷ more) = sent_line nodes start name made.notice ++ sent_lines nodes start name more
+sent_lines nodes start name (made ∷ more) = sent_line nodes start name made.stamp made.notice ++ sent_lines nodes start name more
 
--- ---- its tree, once an update came
+-- ---- its trees, one for each subscription that had an update
 
-unfoldable pub tree_line : List SchemaNode → List ℕ → List Row → List ℕ
-tree_line nodes name rows = codes "tree " ++ name ++ codes " " ++ decimal first_id ++ codes " " ++ compact_text (rows_json nodes [] rows) ++ codes "\n"
+unfoldable pub tree_line : List SchemaNode → List ℕ → ℕ → List Row → List ℕ
+tree_line nodes name id rows = codes "tree " ++ name ++ codes " " ++ decimal id ++ codes " " ++ compact_text (rows_json nodes [] rows) ++ codes "\n"
 
-abbrev pub tree_lines : List SchemaNode → List ℕ → List Made → List ℕ
-tree_lines nodes name [] = []
-tree_lines nodes name (made ∷ more) = tree_line nodes name (received [] (made ∷ more))
+abbrev pub tree_if : List SchemaNode → List ℕ → ℕ → Option (List Row) → List ℕ
+tree_if nodes name id None = []
+tree_if nodes name id (Some rows) = tree_line nodes name id rows
+
+-- by these subscriptions in order, where they are the receiver's of this number
+abbrev pub tree_lines : List SchemaNode → List ℕ → ℕ → List Made → List Subscription → List ℕ
+tree_lines nodes name receiver made [] = []
+tree_lines nodes name receiver made (subscription ∷ subscriptions) =
+    (if subscription.receiver == receiver then tree_if nodes name subscription.id (received subscription.id None made) else []) ++ tree_lines nodes name receiver made subscriptions
 
 -- ---- the whole
 
+-- the subscriptions that a run of a script gives, in ascending order of their ids
+abbrev pub given_by : Script → List Subscription
+given_by script = (state_of script.schema (first_state script.receivers) (journal_of script)).subscriptions
+
+abbrev pub receiver_lines : Script → ℕ → ReceiverInfo → List ℕ
+receiver_lines script place receiver =
+    sent_lines script.schema script.start receiver.name (made_by script place)
+    ++ tree_lines script.schema receiver.name place (made_by script place) (given_by script)
+
+-- those of receivers in order, the first of which has this place
+abbrev pub all_receiver_lines : Script → ℕ → List ReceiverInfo → List ℕ
+all_receiver_lines script place [] = []
+all_receiver_lines script place (receiver ∷ receivers) = receiver_lines script place receiver ++ all_receiver_lines script (place + 1) receivers
+
 abbrev pub report_text : Script → List ℕ
-report_text script =
-    reply_lines script.schema 0 [] script.commands
-    ++ sent_lines script.schema script.start script.receiver.name (made_by script.schema script.commands)
-    ++ tree_lines script.schema script.receiver.name (made_by script.schema script.commands)
-    ++ codes "end\n"
+report_text script = reply_lines 0 (journal_of script) ++ (all_receiver_lines script 0 script.receivers ++ codes "end\n")

@@ -1,7 +1,7 @@
-//! All rows of a tree.
-ghost use Rattle.std.specs.Prelude.{◌≡◌, IfOk};
-ghost use Rattle.yp_base.specs.Rows.{next_row};
-ghost use Rattle.push_program.specs.Collected.{HavePaths};
+//! Rows of a tree.
+ghost use Rattle.std.specs.Prelude.{◌≡◌, ◌+◌, ◌≤◌, length, IfOk};
+ghost use Rattle.yp_base.specs.Rows.{rows_within, value_at};
+ghost use Rattle.push_program.specs.Collected.{own_rows};
 
 use std::alloc::Global;
 use std::sync::ledger::Ledger;
@@ -12,23 +12,48 @@ use yp_base::series::Series;
 use yp_base::steps::Steps;
 use yp_tree::tree::Tree;
 
-/// The first row past a path.
-fn next_of<L: Ledger>(
+/// The row of a path, where there is one.
+fn own_rows<L: Ledger>(
     alloc: Global,
     tree: &Tree,
-    after: &Path,
-    top: &Path,
+    path: &Path,
     steps: &mut Steps<L>,
-) -> Result<Option<Row>, NoMemory>
-    ensures { IfOk result (λ row. row ≡ next_row after.now top.now tree.now) }
+) -> Result<Rows, NoMemory>
+    ensures rows { IfOk result (λ rows. rows ≡ own_rows path.now (value_at path.now tree.now)) }
+    ensures visits { steps.new ≡ steps.old + 1 }
 {
-    match tree.next(after, top, steps) {
-        Some((path, value)) => Ok(Some(Row {
+    let mut rows = Vec::new(alloc);
+    match tree.get(path, steps) {
+        Some(value) => rows.push(Row {
             path: path.copy(alloc)?,
             value: value.copy(alloc)?,
-        })),
-        None => Ok(None),
+        })?,
+        None => {}
     }
+    Ok(Series::from_vec(rows))
+}
+
+/// The rows at or below a path, in order. It counts at most two visits more than there are such rows.
+pub fn collect_within<L: Ledger>(
+    alloc: Global,
+    tree: &Tree,
+    under: &Path,
+    steps: &mut Steps<L>,
+) -> Result<Rows, NoMemory>
+    ensures rows { IfOk result (λ rows. rows ≡ rows_within under.now tree.now) }
+    ensures visits { IfOk result (λ rows. steps.new ≤ steps.old + length rows + 2) }
+{
+    let _len = tree.len();
+    let mut rows = own_rows(alloc, tree, under, steps)?.into_vec();
+    let mut last = under;
+    while let Some((path, value)) = tree.next(last, under, steps) {
+        rows.push(Row {
+            path: path.copy(alloc)?,
+            value: value.copy(alloc)?,
+        })?;
+        last = path;
+    }
+    Ok(Series::from_vec(rows))
 }
 
 /// The rows of a tree, in order.
@@ -37,16 +62,9 @@ pub fn collect<L: Ledger>(
     tree: &Tree,
     steps: &mut Steps<L>,
 ) -> Result<Rows, NoMemory>
-    requires { HavePaths tree.now }
     ensures { IfOk result (λ rows. rows ≡ tree.now) }
 {
-    let _len = tree.len();
     let top = Series::from_vec(Vec::new(alloc));
-    let mut after: Path = Series::from_vec(Vec::new(alloc));
-    let mut rows = Vec::new(alloc);
-    while let Some(row) = next_of(alloc, tree, &after, &top, steps)? {
-        after = row.path.copy(alloc)?;
-        rows.push(row)?;
-    }
-    Ok(Series::from_vec(rows))
+    let rows = collect_within(alloc, tree, &top, steps)?;
+    Ok(rows)
 }

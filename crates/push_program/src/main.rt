@@ -1,26 +1,19 @@
 //! The program: its words, standard input and standard output.
 #![tactic(auto)]
 
-pub mod access;
-pub mod collect;
-pub mod command;
-pub mod creation;
-pub mod cursor;
-pub mod fault;
-pub mod form;
-pub mod journal;
-pub mod lines;
+mod access;
+mod changes;
+mod collect;
+pub mod desk;
+mod hearing;
 pub mod progress;
-pub mod reading;
 pub mod report;
-pub mod run;
-pub mod script;
-pub mod telling;
+mod run;
+mod telling;
 #[cfg(test)]
 mod tests;
-pub mod told;
 pub mod top;
-pub mod updates;
+mod updates;
 
 use crate::top::{Status, push_main};
 use std::io::ErrorKind;

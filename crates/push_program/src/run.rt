@@ -1,226 +1,251 @@
-//! A run of commands.
-ghost use Rattle.std.specs.Prelude.{◌≡◌, ◌<◌, ◌+◌, ◌++◌, ◌^◌, IfOk, OnOk, is_ok, true, string_bytes};
+//! A run of a script: its commands, turn by turn.
+ghost use Rattle.std.specs.Prelude.{◌≡◌, ◌≤◌, ◌<◌, ◌+◌, ◌++◌, ◌∷◌, ◌^◌, [], All, List, length, map, IfOk, OnOk};
 ghost use Rattle.std.specs.List.{AllByRecursion};
-ghost use Rattle.yp_base.specs.Rows.{rows_within};
-ghost use Rattle.yp_schema.specs.Datastore.{is_path_of, AreWhole, IsRowOf};
-ghost use Rattle.push_program.specs.declared.command.Command.TheVariants.{Create, Establish};
-ghost use Rattle.push_program.specs.Access.{visible_rows};
-ghost use Rattle.push_program.specs.Journal.{created, rows_after, reply_to};
+ghost use Rattle.yp_base.specs.declared.notice.Notice.TheVariants.{Full};
+ghost use Rattle.yp_schema.specs.Datastore.{IsRowOf};
+ghost use Rattle.yp_encode.specs.Sendable.{IsSendableChange};
+ghost use Rattle.yp_journal.specs.History.{MayCome};
+ghost use Rattle.yp_script.specs.Counts.{lane_count, command_count};
+ghost use Rattle.yp_script.specs.Script.{MayRun};
+ghost use Rattle.push_program.specs.Desks.{with_lines, told_changes, notice_for, bare_desks, id_in};
 ghost use Rattle.push_program.specs.Notices.{selection};
-ghost use Rattle.push_program.specs.Progress.{Advances, Ends};
-ghost use Rattle.push_program.specs.Received.{received, IsCommand};
-ghost use Rattle.push_program.specs.Report.{reply_line, sent_lines};
-ghost use Rattle.push_program.specs.Shown.{shown_changes};
+ghost use Rattle.push_program.specs.Progress.{Ready, Advances, Goes};
+ghost use Rattle.push_program.specs.Received.{changed_by};
+ghost use Rattle.push_program.specs.Turns.{Turn, turns_of, lane_turns, turns_in};
 
-use crate::access::may_read;
-use crate::command::{Command, FIRST_ID, Reply};
-use crate::journal::create;
+use crate::desk::Desk;
+use crate::hearing::{all_hear, hear_full};
 use crate::progress::Progress;
+use crate::changes::record_of;
 use crate::telling::push_reply;
-use crate::told::{tell_change, tell_full};
-use crate::updates::creation_change;
+use crate::updates::{select, send_all, send_one};
 use std::alloc::Global;
 use std::sync::ledger::Ledger;
-use yp_base::memory::{Duplicate, NoMemory};
-use yp_base::path::Path;
-use yp_base::row::Rows;
+use yp_base::memory::NoMemory;
+use yp_base::notice::{Changes, Notice};
 use yp_base::steps::Steps;
-use yp_base::txt::Txt;
-use yp_schema::schema::Schema;
-use yp_time::start::Start;
+use yp_journal::command::Command;
+use yp_journal::receiver::ReceiverInfo;
+use yp_journal::reply::Reply;
+use yp_journal::state::State;
+use yp_script::script::Script;
 use yp_tree::tree::Tree;
 
-/// Creates a target and tells the reply; answers whether it was created.
-fn answer_creation<L: Ledger>(
+/// Tells all receivers what a step changed of what they may read, and what is held hears it.
+fn tell_changes(
     alloc: Global,
-    schema: &Schema,
-    position: u64,
-    edit_id: &Txt,
-    target: &Path,
-    new: &Rows,
-    rows: &mut Tree,
-    replies: &mut String,
-    steps: &mut Steps<L>,
-) -> Result<bool, NoMemory>
-    requires path { is_path_of schema.now target.now ≡ true }
-    requires whole { AreWhole schema.now target.now new.now }
-    ensures rows { OnOk result (rows.new ≡ rows_after schema.now rows.old (Create edit_id.now target.now new.now)) }
-    ensures replies { OnOk result (string_bytes replies.new ≡ string_bytes replies.old ++ reply_line position (reply_to schema.now rows.old (Create edit_id.now target.now new.now))) }
-    ensures accepted { IfOk result (λ accepted. accepted ≡ is_ok (created schema.now target.now new.now rows.old)) }
-{
-    match create(alloc, schema, rows, target, new, steps)? {
-        None => {
-            push_reply(alloc, replies, position, &Reply::Done)?;
-            Ok(true)
-        }
-        Some(tag) => {
-            let reply = Reply::Refused {
-                edit_id: edit_id.copy(alloc)?,
-                tag,
-            };
-            push_reply(alloc, replies, position, &reply)?;
-            Ok(false)
-        }
-    }
-}
-
-/// Tells what a creation shows.
-#[tactic(auto, using(crate::proofs::Showing::not_accepted, crate::proofs::Showing::not_live, crate::proofs::Showing::not_readable))]
-fn tell_creation(
-    alloc: Global,
-    schema: &Schema,
-    start: &Start,
-    name: &str,
-    position: u64,
-    accepted: bool,
-    live: bool,
-    target: &Path,
-    new: &Rows,
-    rows: &Tree,
-    mirror: &mut Tree,
-    sent: &mut String,
+    script: &Script,
+    state: &State,
+    changes: Changes,
+    desks: &mut [Desk],
+    mirrors: &mut [Tree],
 ) -> Result<(), NoMemory>
-    requires path { is_path_of schema.now target.now ≡ true }
-    requires whole { AreWhole schema.now target.now new.now }
-    requires carried { accepted ≡ true → rows_within target.now (selection schema.now rows.now) ≡ visible_rows schema.now new.now }
-    ensures mirror { OnOk result (mirror.new ≡ received mirror.old (shown_changes schema.now position accepted live target.now rows.now)) }
-    ensures sent { OnOk result (string_bytes sent.new ≡ string_bytes sent.old ++ sent_lines schema.now start.now name.now (shown_changes schema.now position accepted live target.now rows.now)) }
+    requires { AllByRecursion (IsSendableChange script.now.schema) changes }
+    ensures desks { OnOk result (desks.new ≡ map (λ desk. with_lines script.now.schema script.now.start (told_changes desk.number state.now.position state.now.stamp changes state.now.subscriptions) desk) desks.old) }
+    ensures mirrors { OnOk result (mirrors.new ≡ map (changed_by changes) mirrors.old) }
 {
-    if !accepted {
+    if changes.items().is_empty() {
         return Ok(());
     }
-    if !live {
-        return Ok(());
-    }
-    if !may_read(schema, target) {
-        return Ok(());
-    }
-    let change = creation_change(alloc, schema, target, new)?;
-    tell_change(alloc, schema, start, name, position, change, mirror, sent)?;
-    Ok(())
-}
-
-/// Runs a creation.
-#[tactic(auto, using(crate::proofs::Showing::accepted_carries))]
-fn run_create<L: Ledger>(
-    alloc: Global,
-    schema: &Schema,
-    start: &Start,
-    name: &str,
-    position: u64,
-    edit_id: &Txt,
-    target: &Path,
-    new: &Rows,
-    run: &mut Progress,
-    steps: &mut Steps<L>,
-) -> Result<(), NoMemory>
-    requires path { is_path_of schema.now target.now ≡ true }
-    requires whole { AreWhole schema.now target.now new.now }
-    ensures { OnOk result (Advances schema.now start.now name.now position (Create edit_id.now target.now new.now) run.old run.new) }
-{
-    let _before = run.rows.len();
-    let accepted = answer_creation(
+    let changes = send_all(
         alloc,
-        schema,
-        position,
-        edit_id,
-        target,
-        new,
-        &mut run.rows,
-        &mut run.replies,
-        steps,
+        &script.schema,
+        &script.start,
+        state.subscriptions(),
+        state.position(),
+        state.stamp(),
+        changes,
+        desks,
     )?;
-    tell_creation(
+    all_hear(alloc, changes.items(), mirrors)
+}
+
+/// Tells the receiver of this number all that it may read, for a new subscription.
+fn tell_full<L: Ledger>(
+    alloc: Global,
+    script: &Script,
+    id: u32,
+    by: u32,
+    state: &State,
+    desks: &mut [Desk],
+    mirrors: &mut Vec<Tree>,
+    steps: &mut Steps<L>,
+) -> Result<(), NoMemory>
+    requires { AllByRecursion (IsRowOf script.now.schema) state.now.rows }
+    ensures desks { OnOk result (desks.new ≡ map (λ desk. with_lines script.now.schema script.now.start (notice_for by state.now.position state.now.stamp desk.number (Full id (selection script.now.schema state.now.rows))) desk) desks.old) }
+    ensures mirrors { OnOk result (mirrors.new.items ≡ mirrors.old.items ++ selection script.now.schema state.now.rows ∷ []) }
+{
+    let selected = select(alloc, &script.schema, state.tree(), steps)?;
+    mirrors.push(hear_full(alloc, &selected)?)?;
+    let notice = Notice::Full { id, rows: selected };
+    send_one(
         alloc,
-        schema,
-        start,
-        name,
-        position,
-        accepted,
-        run.live,
-        target,
-        new,
-        &run.rows,
-        &mut run.mirror,
-        &mut run.sent,
+        &script.schema,
+        &script.start,
+        u64::from(by),
+        state.position(),
+        state.stamp(),
+        &notice,
+        desks,
     )
 }
 
-/// Runs an establishment.
-fn run_establish<L: Ledger>(
-    alloc: Global,
-    schema: &Schema,
-    start: &Start,
-    name: &str,
-    position: u64,
-    run: &mut Progress,
-    steps: &mut Steps<L>,
-) -> Result<(), NoMemory>
-    requires { AllByRecursion (IsRowOf schema.now) run.now.rows }
-    ensures { OnOk result (Advances schema.now start.now name.now position Establish run.old run.new) }
+/// The id that a reply gives.
+fn id_in(reply: &Reply) -> u32
+    ensures { result ≡ id_in reply.now }
 {
-    push_reply(alloc, &mut run.replies, position, &Reply::Id(FIRST_ID))?;
-    let mirror = tell_full(alloc, schema, start, name, &run.rows, &mut run.sent, steps)?;
-    run.mirror = mirror;
-    run.live = true;
-    Ok(())
+    match reply {
+        Reply::Id(id) => *id,
+        _ => 0,
+    }
 }
 
-/// Runs a command.
-fn run_command<L: Ledger>(
+/// Runs a turn.
+fn run_turn<L: Ledger>(
     alloc: Global,
-    schema: &Schema,
-    start: &Start,
-    name: &str,
-    position: u64,
+    script: &Script,
+    lane: u64,
+    index: u64,
     command: &Command,
     run: &mut Progress,
     steps: &mut Steps<L>,
 ) -> Result<(), NoMemory>
-    requires command { IsCommand schema.now command.now }
-    requires rows { AllByRecursion (IsRowOf schema.now) run.now.rows }
-    ensures { OnOk result (Advances schema.now start.now name.now position command.now run.old run.new) }
+    requires ready { Ready script.now run.old }
+    requires command { MayCome script.now.schema script.now.receivers command.now }
+    requires room { run.old.state.position < 2 ^ 63 }
+    ensures { OnOk result (Advances script.now (record { lane = lane; index = index; command = command.now }) run.old run.new) }
 {
+    let outcome = run.state.accept(alloc, &script.schema, command)?;
+    let position = run.state.position();
+    push_reply(
+        alloc,
+        &mut run.replies,
+        position,
+        lane,
+        index,
+        &outcome.reply,
+    )?;
     match command {
-        Command::Create {
-            edit_id,
-            target,
-            rows,
-        } => run_create(
-            alloc, schema, start, name, position, edit_id, target, rows, run, steps,
+        Command::Tick(_) => Ok(()),
+        Command::Edit(_) => {
+            let rows = run.state.tree();
+            let changed = outcome.changed.items();
+            let changes = record_of(alloc, &script.schema, changed, rows, steps)?;
+            tell_changes(
+                alloc,
+                script,
+                &run.state,
+                changes,
+                run.desks.as_mut_slice(),
+                run.mirrors.as_mut_slice(),
+            )
+        }
+        Command::Everything { by } => tell_full(
+            alloc,
+            script,
+            id_in(&outcome.reply),
+            *by,
+            &run.state,
+            run.desks.as_mut_slice(),
+            &mut run.mirrors,
+            steps,
         ),
-        Command::Establish => run_establish(alloc, schema, start, name, position, run, steps),
     }
 }
 
-/// Runs commands, from nothing.
-#[tactic(auto, using(crate::proofs::Runs::next_command, crate::proofs::Runs::next_rows, crate::proofs::Runs::goes_on, crate::proofs::Runs::goes_first, crate::proofs::Runs::goes_through))]
+/// Runs commands of a lane, the first of which has this number.
+fn run_commands<L: Ledger>(
+    alloc: Global,
+    script: &Script,
+    lane: u64,
+    first: u64,
+    commands: &[Command],
+    run: &mut Progress,
+    steps: &mut Steps<L>,
+) -> Result<(), NoMemory>
+    requires ready { Ready script.now run.old }
+    requires commands { All (MayCome script.now.schema script.now.receivers) commands.now }
+    requires room { run.old.state.position + length commands.now < 2 ^ 63 }
+    requires indexes { first + length commands.now < 2 ^ 64 }
+    ensures ready { OnOk result (Ready script.now run.new) }
+    ensures goes { OnOk result ((rest : List Turn) → Goes script.now (turns_of lane first commands.now ++ rest) run.old → Goes script.now rest run.new) }
+    ensures position { OnOk result (run.new.state.position ≡ run.old.state.position + length commands.now) }
+{
+    let mut index = first;
+    for command in commands {
+        run_turn(alloc, script, lane, index, command, run, steps)?;
+        index += 1;
+    }
+    Ok(())
+}
+
+/// Runs the lanes, one after the other.
+fn run_lanes<L: Ledger>(
+    alloc: Global,
+    script: &Script,
+    run: &mut Progress,
+    steps: &mut Steps<L>,
+) -> Result<(), NoMemory>
+    requires ready { Ready script.now run.old }
+    requires commands { All (All (MayCome script.now.schema script.now.receivers)) script.now.lanes }
+    requires room { run.old.state.position + lane_count script.now.lanes < 2 ^ 63 }
+    ensures ready { OnOk result (Ready script.now run.new) }
+    ensures goes { OnOk result ((rest : List Turn) → Goes script.now (lane_turns 1 script.now.lanes ++ rest) run.old → Goes script.now rest run.new) }
+    ensures position { OnOk result (run.new.state.position ≡ run.old.state.position + lane_count script.now.lanes) }
+{
+    let mut lane = 1;
+    for commands in script.lanes.items() {
+        run_commands(alloc, script, lane, 1, commands.items(), run, steps)?;
+        lane += 1;
+    }
+    Ok(())
+}
+
+/// Receivers that were sent nothing.
+fn desks_of(alloc: Global, receivers: &[ReceiverInfo]) -> Result<Vec<Desk>, NoMemory>
+    ensures { IfOk result (λ desks. desks.items ≡ bare_desks 0 receivers.now) }
+{
+    let mut desks = Vec::new(alloc);
+    let mut number = 0;
+    for receiver in receivers {
+        desks.push(Desk::new(alloc, number, receiver)?)?;
+        number += 1;
+    }
+    Ok(desks)
+}
+
+/// Before the first turn.
+fn opening(alloc: Global, script: &Script) -> Result<Progress, NoMemory>
+    ensures ready { IfOk result (λ run. Ready script.now run) }
+    ensures goes { IfOk result (λ run. Goes script.now (turns_in script.now) run) }
+    ensures position { IfOk result (λ run. run.state.position ≡ 0) }
+{
+    let _count = script.schema.count();
+    let receivers = script.receivers.list(alloc)?;
+    Ok(Progress {
+        state: State::new(alloc, &script.schema, receivers.items())?,
+        replies: String::new(alloc),
+        desks: desks_of(alloc, receivers.items())?,
+        mirrors: Vec::new(alloc),
+    })
+}
+
+/// Runs the commands of a script: those before the lanes, the lanes one after the other, and those after
+/// them. An error says that memory ran out.
 pub fn run_all<L: Ledger>(
     alloc: Global,
-    schema: &Schema,
-    start: &Start,
-    name: &str,
-    commands: &[Command],
+    script: &Script,
     steps: &mut Steps<L>,
 ) -> Result<Progress, NoMemory>
-    requires { AllByRecursion (IsCommand schema.now) commands.now }
-    ensures { IfOk result (λ run. Ends schema.now start.now name.now commands.now run) }
+    requires commands { MayRun script.now }
+    requires few { command_count script.now ≤ 100000 }
+    ensures ready { IfOk result (λ run. Ready script.now run) }
+    ensures goes { IfOk result (λ run. Goes script.now [] run) }
 {
-    let mut run = Progress {
-        rows: Tree::new(alloc),
-        mirror: Tree::new(alloc),
-        live: false,
-        replies: String::new(alloc),
-        sent: String::new(alloc),
-    };
-    let mut position: u64 = 0;
-    let mut rest = commands;
-    while let Some((command, more)) = rest.split_first() {
-        position += 1;
-        run_command(
-            alloc, schema, start, name, position, command, &mut run, steps,
-        )?;
-        rest = more;
-    }
+    let mut run = opening(alloc, script)?;
+    run_commands(alloc, script, 0, 1, script.before.items(), &mut run, steps)?;
+    run_lanes(alloc, script, &mut run, steps)?;
+    let next = script.before.len() as u64 + 1;
+    run_commands(alloc, script, 0, next, script.after.items(), &mut run, steps)?;
     Ok(run)
 }

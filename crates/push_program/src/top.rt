@@ -1,22 +1,21 @@
 //! The call that the program makes.
 ghost use Rattle.std.specs.Prelude.{◌≡◌, ◌≤◌, ℕ, true, not, length, take, drop, IfSome, IfOk, IfErr, Some, [], Ok, Err, string_bytes};
-ghost use Rattle.push_program.specs.declared.fault.ScriptFault.TheVariants.{At};
-ghost use Rattle.push_program.specs.declared.fault.ScriptKind.{ScriptKind as Kind};
-ghost use Rattle.push_program.specs.declared.script.Script.{Script as ReadScript};
+ghost use Rattle.yp_script.specs.declared.fault.ScriptFault.TheVariants.{At};
+ghost use Rattle.yp_script.specs.declared.fault.ScriptKind.{ScriptKind as Kind};
+ghost use Rattle.yp_script.specs.declared.script.Script.{Script as ReadScript};
 ghost use Rattle.push_program.specs.declared.top.Status.TheVariants.{Done, BadWords, BadScript, WriteFault};
-ghost use Rattle.push_program.specs.Answers.{Answers, is_run, tells_good_words, tells_whole_reading, tells_no_writing, Reports, ReportsFront, TellsReading, TellsWriting, IsComplete};
-ghost use Rattle.push_program.specs.Readings.{Fails};
+ghost use Rattle.push_program.specs.Answers.{Answers, CanRun, Fails, is_run, tells_good_words, tells_whole_reading, tells_no_writing, Reports, ReportsFront, TellsReading, TellsWriting, IsComplete};
 ghost use Rattle.push_program.specs.Report.{report_text};
-ghost use Rattle.push_program.specs.Script.{script_of, script_in};
+ghost use Rattle.yp_script.specs.Script.{script_in};
 
-use crate::fault::{ScriptFault, ScriptKind};
-use crate::reading::read_script;
 use crate::report::report;
 use std::alloc::Global;
 use yp_base::txt::Txt;
 use yp_io::sink::Sink;
 use yp_io::source::Source;
 use yp_io::whole::{ReadError, read_whole, write_whole};
+use yp_script::fault::{ScriptFault, ScriptKind};
+use yp_script::reading::read_script;
 
 /// How a run ended.
 #[derive(Debug, Clone, Copy, PartialEq, Eq, Drop)]
@@ -48,27 +47,19 @@ fn are_run(words: &[Txt]) -> bool
     }
 }
 
-/// The bytes up to the first that is too many.
-fn front_of(bytes: &[u8]) -> &[u8]
-    ensures front { result.now ≡ take 67108865 bytes.now }
-    ensures fits { length result.now ≤ 67108865 }
-{
-    let most = bytes.len().min(67_108_865);
-    &bytes[..most]
-}
-
 /// The report of a script, or its first fault.
-#[tactic(auto, using(crate::proofs::Commands::script_commands))]
 fn text_of(alloc: Global, bytes: &[u8]) -> Result<String, ScriptFault>
-    requires { length bytes.now ≤ 67108865 }
-    ensures text { IfOk result (λ text. (script : ReadScript) × (script_of bytes.now ≡ Ok script) × (string_bytes text ≡ report_text script)) }
-    ensures fault { IfErr result (λ fault. Fails fault (script_of bytes.now)) }
+    ensures text { IfOk result (λ text. (script : ReadScript) × (script_in bytes.now ≡ Ok script) × CanRun script × (string_bytes text ≡ report_text script)) }
+    ensures fault { IfErr result (λ fault. Fails fault (script_in bytes.now)) }
 {
     match read_script(alloc, bytes) {
-        Ok(script) => match report(alloc, &script) {
-            Ok(text) => Ok(text),
-            Err(_) => Err(ScriptFault::Memory),
-        },
+        Ok(script) => {
+            let _count = script.schema.count();
+            match report(alloc, &script) {
+                Ok(text) => Ok(text),
+                Err(_) => Err(ScriptFault::Memory),
+            }
+        }
         Err(fault) => Err(fault),
     }
 }
@@ -94,8 +85,7 @@ fn answer<S: Source, K: Sink>(alloc: Global, words: &[Txt], source: &mut S, sink
         Err(ReadError::Fault) => return Status::ReadFault,
         Err(ReadError::Memory) => return Status::NoMemory,
     };
-    let bytes = front_of(whole.bytes.items());
-    match text_of(alloc, bytes) {
+    match text_of(alloc, whole.bytes.items()) {
         Ok(text) => match write_whole(sink, text.as_bytes()) {
             Ok(()) => Status::Done,
             Err(_) => Status::WriteFault,

@@ -1,27 +1,26 @@
-//! Updates and the receiver that hears them.
-ghost use Rattle.std.specs.Prelude.{◌≡◌, [], IfOk, OnOk, Ok, true};
+//! Updates of subscriptions, to all receivers.
+ghost use Rattle.std.specs.Prelude.{◌≡◌, ◌≤◌, [], IfOk, OnOk, map};
 ghost use Rattle.std.specs.List.{AllByRecursion};
-ghost use Rattle.yp_base.specs.Rows.{AreInOrder, put_rows, rows_without};
-ghost use Rattle.yp_schema.specs.Datastore.{IsRowOf, AreWritable, AreWhole, is_path_of};
-ghost use Rattle.yp_encode.specs.Sendable.{IsSendableChange};
-ghost use Rattle.push_program.specs.Access.{is_readable, visible_rows};
-ghost use Rattle.push_program.specs.Notices.{selection, created_change};
+ghost use Rattle.yp_schema.specs.Datastore.{IsRowOf, AreWritable};
+ghost use Rattle.yp_encode.specs.Sendable.{IsSendable, IsSendableChange};
+ghost use Rattle.push_program.specs.Desks.{with_lines, changes_for, notice_for};
+ghost use Rattle.push_program.specs.Notices.{selection};
 
 use crate::access::read_visible;
 use crate::collect::collect;
-use crate::journal::put_all;
+use crate::desk::Desk;
 use std::alloc::Global;
 use std::sync::ledger::Ledger;
-use yp_base::memory::{Duplicate, NoMemory};
-use yp_base::notice::{Change, ChangeKind};
-use yp_base::path::Path;
+use yp_base::memory::NoMemory;
+use yp_base::notice::{Changes, Notice};
 use yp_base::row::Rows;
 use yp_base::steps::Steps;
+use yp_journal::subscription::Subscription;
 use yp_schema::schema::Schema;
+use yp_time::start::Start;
 use yp_tree::tree::Tree;
 
 /// What a subscription of everything selects.
-#[tactic(auto, using(crate::proofs::Collects::of_schema))]
 pub fn select<L: Ledger>(
     alloc: Global,
     schema: &Schema,
@@ -38,43 +37,54 @@ pub fn select<L: Ledger>(
     Ok(selected)
 }
 
-/// The rows of a full update as a tree.
-#[tactic(auto, using(yp_base::proofs::RowLaws::put_to_none))]
-pub fn hear_full(alloc: Global, rows: &Rows) -> Result<Tree, NoMemory>
-    requires { AreInOrder rows.now }
-    ensures { IfOk result (λ tree. tree ≡ rows.now) }
-{
-    let mut tree = Tree::new(alloc);
-    put_all(alloc, &mut tree, rows)?;
-    Ok(tree)
-}
-
-/// What a change does to the rows of a receiver.
-pub fn hear_change(alloc: Global, change: &Change, mirror: &mut Tree) -> Result<(), NoMemory>
-    ensures { OnOk result (mirror.new ≡ put_rows change.now.rows (rows_without change.now.target mirror.old)) }
-{
-    mirror.cut(alloc, &change.target)?;
-    put_all(alloc, mirror, &change.rows)
-}
-
-/// The change of a creation that was accepted and may be read.
-pub fn creation_change(
+/// Sends a notice to the receiver of this number.
+pub fn send_one(
     alloc: Global,
     schema: &Schema,
-    target: &Path,
-    new: &Rows,
-) -> Result<Change, NoMemory>
-    requires path { is_path_of schema.now target.now ≡ true }
-    requires whole { AreWhole schema.now target.now new.now }
-    requires readable { is_readable schema.now target.now ≡ true }
-    ensures change { IfOk result (λ change. change ≡ created_change target.now (visible_rows schema.now new.now)) }
-    ensures sendable { IfOk result (λ change. IsSendableChange schema.now change) }
+    start: &Start,
+    by: u64,
+    position: u64,
+    stamp: u64,
+    notice: &Notice,
+    desks: &mut [Desk],
+) -> Result<(), NoMemory>
+    requires tick { stamp ≤ 1000000000000 }
+    requires sendable { IsSendable schema.now notice.now }
+    ensures { OnOk result (desks.new ≡ map (λ desk. with_lines schema.now start.now (notice_for by position stamp desk.number notice.now) desk) desks.old) }
 {
-    let rows = read_visible(alloc, schema, new)?;
-    Ok(Change {
-        kind: ChangeKind::Create,
-        target: target.copy(alloc)?,
-        rows,
-        after: None,
-    })
+    for desk in desks.iter_mut() {
+        desk.send_to(alloc, schema, start, by, position, stamp, notice)?;
+    }
+    Ok(())
+}
+
+/// Sends a change update of each subscription, and gives the edits back.
+pub fn send_all(
+    alloc: Global,
+    schema: &Schema,
+    start: &Start,
+    subscriptions: &[Subscription],
+    position: u64,
+    stamp: u64,
+    changes: Changes,
+    desks: &mut [Desk],
+) -> Result<Changes, NoMemory>
+    requires tick { stamp ≤ 1000000000000 }
+    requires sendable { AllByRecursion (IsSendableChange schema.now) changes }
+    ensures sent { OnOk result (desks.new ≡ map (λ desk. with_lines schema.now start.now (changes_for desk.number position stamp changes subscriptions.now) desk) desks.old) }
+    ensures changes { IfOk result (λ given. given ≡ changes) }
+{
+    let mut given = changes;
+    for desk in desks.iter_mut() {
+        given = desk.send_changes(
+            alloc,
+            schema,
+            start,
+            subscriptions,
+            position,
+            stamp,
+            given,
+        )?;
+    }
+    Ok(given)
 }

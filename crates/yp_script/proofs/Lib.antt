@@ -1,5 +1,7 @@
 pub mod Keeping
+pub mod Limits
 pub mod LineLaws
+pub mod ListLaws
 pub mod NameLaws
 pub mod PartLaws
 pub mod Positions

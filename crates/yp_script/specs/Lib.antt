@@ -1,4 +1,5 @@
 pub mod Commands
+pub mod Counts
 pub mod Cursor
 pub mod Faults
 pub mod Forms

@@ -3,6 +3,7 @@ ghost use Rattle.std.specs.Prelude.{◌≡◌, ◌≤◌, length, IfOk};
 ghost use Rattle.yp_schema.specs.WellFormed.{IsSchema};
 ghost use Rattle.yp_time.specs.Instants.{IsStart};
 ghost use Rattle.yp_script.specs.Commands.{HasFew};
+ghost use Rattle.yp_script.specs.Counts.{command_count};
 ghost use Rattle.yp_script.specs.Readings.{Gives};
 ghost use Rattle.yp_script.specs.Script.{AreReceivers, MayRun, script_in, script_of};
 
@@ -40,6 +41,7 @@ pub fn read_script(alloc: Global, bytes: &[u8]) -> Result<Script, ScriptFault>
     ensures schema { IfOk result (λ script. IsSchema script.schema) }
     ensures receivers { IfOk result (λ script. AreReceivers script.receivers) }
     ensures commands { IfOk result MayRun }
+    ensures limits { IfOk result (λ script. command_count script ≤ 100000) }
 {
     let (text, _) = bytes.split_at(bytes.len().min(MOST_READ));
     read_text(alloc, text)

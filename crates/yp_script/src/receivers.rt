@@ -1,12 +1,13 @@
 //! Receivers by name.
-ghost use Rattle.std.specs.Prelude.{◌≡◌, ◌++◌, ◌∷◌, [], ◌<◌, ◌≤◌, length, OnOk, OnErr, IfSome, None, option_copied, slice_get};
+ghost use Rattle.std.specs.Prelude.{◌≡◌, ◌++◌, ◌∷◌, [], ◌<◌, ◌≤◌, length, OnOk, OnErr, IfOk, IfSome, None, option_copied, slice_get};
 ghost use Rattle.yp_script.specs.Forms.{number_of};
 
 use indexmap::IndexMap;
 use std::alloc::Global;
 use std::marker::Model;
-use yp_base::memory::NoMemory;
-use yp_journal::receiver::ReceiverInfo;
+use yp_base::memory::{Duplicate, NoMemory};
+use yp_base::series::Series;
+use yp_journal::receiver::{ReceiverInfo, Receivers as ReceiverList};
 
 /// At most 16 receivers, in the order of their declaration, found by their names. Contracts see the list
 /// of them.
@@ -75,5 +76,16 @@ impl Receivers {
         let name = String::from_str(alloc, receiver.name.as_str())?;
         self.by_name.insert(name, receiver)?;
         Ok(())
+    }
+
+    /// The receivers as a list.
+    pub fn list(&self, alloc: Global) -> Result<ReceiverList, NoMemory>
+        ensures { IfOk result (λ list. list ≡ self.now) }
+    {
+        let mut list = Vec::new(alloc);
+        while let Some(receiver) = self.get(list.len()) {
+            list.push(receiver.copy(alloc)?)?;
+        }
+        Ok(Series::from_vec(list))
     }
 }

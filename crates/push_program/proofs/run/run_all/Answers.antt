@@ -1,17 +1,17 @@
-use Rattle.std.proofs.Common.{◌≡◌, ◌+◌, sym, subst, List, ◌∷◌, length, arith}
-use Rattle.push_program.specs.declared.command.Command.{Command}
-use Rattle.push_program.proofs.Runs.{Goes, goes_on}
+use Rattle.std.proofs.Common.{◌≡◌, ◌+◌, List, [], ◌∷◌, ◌++◌, length, sym, ap, ◌∙◌, subst, append-nil}
+use Rattle.yp_journal.specs.declared.command.Command.{Command}
+use Rattle.push_program.specs.Progress.{Goes}
+use Rattle.push_program.specs.Turns.{Turn, turns_of, lane_turns}
 use Rattle.push_program.proofs.run.run_all.Goals as goal
 
-pub loop-command-preserved : goal.loop-command-preserved
-loop-command-preserved g c =
-    let rest : c.loop-command.rest.now ≡ c.in-Some.command.now ∷ c.in-Some.more.now = c.in-Some.ensures.cases.0 in
-    let count = c.loop-command.invariant.count in
-    let longer : length c.loop-command.rest.now ≡ length c.in-Some.more.now + 1 = sym c.in-Some.ensures.cases.1 in
-    record {
-      run =
-          goes_on c.args.schema.now c.args.start.now c.args.name.now c.loop-command.position c.in-Some.command.now c.in-Some.more.now c.loop-command.run c.run_command.new.run c.args.commands.now
-          (subst (λ (left : List Command). Goes c.args.schema.now c.args.start.now c.args.name.now c.loop-command.position left c.loop-command.run c.args.commands.now) rest c.loop-command.invariant.run)
-          c.in_ok-run_command.ensures;
-      count = omega (arith, count, longer);
-    }
+pub returns-clause-goes : goal.returns-clause-goes
+returns-clause-goes g c =
+    let script = c.args.script.now in
+    let last : List Turn = turns_of 0 (length script.before + 1) script.after in
+    let lanes : List Turn = lane_turns 1 script.lanes in
+    let first : Goes script (turns_of 0 1 c.items.result.now ++ (lanes ++ last)) c.in_ok-run.run' =
+        subst (λ (cs : List Command). Goes script (turns_of 0 1 cs ++ (lanes ++ last)) c.in_ok-run.run') (sym c.items.ensures) c.in_ok-run.ensures.goes in
+    let after : Goes script last c.run_lanes.new.run = c.in_ok-run_lanes.ensures.goes last (c.in_ok-run_commands.ensures.goes (lanes ++ last) first) in
+    let turns : last ≡ turns_of 0 (c.len.result + 1) c.items-2.result.now ++ [] =
+        (λ i. turns_of 0 (sym c.len.ensures i + 1) (sym c.items-2.ensures i)) ∙ sym (append-nil (turns_of 0 (c.len.result + 1) c.items-2.result.now)) in
+    c.in_ok-run_commands-2.ensures.goes [] (subst (λ (ts : List Turn). Goes script ts c.run_lanes.new.run) turns after)

@@ -1,10 +1,6 @@
-use Rattle.std.proofs.Common.{ap, ◌∙◌}
-use Rattle.serde_json.specs.Written.{has_float, compact_text}
-use Rattle.push_program.proofs.Replies.{reply_none}
+use Rattle.std.proofs.Common.{string_bytes}
+use Rattle.push_program.proofs.Replies.{done_told}
 use Rattle.push_program.proofs.telling.reply_text.Goals as goal
 
-pub compact-requires : goal.compact-requires
-compact-requires c = ap has_float c.in_ok-json.ensures ∙ reply_none c.args.reply.now
-
-pub returns : goal.returns
-returns c = c.in_ok-text.ensures ∙ ap compact_text c.in_ok-json.ensures
+pub returns-in-Done : goal.returns-in-Done
+returns-in-Done c = done_told string_bytes c.from_str.result c.args.reply.now c.in-Done.is c.from_str.ensures.ok

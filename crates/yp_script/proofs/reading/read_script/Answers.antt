@@ -2,6 +2,7 @@ use Rattle.std.proofs.Common.{List, ℕ, ◌∙◌, subst}
 use Rattle.yp_script.specs.Readings.{Gives}
 use Rattle.yp_script.specs.Script.{script_of}
 use Rattle.yp_script.proofs.Keeping.{read_keeps, read_schema, read_receivers, read_commands, take_least}
+use Rattle.yp_script.proofs.Limits.{read_few}
 use Rattle.yp_script.proofs.reading.read_script.Goals as goal
 
 pub returns-clause-read : goal.returns-clause-read
@@ -16,3 +17,6 @@ returns-clause-receivers c = read_receivers c.read_text.result (read_keeps c.rea
 
 pub returns-clause-commands : goal.returns-clause-commands
 returns-clause-commands c = read_commands c.read_text.result (read_keeps c.read_text.result c.split_at.result.0.now c.read_text.ensures.read) c.read_text.ensures.few
+
+pub returns-clause-limits : goal.returns-clause-limits
+returns-clause-limits c = read_few c.read_text.result c.split_at.result.0.now c.read_text.ensures.read

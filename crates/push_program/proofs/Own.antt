@@ -1,0 +1,96 @@
+-- What is made for one subscription: an update at most for each step.
+use Rattle.std.proofs.Common.{◌≡◌, ℕ, ◌+◌, ◌==◌, ◌<◌, ◌||◌, Bool, true, false, true≢false, List, [], ◌∷◌, ◌++◌, map, filter, Option, Some, None, unwrap_or, refl, ap, ◌∙◌, cond, arith, append-nil}
+use Rattle.std.proofs.lemmas.List.Elements.{filter-append}
+use Rattle.yp_base.specs.declared.notice.Change.{Change}
+use Rattle.yp_base.specs.declared.notice.Notice.{Notice}
+use Rattle.yp_base.specs.declared.notice.Notice.TheVariants.{Full, Changes, Started, Modified, Suspended, Resumed, Terminated}
+use Rattle.yp_base.specs.declared.row.Row.{Row}
+use Rattle.yp_schema.specs.declared.schema.SchemaNode.{SchemaNode}
+use Rattle.yp_journal.specs.declared.entry.Entry.{Entry}
+use Rattle.yp_journal.specs.declared.subscription.Subscription.{Subscription}
+use Rattle.yp_journal.specs.History.{JournalState, next_id, next_state}
+use Rattle.push_program.specs.Notices.{Made, selection, is_given, change_update, updates_of, made_of, made_for, made_at, made_from}
+use Rattle.push_program.specs.Received.{changed_by, heard, received, updates}
+use Rattle.push_program.specs.Records.{change_record}
+use Rattle.push_program.specs.Progress.{AreIds}
+use Rattle.push_program.proofs.Subscriptions.{of_id, none_of_id}
+
+-- those of some notices that are updates of a subscription
+abbrev pub own : ℕ → List Made → List Made
+own id made = filter (λ (m : Made). updates id m.notice) made
+
+-- what a step makes for one subscription, where it is the receiver's of this number
+abbrev pub own_update : List SchemaNode → ℕ → JournalState → JournalState → Option Subscription → List Made
+own_update nodes receiver before after None = []
+own_update nodes receiver before after (Some subscription) = cond (subscription.receiver == receiver) (made_of after (updates_of nodes before after subscription)) []
+
+-- ---- a subscription's updates are its own
+
+changes_own : (id other : ℕ) (b : Bool) (state : JournalState) (n : ℕ) (changes : List Change) → (other == id) ≡ b → own id (made_of state (change_update other n changes)) ≡ cond b (made_of state (change_update other n changes)) []
+changes_own id other true state n [] is = refl
+changes_own id other false state n [] is = refl
+changes_own id other true state n (change ∷ changes) is = ap (λ b. cond b (record { position = state.position; stamp = state.stamp; notice = Changes other n (change ∷ changes) false } ∷ []) []) is
+changes_own id other false state n (change ∷ changes) is = ap (λ b. cond b (record { position = state.position; stamp = state.stamp; notice = Changes other n (change ∷ changes) false } ∷ []) []) is
+
+updates_own : (g : Bool) (b : Bool) (nodes : List SchemaNode) (id : ℕ) (before after : JournalState) (subscription : Subscription) → (subscription.id == id) ≡ b
+    → own id (made_of after (cond g (change_update subscription.id after.position (change_record (selection nodes before.rows) (selection nodes after.rows))) (Full subscription.id (selection nodes after.rows) ∷ [])))
+    ≡ cond b (made_of after (cond g (change_update subscription.id after.position (change_record (selection nodes before.rows) (selection nodes after.rows))) (Full subscription.id (selection nodes after.rows) ∷ []))) []
+updates_own true b nodes id before after subscription is = changes_own id subscription.id b after after.position (change_record (selection nodes before.rows) (selection nodes after.rows)) is
+updates_own false true nodes id before after subscription is = ap (λ b. cond b (record { position = after.position; stamp = after.stamp; notice = Full subscription.id (selection nodes after.rows) } ∷ []) []) is
+updates_own false false nodes id before after subscription is = ap (λ b. cond b (record { position = after.position; stamp = after.stamp; notice = Full subscription.id (selection nodes after.rows) } ∷ []) []) is
+
+one_own : (r b : Bool) (nodes : List SchemaNode) (id : ℕ) (before after : JournalState) (subscription : Subscription) → (subscription.id == id) ≡ b
+    → own id (cond r (made_of after (updates_of nodes before after subscription)) []) ≡ cond b (cond r (made_of after (updates_of nodes before after subscription)) []) []
+one_own true b nodes id before after subscription is = updates_own (is_given subscription.id before.subscriptions) b nodes id before after subscription is
+one_own false true nodes id before after subscription is = refl
+one_own false false nodes id before after subscription is = refl
+
+own_for : (n : ℕ) (nodes : List SchemaNode) (receiver id : ℕ) (before after : JournalState) (subscriptions : List Subscription) → AreIds n subscriptions
+    → own id (made_for nodes receiver before after subscriptions) ≡ own_update nodes receiver before after (of_id id subscriptions)
+own_for n nodes receiver id before after [] ids = refl
+own_for n nodes receiver id before after (subscription ∷ subscriptions) ids =
+    filter-append (λ (m : Made). updates id m.notice) (cond (subscription.receiver == receiver) (made_of after (updates_of nodes before after subscription)) []) (made_for nodes receiver before after subscriptions)
+    ∙ at (subscription.id == id) refl (own_for (n + 1) nodes receiver id before after subscriptions ids.1)
+  where
+    mine : List Made
+    mine = cond (subscription.receiver == receiver) (made_of after (updates_of nodes before after subscription)) []
+    at : (b : Bool) → (subscription.id == id) ≡ b → own id (made_for nodes receiver before after subscriptions) ≡ own_update nodes receiver before after (of_id id subscriptions)
+        → own id mine ++ own id (made_for nodes receiver before after subscriptions) ≡ own_update nodes receiver before after (cond b (Some subscription) (of_id id subscriptions))
+    at true is rest =
+        let past : id < next_id (n + 1) = grind (arith, ids.0, is) in
+        let none : of_id id subscriptions ≡ None = none_of_id (n + 1) id subscriptions ids.1 past in
+        let others : own id (made_for nodes receiver before after subscriptions) ≡ [] = rest ∙ ap (own_update nodes receiver before after) none in
+        let here : own id mine ≡ mine = one_own (subscription.receiver == receiver) true nodes id before after subscription is in
+        (λ i. here i ++ others i) ∙ append-nil mine
+    at false is rest =
+        let here : own id mine ≡ [] = one_own (subscription.receiver == receiver) false nodes id before after subscription is in
+        ap (λ made. made ++ own id (made_for nodes receiver before after subscriptions)) here ∙ rest
+
+-- what a step makes of a subscription's updates
+pub own_at : (nodes : List SchemaNode) (receiver id : ℕ) (before after : JournalState) → AreIds 0 after.subscriptions
+    → own id (made_at nodes receiver before after) ≡ own_update nodes receiver before after (of_id id after.subscriptions)
+own_at nodes receiver id before after ids = own_for 0 nodes receiver id before after after.subscriptions ids
+
+-- ---- other notices change nothing of what is held
+
+heard_other : (id : ℕ) (notice : Notice) (held : Option (List Row)) → updates id notice ≡ false → heard id notice held ≡ held
+heard_other id (Full other new) held is = ap (λ b. cond b (Some new) held) is
+heard_other id (Changes other patch_id changes incomplete) held is = ap (λ b. cond b (Some (changed_by changes (unwrap_or held []))) held) is
+heard_other id (Started other) held is = refl
+heard_other id (Modified other) held is = refl
+heard_other id (Suspended other) held is = refl
+heard_other id (Resumed other) held is = refl
+heard_other id (Terminated other) held is = refl
+
+pub received_own : (id : ℕ) (made : List Made) (held : Option (List Row)) → received id held made ≡ received id held (own id made)
+received_own id [] held = refl
+received_own id (m ∷ made) held = at (updates id m.notice) refl (received_own id made)
+  where
+    at : (b : Bool) → updates id m.notice ≡ b → ((h : Option (List Row)) → received id h made ≡ received id h (own id made)) → received id (heard id m.notice held) made ≡ received id held (cond b (m ∷ own id made) (own id made))
+    at true is rest = rest (heard id m.notice held)
+    at false is rest = ap (λ h. received id h made) (heard_other id m.notice held is) ∙ rest held
+
+-- those up to an update
+pub own_split : (id : ℕ) (before : List Made) (update : Made) (after : List Made) → updates id update.notice ≡ true → own id (before ++ update ∷ after) ≡ own id before ++ update ∷ own id after
+own_split id before update after is =
+    filter-append (λ (m : Made). updates id m.notice) before (update ∷ after) ∙ ap (λ b. own id before ++ cond b (update ∷ own id after) (own id after)) is

@@ -1,0 +1,260 @@
+-- The record of a step turns the selection before it into the one after, names nothing that may not be read, and is empty only where they are one.
+use Rattle.std.proofs.Common.{◌≡◌, ℕ, List, [], ◌∷◌, ◌++◌, map, refl, sym, ap, subst, ◌∙◌, cond, Bool, true, false, true≢false, not, ◌||◌, Option, Some, None, append-nil}
+use Rattle.std.specs.Prelude.{is_some}
+use Rattle.std.specs.List.{filter_map, cons_option, list_any, AllByRecursion}
+use Rattle.std.specs.Ordering.{is_eq}
+use Rattle.std.proofs.lemmas.Bool.{and_parts}
+use Rattle.yp_base.specs.declared.path.Seg.{Seg}
+use Rattle.yp_base.specs.declared.row.Value.{Value}
+use Rattle.yp_base.specs.declared.row.Row.{Row}
+use Rattle.yp_base.specs.declared.leaf_type.LeafType.{LeafType}
+use Rattle.yp_base.specs.declared.notice.Change.{Change}
+use Rattle.yp_base.specs.Order.{path_cmp, is_within}
+use Rattle.yp_base.specs.Rows.{AreInOrder, value_at, put_rows, rows_within, rows_without}
+use Rattle.yp_base.proofs.RowLaws.{none_order, value_at_without, puts_order, within_keeps_order, without_keeps_order}
+use Rattle.yp_schema.specs.declared.schema.SchemaNode.{SchemaNode}
+use Rattle.yp_schema.specs.declared.schema.Kind.{Kind}
+use Rattle.yp_schema.specs.declared.schema.Kind.TheVariants.{Container, Presence, List as Listing, Leaf, LeafList}
+use Rattle.yp_schema.specs.Nodes.{node_at, may_hold}
+use Rattle.yp_schema.specs.WellFormed.{IsSchema}
+use Rattle.yp_schema.specs.Datastore.{goes_down, is_path_of, last_node, holds_value, value_of_kind, is_key_node, is_entry_kind, last_kind_is, has_row, IsRowOf, IsDatastore}
+use Rattle.yp_data_json.proofs.AtPlace.{front_rest, node_after, goes_on}
+use Rattle.yp_data_json.proofs.Steps.{leaf_ends}
+use Rattle.yp_edit.specs.declared.changed.ChangedRow.{ChangedRow}
+use Rattle.yp_edit.specs.Bases.{is_listed}
+use Rattle.yp_edit.specs.Changes.{are_alike, change_of, changed_rows, paths_of_both}
+use Rattle.yp_edit.specs.Changes.{change_at as difference_at}
+use Rattle.yp_edit.proofs.Alike.{at, same_rows}
+use Rattle.yp_edit.proofs.Committing.{alike_is}
+use Rattle.yp_edit.proofs.Differing.{changed_entries, changed_at}
+use Rattle.yp_edit.proofs.Drafts.{or_else, value_at_puts}
+use Rattle.yp_edit.proofs.Keeping.{holds_at, or_cases}
+use Rattle.push_program.specs.Access.{is_readable, visible_rows}
+use Rattle.push_program.specs.Concealed.{AllReadable, IsReadableChange}
+use Rattle.push_program.specs.Received.{changed_by}
+use Rattle.push_program.specs.Records.{changed_paths, is_above, roots_of, carried_rows, change_at, change_record}
+use Rattle.push_program.proofs.Selections.{value_at_picked, all_picked, selection_is, selected_readable}
+use Rattle.push_program.proofs.RecordRoots.{is_covered, listed_covered, some_paths}
+
+-- ---- what is changed
+
+difference_there : (path : List Seg) (old new : Option Value) (change : ChangedRow) → change_of path old new ≡ Some change → (change.path ≡ path) × ((is_some old || is_some new) ≡ true)
+difference_there path old new change is =
+    elim (are_alike old new) as (λ b. are_alike old new ≡ b → cond b None (Some (record { path = path; old = old; new = new })) ≡ Some change → (change.path ≡ path) × ((is_some old || is_some new) ≡ true)) [
+      | true ↦ λ e h. let no : None ≡ Some change = h in cc
+      | false ↦ λ e h. let made : ChangedRow = record { path = path; old = old; new = new } in let same : made ≡ change = cc in (ap (λ (c : ChangedRow). c.path) (sym same), either old new e)
+    ] refl is
+  where
+    either : (old new : Option Value) → are_alike old new ≡ false → (is_some old || is_some new) ≡ true
+    either (Some o) new e = refl
+    either None (Some n) e = refl
+    either None None e = absurd (true≢false e)
+
+-- a changed path has a row before or after
+abbrev IsThere : List Row → List Row → List Seg → Type 0
+IsThere old new path = (has_row path old || has_row path new) ≡ true
+
+there_at : (old new : List Row) (path : List Seg) (rest : List ChangedRow) → AllByRecursion (IsThere old new) (map (λ (change : ChangedRow). change.path) rest)
+    → AllByRecursion (IsThere old new) (map (λ (change : ChangedRow). change.path) (cons_option (difference_at old new path) rest))
+there_at old new path rest all =
+    elim (difference_at old new path) as (λ r. difference_at old new path ≡ r → AllByRecursion (IsThere old new) (map (λ (change : ChangedRow). change.path) (cons_option r rest))) [
+      | None ↦ λ e. all
+      | Some change ↦ λ e. let found = difference_there path (value_at path old) (value_at path new) change e in (subst (IsThere old new) (sym found.0) found.1, all)
+    ] refl
+
+there_all : (old new : List Row) (paths : List (List Seg)) → AllByRecursion (IsThere old new) (map (λ (change : ChangedRow). change.path) (filter_map (difference_at old new) paths))
+there_all old new [] = tt
+there_all old new (path ∷ paths) = there_at old new path (filter_map (difference_at old new) paths) (there_all old new paths)
+
+roots_there : (old new : List Row) → AllByRecursion (IsThere old new) (roots_of (changed_paths old new))
+roots_there old new =
+    let paths = changed_paths old new in
+    some_paths (λ path. not (list_any (λ above. is_above above path) paths)) (IsThere old new) paths (there_all old new (paths_of_both old new))
+
+-- what isn't changed is alike
+unlisted_none : (path : List Seg) (changes : List ChangedRow) → is_listed path (map (λ (change : ChangedRow). change.path) changes) ≡ false → at path (changed_entries changes) ≡ None
+unlisted_none path [] h = refl
+unlisted_none path (change ∷ changes) h =
+    elim (is_eq (path_cmp path change.path)) as (λ b. (b || is_listed path (map (λ (c : ChangedRow). c.path) changes)) ≡ false → cond b (Some change) (at path (changed_entries changes)) ≡ None) [
+      | true ↦ λ k. absurd (true≢false k)
+      | false ↦ λ k. unlisted_none path changes k
+    ] h
+
+alike_at : (b : Bool) (old new : Option Value) (change : ChangedRow) → are_alike old new ≡ b → cond b None (Some change) ≡ None → old ≡ new
+alike_at true old new change alike is = alike_is old new alike
+alike_at false old new change alike is = let no : Some change ≡ None = is in cc
+
+none_alike : (path : List Seg) (old new : Option Value) → change_of path old new ≡ None → old ≡ new
+none_alike path old new is = alike_at (are_alike old new) old new (record { path = path; old = old; new = new }) refl is
+
+unchanged : (old new : List Row) (path : List Seg) → is_listed path (changed_paths old new) ≡ false → value_at path old ≡ value_at path new
+unchanged old new path h = none_alike path (value_at path old) (value_at path new) (sym (changed_at old new path) ∙ unlisted_none path (changed_rows old new) h)
+
+uncovered : (old new : List Row) (path : List Seg) → is_covered path (roots_of (changed_paths old new)) ≡ false → value_at path old ≡ value_at path new
+uncovered old new path h =
+    elim (is_listed path (changed_paths old new)) as (λ b. is_listed path (changed_paths old new) ≡ b → value_at path old ≡ value_at path new) [
+      | true ↦ λ e. absurd (true≢false (sym (listed_covered (changed_paths old new) path e) ∙ h))
+      | false ↦ λ e. unchanged old new path e
+    ] refl
+
+-- ---- what is at or below a root that is gone
+
+last_after : (seg : Seg) (path : List Seg) → last_node (seg ∷ path) ≡ node_after None (seg ∷ path)
+last_after seg [] = refl
+last_after seg (next ∷ path) = last_after next path
+
+-- edits keep rows in order
+changed_order : (changes : List Change) (rows : List Row) → AreInOrder rows → AreInOrder (changed_by changes rows)
+changed_order [] rows order = order
+changed_order (change ∷ changes) rows order = changed_order changes (put_rows change.rows (rows_without change.target rows)) (puts_order change.rows (rows_without change.target rows) (without_keeps_order change.target rows order))
+
+or_none : (value : Option Value) → or_else value None ≡ value
+or_none None = refl
+or_none (Some value) = refl
+
+-- a path of the schema that ends in a node whose kind has rows of this value
+abbrev EndsAsRow : List SchemaNode → List Seg → Type 0
+EndsAsRow nodes path = (is_path_of nodes path ≡ true) × ((value : Value) × (holds_value nodes (last_node path) value ≡ true))
+
+rows_end : (nodes : List SchemaNode) (rows : List Row) → AllByRecursion (IsRowOf nodes) rows → AllByRecursion (λ row. EndsAsRow nodes row.path) rows
+rows_end nodes [] all = tt
+rows_end nodes (row ∷ rows) all = ((all.0.path, (row.value, all.0.value)), rows_end nodes rows all.1)
+
+-- the node that a row ends in is an entry's, or nothing stands below it
+entry_or_leaf : {A : Type 0} (kind : Kind) (ty : Option LeafType) (value : Value) → value_of_kind kind ty value ≡ true → (is_entry_kind kind ≡ true → A) → (may_hold kind ≡ false → A) → A
+entry_or_leaf Container ty value h entry leaf = absurd (true≢false (sym h))
+entry_or_leaf Presence ty value h entry leaf = entry refl
+entry_or_leaf Listing ty value h entry leaf = entry refl
+entry_or_leaf Leaf ty value h entry leaf = leaf refl
+entry_or_leaf LeafList ty value h entry leaf = leaf refl
+
+node_of_row : {A : Type 0} (nodes : List SchemaNode) (end : Option ℕ) (value : Value) → holds_value nodes end value ≡ true → ((n : ℕ) → end ≡ Some n → value_of_kind (node_at n nodes).kind (node_at n nodes).ty value ≡ true → A) → A
+node_of_row nodes None value h go = absurd (true≢false (sym h))
+node_of_row nodes (Some n) value h go = go n refl (and_parts (not (is_key_node nodes n)) (value_of_kind (node_at n nodes).kind (node_at n nodes).ty value) h).1
+
+module _ (nodes : List SchemaNode) (schema : IsSchema nodes) (old new : List Row) (before : IsDatastore nodes old) (after : IsDatastore nodes new) where
+  -- where a row is gone, none is left below it
+  none_below : (root rest : List Seg) → has_row root old ≡ true → has_row root new ≡ false → is_path_of nodes (root ++ rest) ≡ true → has_row (root ++ rest) new ≡ true → ⊥
+  none_below [] rest was gone down there =
+      let ends = holds_at (EndsAsRow nodes) old [] (rows_end nodes old before.of_schema) was in true≢false (sym ends.0)
+  none_below (seg ∷ root) rest was gone down there =
+      let ends = holds_at (EndsAsRow nodes) old (seg ∷ root) (rows_end nodes old before.of_schema) was in
+      node_of_row nodes (last_node (seg ∷ root)) ends.1.0 ends.1.1 (λ n last of_kind.
+      entry_or_leaf (node_at n nodes).kind (node_at n nodes).ty ends.1.0 of_kind
+      (λ entry. true≢false (sym (after.entries (seg ∷ root) rest refl (ap (last_kind_is is_entry_kind nodes) last ∙ entry) there) ∙ gone))
+      (λ leaf.
+      let below : goes_down nodes (Some n) rest ≡ true = subst (λ (o : Option ℕ). goes_down nodes o rest ≡ true) (sym (last_after seg root) ∙ last) (goes_on nodes None (seg ∷ root) rest down) in
+      let none : rest ≡ [] = leaf_ends nodes schema n rest leaf below in
+      let same : (seg ∷ root) ++ rest ≡ seg ∷ root = ap (λ (more : List Seg). (seg ∷ root) ++ more) none ∙ append-nil (seg ∷ root) in
+      true≢false (sym (subst (λ (p : List Seg). has_row p new ≡ true) same there) ∙ gone)))
+
+  value_gone : (root path : List Seg) → has_row root old ≡ true → has_row root new ≡ false → is_within root path ≡ true → value_at path new ≡ None
+  value_gone root path was gone within =
+      elim (value_at path new) as (λ (v : Option Value). value_at path new ≡ v → v ≡ None) [
+        | None ↦ λ e. refl
+        | Some value ↦ λ e.
+            let found = front_rest root path within in
+            let there : has_row path new ≡ true = ap is_some e in
+            let ends = holds_at (EndsAsRow nodes) new path (rows_end nodes new after.of_schema) there in
+            absurd (none_below root found.0 was gone (subst (λ (p : List Seg). is_path_of nodes p ≡ true) found.1 ends.0) (subst (λ (p : List Seg). has_row p new ≡ true) found.1 there))
+      ] refl
+
+  none_left : (root : List Seg) → has_row root old ≡ true → has_row root new ≡ false → rows_within root new ≡ []
+  none_left root was gone =
+      same_rows (rows_within root new) [] (within_keeps_order root new after.in_order) none_order (λ path.
+      value_at_picked (is_within root) path new
+      ∙ elim (is_within root path) as (λ b. is_within root path ≡ b → cond b (value_at path new) None ≡ None) [
+        | true ↦ λ e. value_gone root path was gone e
+        | false ↦ λ e. refl
+      ] refl)
+
+  -- an edit of a root carries all that is selected at or below it
+  carried : (root : List Seg) → IsThere old new root → carried_rows new root ≡ rows_within root new
+  carried root there =
+      elim (has_row root new) as (λ b. has_row root new ≡ b → (has_row root old || b) ≡ true → cond b (rows_within root new) [] ≡ rows_within root new) [
+        | true ↦ λ e h. refl
+        | false ↦ λ e h. sym (none_left root (left_of (has_row root old) h) e)
+      ] refl there
+    where
+      left_of : (b : Bool) → (b || false) ≡ true → b ≡ true
+      left_of true h = refl
+      left_of false h = h
+
+  -- ---- what edits of roots do
+
+  one_led : (path root : List Seg) (rows : List Row) → carried_rows new root ≡ rows_within root new
+      → value_at path (put_rows (carried_rows new root) (rows_without root rows)) ≡ cond (is_within root path) (value_at path new) (value_at path rows)
+  one_led path root rows is =
+      ap (λ (put : List Row). value_at path (put_rows put (rows_without root rows))) is
+      ∙ value_at_puts path (rows_within root new) (rows_without root rows) (within_keeps_order root new after.in_order)
+      ∙ (λ i. or_else (value_at_picked (is_within root) path new i) (value_at_without path root rows i))
+      ∙ by_place (is_within root path) (value_at path new) (value_at path rows)
+    where
+      by_place : (b : Bool) (one other : Option Value) → or_else (cond b one None) (cond b None other) ≡ cond b one other
+      by_place true one other = or_none one
+      by_place false one other = refl
+
+  -- at each path: the value after the step where a root is at or above it, and else the one before
+  led : (path : List Seg) (roots : List (List Seg)) (rows : List Row) → AllByRecursion (IsThere old new) roots
+      → value_at path (changed_by (map (change_at old new) roots) rows) ≡ cond (is_covered path roots) (value_at path new) (value_at path rows)
+  led path [] rows all = refl
+  led path (root ∷ roots) rows all =
+      led path roots (put_rows (carried_rows new root) (rows_without root rows)) all.1
+      ∙ ap (cond (is_covered path roots) (value_at path new)) (one_led path root rows (carried root all.0))
+      ∙ grouped (is_within root path) (is_covered path roots) (value_at path new) (value_at path rows)
+    where
+      grouped : (a b : Bool) (one other : Option Value) → cond b one (cond a one other) ≡ cond (a || b) one other
+      grouped true true one other = refl
+      grouped true false one other = refl
+      grouped false b one other = refl
+
+  -- the record leads from one datastore to the other
+  pub record_leads : changed_by (change_record old new) old ≡ new
+  record_leads =
+      let roots = roots_of (changed_paths old new) in
+      same_rows (changed_by (change_record old new) old) new (changed_order (change_record old new) old before.in_order) after.in_order (λ path.
+      led path roots old (roots_there old new)
+      ∙ elim (is_covered path roots) as (λ b. is_covered path roots ≡ b → cond b (value_at path new) (value_at path old) ≡ value_at path new) [
+        | true ↦ λ e. refl
+        | false ↦ λ e. uncovered old new path e
+      ] refl)
+
+-- ---- selections
+
+-- the record of a step turns the selection before it into the one after
+pub record_mirrors : (nodes : List SchemaNode) (before after : List Row) → IsSchema nodes → IsDatastore nodes before → IsDatastore nodes after
+    → changed_by (change_record (visible_rows nodes before) (visible_rows nodes after)) (visible_rows nodes before) ≡ visible_rows nodes after
+record_mirrors nodes before after schema old new = record_leads nodes schema (visible_rows nodes before) (visible_rows nodes after) (selection_is nodes before old) (selection_is nodes after new)
+
+-- where the record is empty, the selection stays as it was
+pub no_record : (nodes : List SchemaNode) (before after : List Row) → IsSchema nodes → IsDatastore nodes before → IsDatastore nodes after
+    → change_record (visible_rows nodes before) (visible_rows nodes after) ≡ [] → visible_rows nodes before ≡ visible_rows nodes after
+no_record nodes before after schema old new none = sym (ap (λ (changes : List Change). changed_by changes (visible_rows nodes before)) none) ∙ record_mirrors nodes before after schema old new
+
+-- ---- what is named
+
+either_readable : (nodes : List SchemaNode) (old new : List Row) (path : List Seg) → AllReadable nodes old → AllReadable nodes new → IsThere old new path → is_readable nodes path ≡ true
+either_readable nodes old new path all_old all_new there =
+    or_cases (has_row path old) (has_row path new) there
+    (holds_at (λ p. is_readable nodes p ≡ true) old path all_old)
+    (holds_at (λ p. is_readable nodes p ≡ true) new path all_new)
+
+carried_readable : (nodes : List SchemaNode) (new : List Row) (root : List Seg) → AllReadable nodes new → AllReadable nodes (carried_rows new root)
+carried_readable nodes new root all =
+    elim (has_row root new) as (λ b. AllReadable nodes (cond b (rows_within root new) [])) [
+      | true ↦ all_picked (is_within root) (λ row. is_readable nodes row.path ≡ true) new all
+      | false ↦ tt
+    ]
+
+changes_readable : (nodes : List SchemaNode) (old new : List Row) (roots : List (List Seg)) → AllReadable nodes old → AllReadable nodes new → AllByRecursion (IsThere old new) roots
+    → AllByRecursion (IsReadableChange nodes) (map (change_at old new) roots)
+changes_readable nodes old new [] all_old all_new there = tt
+changes_readable nodes old new (root ∷ roots) all_old all_new there =
+    ((either_readable nodes old new root all_old all_new there.0, carried_readable nodes new root all_new), changes_readable nodes old new roots all_old all_new there.1)
+
+-- the record of a step names nothing that may not be read
+pub record_conceals : (nodes : List SchemaNode) (before after : List Row) → AllByRecursion (IsReadableChange nodes) (change_record (visible_rows nodes before) (visible_rows nodes after))
+record_conceals nodes before after =
+    let old = visible_rows nodes before in
+    let new = visible_rows nodes after in
+    changes_readable nodes old new (roots_of (changed_paths old new)) (selected_readable nodes before) (selected_readable nodes after) (roots_there old new)

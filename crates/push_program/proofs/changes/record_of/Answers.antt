@@ -1,0 +1,16 @@
+use Rattle.std.proofs.Common.{◌∙◌, arith}
+use Rattle.std.proofs.lemmas.List.{drop_all}
+use Rattle.push_program.proofs.Edits.{changes_to, none_made, all_made}
+use Rattle.push_program.proofs.changes.record_of.Goals as goal
+
+pub loop-row-init : goal.loop-row-init
+loop-row-init g c = record {
+  made = none_made c.args.schema.now c.args.rows.now c.args.changed.now c.new-changes.result.items c.new-changes.ensures.items
+      (changes_to c.args.schema.now c.requires.changed.0 c.args.rows.now c.args.changed.now c.requires.changed.1 c.requires.datastore c.requires.changed.2);
+  visits = omega arith;
+}
+
+pub returns-clause-changes : goal.returns-clause-changes
+returns-clause-changes g c = λ before old are.
+    c.from_vec.ensures
+    ∙ all_made c.args.schema.now c.args.rows.now c.args.changed.now before _ _ c.loop-row.changes.items c.loop-row.invariant.made (drop_all c.loop-row.row-index c.args.changed.now c.loop-row-test.false) old are

@@ -1,7 +1,0 @@
-use Rattle.std.proofs.Common.{sym, ap, ◌∙◌}
-use Rattle.yp_schema.specs.Datastore.{last_node}
-use Rattle.push_program.proofs.Ends.{last_node-append}
-use Rattle.push_program.proofs.creation.end_of.Goals as goal
-
-pub returns-in-Some : goal.returns-in-Some
-returns-in-Some c = sym (ap last_node (sym c.items.ensures ∙ c.in-Some.ensures.cases.0) ∙ last_node-append c.in-Some.field-0-1.now c.in-Some.last.now)
