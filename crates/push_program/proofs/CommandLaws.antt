@@ -1,5 +1,5 @@
 -- Commands that are read one after another.
-use Rattle.std.proofs.Common.{◌≡◌, ◌||◌, Bool, List, [], ◌∷◌, ◌++◌, Result, Ok, Err, Option, refl, sym, ap, ◌∙◌, append_assoc, option_and_then}
+use Rattle.std.proofs.Common.{◌≡◌, ◌||◌, Bool, List, [], ◌∷◌, ◌++◌, Result, Ok, Err, refl, sym, ap, ◌∙◌, append_assoc, option_and_then}
 use Rattle.yp_schema.specs.declared.schema.SchemaNode.{SchemaNode}
 use Rattle.push_program.specs.declared.command.Command.{Command}
 use Rattle.push_program.specs.declared.fault.ScriptFault.{ScriptFault}

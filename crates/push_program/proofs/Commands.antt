@@ -18,7 +18,6 @@ use Rattle.yp_path.proofs.Reading.{path_answered}
 use Rattle.yp_data_json.specs.declared.fault.DataFault.{DataFault}
 use Rattle.yp_data_json.specs.AtPath.{rows_read}
 use Rattle.yp_data_json.proofs.Wholes.{read_whole}
-use Rattle.push_program.specs.declared.command.Command.{Command}
 use Rattle.push_program.specs.declared.command.Command.TheVariants.{Create, Establish}
 use Rattle.push_program.specs.declared.fault.ScriptFault.{ScriptFault}
 use Rattle.push_program.specs.declared.script.Script.{Script}

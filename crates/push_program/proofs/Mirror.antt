@@ -1,12 +1,12 @@
 -- A receiver's rows are fresh selection after each update.
-use Rattle.std.proofs.Common.{◌≡◌, ℕ, zero, suc, ◌+◌, ◌≤◌, ◌<◌, Bool, true, false, true≢false, not, ◌&&◌, List, [], ◌∷◌, ◌++◌, take, length, Result, Ok, Err, refl, sym, ap, ◌∙◌, subst, cond, arith, nat_lt, is_some}
+use Rattle.std.proofs.Common.{◌≡◌, ℕ, zero, suc, ◌+◌, ◌<◌, Bool, true, false, true≢false, List, [], ◌∷◌, ◌++◌, take, length, Result, Ok, Err, refl, sym, ap, ◌∙◌, subst, cond, arith, nat_lt}
 use Rattle.std.specs.List.{AllByRecursion}
 use Rattle.yp_base.specs.declared.path.Seg.{Seg}
 use Rattle.yp_base.specs.declared.row.Row.{Row}
 use Rattle.yp_base.specs.declared.notice.Notice.{Notice}
 use Rattle.yp_base.specs.Order.{is_within}
-use Rattle.yp_base.specs.Rows.{AreInOrder, put_rows, has_within, rows_within, rows_without}
-use Rattle.yp_base.proofs.RowLaws.{picked, picked-puts, puts_order, put_to_none, none_order}
+use Rattle.yp_base.specs.Rows.{AreInOrder, put_rows, has_within, rows_within}
+use Rattle.yp_base.proofs.RowLaws.{picked-puts, puts_order, put_to_none, none_order}
 use Rattle.yp_base.proofs.RowLaws.{some_keep_order}
 use Rattle.yp_schema.specs.declared.schema.SchemaNode.{SchemaNode}
 use Rattle.push_program.specs.declared.command.Command.{Command}

@@ -9,7 +9,7 @@ use Rattle.yp_base.specs.Rows.{has_within, rows_within, rows_without}
 use Rattle.yp_base.proofs.Exact.{segments_decide}
 use Rattle.yp_base.proofs.RowLaws.{picked}
 use Rattle.yp_schema.specs.declared.schema.SchemaNode.{SchemaNode}
-use Rattle.push_program.specs.Access.{is_open, is_readable, visible_rows}
+use Rattle.push_program.specs.Access.{is_open, is_readable}
 use Rattle.push_program.specs.Received.{AllWithin}
 
 pub both : (a b : Bool) → (a && b) ≡ true → (a ≡ true) × (b ≡ true)

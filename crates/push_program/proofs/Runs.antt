@@ -1,16 +1,13 @@
 -- A run of commands, as far as it has come.
-use Rattle.std.proofs.Common.{◌≡◌, ℕ, ◌+◌, Bool, true, false, List, [], ◌∷◌, ◌++◌, Result, Ok, Err, refl, sym, ap, ◌∙◌, subst, cond, append_assoc, append-nil, string_bytes}
+use Rattle.std.proofs.Common.{◌≡◌, ℕ, ◌+◌, false, List, [], ◌∷◌, ◌++◌, sym, ap, ◌∙◌, subst, append_assoc, append-nil, string_bytes}
 use Rattle.std.specs.List.{AllByRecursion}
-use Rattle.yp_base.specs.declared.path.Seg.{Seg}
 use Rattle.yp_base.specs.declared.row.Row.{Row}
-use Rattle.yp_base.specs.Rows.{put_row, put_rows, rows_without}
 use Rattle.yp_schema.specs.declared.schema.SchemaNode.{SchemaNode}
 use Rattle.yp_schema.specs.Datastore.{IsRowOf}
 use Rattle.push_program.specs.declared.command.Command.{Command}
-use Rattle.push_program.specs.declared.command.Command.TheVariants.{Create, Establish}
 use Rattle.push_program.specs.declared.progress.Progress.{Progress}
 use Rattle.push_program.specs.Journal.{rows_after, reply_to}
-use Rattle.push_program.specs.Notices.{Made, made_at, made_from, made_by, lives_after}
+use Rattle.push_program.specs.Notices.{made_at, made_from, made_by, lives_after}
 use Rattle.push_program.specs.Progress.{Advances, Ends}
 use Rattle.push_program.specs.Received.{received, IsCommand}
 use Rattle.push_program.specs.Report.{reply_line, reply_lines, sent_lines}

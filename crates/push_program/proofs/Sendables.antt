@@ -1,18 +1,17 @@
 -- What a receiver is sent can be written.
-use Rattle.std.proofs.Common.{◌≡◌, Bool, true, false, true≢false, List, [], ◌∷◌, Some, None, is_some, refl, sym, ap, ◌∙◌, cond}
+use Rattle.std.proofs.Common.{◌≡◌, Bool, true, false, true≢false, List, [], ◌∷◌, Some, is_some, refl, sym, ap, ◌∙◌, cond}
 use Rattle.std.specs.List.{AllByRecursion}
 use Rattle.std.specs.Ordering.{is_eq}
 use Rattle.std.proofs.lemmas.Map.Views.{tells_apart}
 use Rattle.yp_base.specs.declared.path.Seg.{Seg}
 use Rattle.yp_base.specs.declared.row.Row.{Row}
-use Rattle.yp_base.specs.declared.notice.Change.{Change}
 use Rattle.yp_base.specs.Order.{path_cmp, is_within}
-use Rattle.yp_base.specs.Rows.{AreInOrder, value_at, put_row, put_rows}
+use Rattle.yp_base.specs.Rows.{AreInOrder, value_at}
 use Rattle.yp_base.proofs.Exact.{paths_exact}
 use Rattle.yp_base.proofs.RowLaws.{picked}
 use Rattle.yp_base.proofs.RowLaws.{some_keep_order}
 use Rattle.yp_schema.specs.declared.schema.SchemaNode.{SchemaNode}
-use Rattle.yp_schema.specs.Datastore.{is_path_of, is_place, has_row, ends_in_leaf, IsRowOf, AreWritable, AreWhole}
+use Rattle.yp_schema.specs.Datastore.{has_row, IsRowOf, AreWritable, AreWhole}
 use Rattle.push_program.specs.Access.{is_readable, visible_rows}
 use Rattle.push_program.proofs.Picks.{all_picked}
 

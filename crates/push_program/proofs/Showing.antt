@@ -1,10 +1,8 @@
 -- What is shown of commands.
 use Rattle.std.proofs.Common.{◌≡◌, ℕ, ◌+◌, Bool, true, false, true≢false, ◌||◌, List, [], ◌∷◌, ◌++◌, Result, Ok, Err, is_ok, refl, sym, ap, ◌∙◌, cond, append_assoc, append-nil}
-use Rattle.std.specs.List.{AllByRecursion}
 use Rattle.yp_base.specs.declared.path.Seg.{Seg}
 use Rattle.yp_base.specs.declared.row.Row.{Row}
-use Rattle.yp_base.specs.declared.notice.Change.{Change}
-use Rattle.yp_base.specs.declared.notice.Notice.TheVariants.{Full, Changes}
+use Rattle.yp_base.specs.declared.notice.Notice.TheVariants.{Changes}
 use Rattle.yp_base.specs.Rows.{AreInOrder, rows_within}
 use Rattle.yp_schema.specs.declared.schema.SchemaNode.{SchemaNode}
 use Rattle.yp_schema.specs.Datastore.{AreWhole}
@@ -13,7 +11,7 @@ use Rattle.push_program.specs.declared.command.Command.TheVariants.{Create, Esta
 use Rattle.push_program.specs.declared.command.Tag.{Tag}
 use Rattle.push_program.specs.Access.{is_readable, visible_rows}
 use Rattle.push_program.specs.Journal.{created, rows_or, rows_after}
-use Rattle.push_program.specs.Notices.{Made, selection, created_change, creation_of, change_record, made_at, lives_after, made_from, made_by}
+use Rattle.push_program.specs.Notices.{Made, selection, created_change, creation_of, change_record, made_from, made_by}
 use Rattle.push_program.specs.Received.{received, heard}
 use Rattle.push_program.specs.Report.{sent_line, sent_lines, tree_line, tree_lines}
 use Rattle.push_program.specs.Shown.{shown_changes, lives_through, are_made}

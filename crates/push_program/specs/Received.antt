@@ -1,5 +1,5 @@
 -- What a receiver holds of a subscription: the fold of its notices (RFC 8641 section 3.7).
-use Rattle.std.specs.Prelude.{◌≡◌, ℕ, List, [], ◌∷◌, ◌++◌, take, true, false}
+use Rattle.std.specs.Prelude.{◌≡◌, List, [], ◌∷◌, ◌++◌, take, true, false}
 use Rattle.std.specs.List.{AllByRecursion}
 use Rattle.yp_base.specs.declared.path.Seg.{Seg}
 use Rattle.yp_base.specs.declared.row.Row.{Row}

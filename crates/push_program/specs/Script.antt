@@ -1,15 +1,12 @@
 -- A script: one start line, one or more schema lines, one receiver line, and then commands; the first line that is not of its form at its place is the fault.
-use Rattle.std.specs.Prelude.{ℕ, ◌+◌, ◌||◌, ◌≡◌, List, [], ◌∷◌, length, map, take, get_or, Bool, true, false, Option, Some, None, option_and_then, Result, Ok, Err}
+use Rattle.std.specs.Prelude.{ℕ, ◌+◌, ◌||◌, List, [], ◌∷◌, length, take, get_or, Bool, true, false, Option, Some, None, option_and_then, Result, Ok, Err}
 use Rattle.serde_json.specs.Data.{Data}
-use Rattle.yp_base.specs.declared.path.Seg.{Seg}
 use Rattle.yp_schema.specs.declared.schema.SchemaNode.{SchemaNode}
 use Rattle.yp_schema.specs.declared.fault.SchemaFault.{SchemaFault}
 use Rattle.yp_schema.specs.declared.fault.SchemaFault.TheVariants as schema
 use Rattle.yp_schema.specs.Reading.{schema_of}
 use Rattle.push_program.specs.declared.command.Command.{Command}
 use Rattle.push_program.specs.declared.command.Command.TheVariants.{Create, Establish}
-use Rattle.push_program.specs.declared.form.Receiver.{Receiver}
-use Rattle.push_program.specs.declared.fault.ScriptKind.{ScriptKind}
 use Rattle.push_program.specs.declared.fault.ScriptKind.TheVariants.{UnknownCommand, Order}
 use Rattle.push_program.specs.declared.fault.ScriptFault.{ScriptFault}
 use Rattle.push_program.specs.declared.fault.ScriptFault.TheVariants.{At, Memory}

@@ -1,29 +1,26 @@
 -- What is read is data of the schema, and the rows that it adds are those that the data hold.
-use Rattle.std.proofs.Common.{◌≡◌, ℕ, ◌<◌, length, List, [], ◌∷◌, ◌++◌, Bool, true, false, true≢false, refl, sym, ap, subst, ◌∙◌, cond, inl, inr, ⊎_elim, append-nil, append_assoc}
-use Rattle.std.specs.Prelude.{◌⊎◌, Option, Some, None, is_some, Result, Ok, Err, if◌then◌else◌}
+use Rattle.std.proofs.Common.{◌≡◌, ℕ, ◌<◌, length, List, [], ◌∷◌, true, false, true≢false, refl, sym, ap, subst, ◌∙◌, cond, inl, inr, ⊎_elim}
+use Rattle.std.specs.Prelude.{◌⊎◌, Option, Some, None, is_some, Ok, Err, if◌then◌else◌}
 use Rattle.yp_base.specs.declared.atom.Atom.{Atom}
 use Rattle.yp_base.specs.declared.path.Seg.{Seg}
 use Rattle.yp_base.specs.declared.row.Value.{Value}
-use Rattle.yp_base.specs.declared.row.Value.TheVariants.{Atom as Plain, Member, Present}
+use Rattle.yp_base.specs.declared.row.Value.TheVariants.{Member, Present}
 use Rattle.yp_base.specs.declared.row.Row.{Row}
 use Rattle.yp_base.specs.Rows.{value_at, put_row}
 use Rattle.yp_schema.specs.declared.schema.SchemaNode.{SchemaNode}
-use Rattle.yp_schema.specs.declared.schema.Kind.{Kind}
 use Rattle.yp_schema.specs.declared.schema.Kind.TheVariants.{Container, Presence, List as Listing, Leaf, LeafList}
-use Rattle.yp_schema.specs.Nodes.{node_at, child_of, is_key, is_in}
+use Rattle.yp_schema.specs.Nodes.{node_at, child_of, is_key}
 use Rattle.yp_schema.specs.WellFormed.{IsSchema, is_empty, kind_stands}
 use Rattle.std.proofs.lemmas.Bool.{and_parts}
 use Rattle.serde_json.specs.Data.{Data, null, boolean, number, string, array, object, Items, no_items, item, Members, no_members, member}
 use Rattle.serde_json.specs.Find.{get_member}
-use Rattle.yp_data_json.specs.declared.fault.DataFault.{DataFault}
-use Rattle.yp_data_json.specs.declared.fault.DataFault.TheVariants.{UnknownElement, InvalidValue, MissingKey, RepeatedKey}
+use Rattle.yp_data_json.specs.declared.fault.DataFault.TheVariants.{UnknownElement, InvalidValue, RepeatedKey}
 use Rattle.yp_data_json.specs.Reading.{◌>>=◌, typed_value, typed_atom, keys_in, below, row_at, leaf_read, entered, value_read, values_read, in_object, in_array, in_plain, plain_read, for_child, members_read, node_read, entries_read, entry_read}
-use Rattle.yp_data_json.specs.Holding.{HasNamesOnce, ItemsHaveNamesOnce, MembersHaveNamesOnce, IsOfType, IsValue, HasKeys, IsEntryWith, IsAtomOf, NoneIs, AreApart, OfKind, AreAtomsOf, AreMembersOf, IsDataOf, AreEntriesOf, IsEntryOf, IsLeafRow, ValuesHold, MembersHold, DataHolds, EntriesHold, EntryHolds}
-use Rattle.yp_data_json.proofs.PutRows.{put_there}
+use Rattle.yp_data_json.specs.Holding.{HasNamesOnce, ItemsHaveNamesOnce, MembersHaveNamesOnce, IsValue, IsEntryWith, IsAtomOf, NoneIs, AreApart, OfKind, AreAtomsOf, AreMembersOf, IsDataOf, AreEntriesOf, IsEntryOf, IsLeafRow, ValuesHold, MembersHold, DataHolds, EntriesHold, EntryHolds}
 use Rattle.yp_data_json.proofs.Readings.{bound, ok_rows, given, child_is}
 use Rattle.yp_data_json.proofs.ReadStands.{entered_is}
 use Rattle.yp_data_json.proofs.Whole.{no_key_in}
-use Rattle.yp_data_json.proofs.Adding.{Among, Adds, adds_none, adds_on, adds_as, adds_put, FreeBelow, Free, still_none, still_free, was_none, some_stays, some_none, same_node, same_keys, none_here, free_inside, put_free}
+use Rattle.yp_data_json.proofs.Adding.{Adds, adds_none, adds_on, adds_as, adds_put, FreeBelow, Free, still_free, was_none, some_stays, some_none, same_node, same_keys, none_here, free_inside, put_free}
 use Rattle.yp_data_json.proofs.Held.{typed_is, atom_is, one_value, one_atom, keys_are, one_keys, one_entry, get_here, get_later, some_later, child_named, key_of, data_stands, entry_at}
 
 -- ---- one row

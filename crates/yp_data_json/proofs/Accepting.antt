@@ -1,5 +1,5 @@
 -- Data of a schema is read.
-use Rattle.std.proofs.Common.{◌≡◌, ℕ, ◌<◌, length, List, [], ◌∷◌, ◌++◌, Bool, true, false, true≢false, refl, sym, ap, subst, ◌∙◌, cond, append-nil}
+use Rattle.std.proofs.Common.{◌≡◌, ℕ, ◌<◌, length, List, [], ◌∷◌, ◌++◌, Bool, true, false, refl, sym, ap, subst, ◌∙◌, cond, append-nil}
 use Rattle.std.specs.Prelude.{◌==◌, option_map, Option, Some, None, is_some, Result, Ok, Err, if◌then◌else◌}
 use Rattle.yp_base.specs.declared.atom.Atom.{Atom}
 use Rattle.yp_base.specs.declared.leaf_type.LeafType.{LeafType}
@@ -11,20 +11,19 @@ use Rattle.yp_base.specs.declared.row.Row.{Row}
 use Rattle.yp_base.specs.Rows.{value_at, put_row}
 use Rattle.yp_base.specs.Json.{value_in}
 use Rattle.yp_schema.specs.declared.schema.SchemaNode.{SchemaNode}
-use Rattle.yp_schema.specs.declared.schema.Kind.{Kind}
 use Rattle.yp_schema.specs.declared.schema.Kind.TheVariants.{Container, Presence, List as Listing, Leaf, LeafList}
 use Rattle.yp_schema.specs.Nodes.{node_at, child_of, is_key}
 use Rattle.yp_schema.specs.WellFormed.{IsSchema}
 use Rattle.serde_json.specs.Data.{Data, null, boolean, number, string, array, object, Items, no_items, item, Members, no_members, member}
 use Rattle.serde_json.specs.Find.{get_member}
 use Rattle.yp_data_json.specs.declared.fault.DataFault.{DataFault}
-use Rattle.yp_data_json.specs.declared.fault.DataFault.TheVariants.{UnknownElement, InvalidValue, MissingKey, RepeatedKey}
+use Rattle.yp_data_json.specs.declared.fault.DataFault.TheVariants.{UnknownElement, InvalidValue}
 use Rattle.yp_data_json.specs.Reading.{◌>>=◌, typed_value, typed_atom, keys_in, below, row_at, leaf_read, entered, value_read, values_read, in_object, in_array, in_plain, plain_read, for_child, members_read, node_read, entries_read, entry_read}
-use Rattle.yp_data_json.specs.Holding.{HasNamesOnce, ItemsHaveNamesOnce, MembersHaveNamesOnce, IsOfType, IsValue, HasKeys, IsEntryWith, IsAtomOf, NoneIs, AreApart, OfKind, AreAtomsOf, AreMembersOf, IsDataOf, AreEntriesOf, IsEntryOf, MembersHold, EntryHolds}
+use Rattle.yp_data_json.specs.Holding.{HasNamesOnce, ItemsHaveNamesOnce, MembersHaveNamesOnce, IsOfType, IsValue, IsEntryWith, IsAtomOf, NoneIs, AreApart, OfKind, AreAtomsOf, AreMembersOf, IsDataOf, AreEntriesOf, IsEntryOf, EntryHolds}
 use Rattle.yp_data_json.proofs.Readings.{child_is}
-use Rattle.yp_data_json.proofs.Adding.{Among, Adds, FreeBelow, Free, still_none, same_keys, none_here, free_inside}
+use Rattle.yp_data_json.proofs.Adding.{Adds, Free, still_none, same_keys, none_here}
 use Rattle.yp_data_json.proofs.Held.{typed_of, atom_of, one_entry, one_atom, keys_give, get_here, child_named, entry_at}
-use Rattle.yp_data_json.proofs.Accepted.{Fresh, one_accepted, fresh_later, fresh_inside, fresh_put, Owned, EntryRead, owned_on, node_accepted, entry_accepted, IsMemberOf, OneHolds, IsMemberRow, value_accepted}
+use Rattle.yp_data_json.proofs.Accepted.{Fresh, one_accepted, fresh_later, fresh_inside, fresh_put, Owned, owned_on, node_accepted, entry_accepted, IsMemberRow, value_accepted}
 
 -- rows that a reading gives
 abbrev pub Gives : Result (List Row) DataFault → Type 0

@@ -1,17 +1,11 @@
 -- Rows that come to others, as a set.
-use Rattle.std.proofs.Common.{◌≡◌, ℕ, List, [], ◌∷◌, ◌++◌, Bool, true, false, true≢false, refl, sym, ap, subst, ◌∙◌, cond, append_assoc, append-nil, inl, inr, ⊎_elim}
+use Rattle.std.proofs.Common.{◌≡◌, ℕ, List, [], ◌∷◌, ◌++◌, true, false, true≢false, refl, sym, ap, subst, ◌∙◌, append_assoc, append-nil, inl, inr, ⊎_elim}
 use Rattle.std.specs.Prelude.{◌⊎◌, Option, Some, None, is_some}
-use Rattle.std.specs.Ordering.{is_eq}
-use Rattle.std.specs.declared.cmp.Ordering.{Ordering}
-use Rattle.std.proofs.lemmas.Cmp.{tied_itself}
 use Rattle.yp_base.specs.declared.atom.Atom.{Atom}
 use Rattle.yp_base.specs.declared.path.Seg.{Seg}
 use Rattle.yp_base.specs.declared.row.Value.{Value}
 use Rattle.yp_base.specs.declared.row.Row.{Row}
-use Rattle.yp_base.specs.Order.{path_cmp}
-use Rattle.yp_base.specs.OrderLaws.{paths_total}
 use Rattle.yp_base.specs.Rows.{value_at, put_row}
-use Rattle.yp_base.proofs.RowLaws.{value_at_put}
 use Rattle.yp_data_json.specs.Reading.{below, row_at}
 use Rattle.yp_data_json.proofs.PutRows.{put_there, put_elsewhere, same_or_apart}
 

@@ -1,5 +1,5 @@
 -- What is written of a forest is read again as its rows.
-use Rattle.std.proofs.Common.{◌≡◌, ℕ, ◌<◌, List, [], ◌∷◌, ◌++◌, length, Bool, true, false, Option, Some, None, is_some, map, refl, sym, ap, ◌∙◌, subst, Ok, Err, Result, arith, rules, cond, append_assoc, append-nil, true≢false, Ordering, Less, Equal, Greater, nat_cmp, ◌&&◌}
+use Rattle.std.proofs.Common.{◌≡◌, ℕ, ◌<◌, List, [], ◌∷◌, ◌++◌, length, Bool, true, false, Option, Some, None, is_some, refl, sym, ap, ◌∙◌, subst, Ok, Err, Result, cond, append_assoc, append-nil, true≢false, Ordering, Less, Equal, Greater, nat_cmp}
 use Rattle.std.specs.Cmp.Lexicographic.{slice_cmp, pointwise}
 use Rattle.std.specs.Prelude.{nat_eq}
 use Rattle.std.specs.Ordering.{match_ordering, is_eq}
@@ -16,8 +16,8 @@ use Rattle.yp_base.specs.declared.atom.Atom.TheVariants.{Bool as Truth, Int, Uin
 use Rattle.yp_base.specs.declared.leaf_type.LeafType.{LeafType}
 use Rattle.yp_base.specs.Types.{is_type}
 use Rattle.yp_base.specs.Texts.{atom_text}
-use Rattle.yp_base.specs.Json.{value_in, value_data, value_fits, atom_data, has_string_numbers}
-use Rattle.yp_base.specs.Rows.{put_row, value_at, path_of, AreInOrder}
+use Rattle.yp_base.specs.Json.{value_data, has_string_numbers}
+use Rattle.yp_base.specs.Rows.{put_row, value_at, AreInOrder}
 use Rattle.yp_base.proofs.JsonLaws.{json_again}
 use Rattle.yp_schema.specs.Nodes.{node_at, child_of, is_key}
 use Rattle.yp_schema.specs.WellFormed.{IsSchema}
@@ -30,11 +30,11 @@ use Rattle.serde_json.specs.Find.{get_member, of_integer}
 use Rattle.serde_json.proofs.Views.{get_member-put, get_member-put_other}
 use Rattle.yp_data_json.specs.declared.fault.DataFault.{DataFault}
 use Rattle.yp_data_json.specs.declared.fault.DataFault.TheVariants.{UnknownElement}
-use Rattle.yp_data_json.specs.Reading.{◌>>=◌, valid, typed_value, only_atom, typed_atom, key_in, KeyFault, at_key, both, keys_found, fault_alone, keys_in, below, row_at, leaf_read, entered, value_read, values_read, for_child, in_object, in_array, in_plain, members_read, node_read, entries_read, entry_read}
+use Rattle.yp_data_json.specs.Reading.{◌>>=◌, valid, typed_value, only_atom, typed_atom, key_in, at_key, both, keys_found, fault_alone, keys_in, below, row_at, leaf_read, entered, value_read, values_read, for_child, members_read, node_read, entries_read, entry_read}
 use Rattle.yp_data_json.specs.Forest.{Forest, bare, branch}
 use Rattle.yp_data_json.specs.Writing.{leaf_data, key_data, one_key_data, with_keys, item_in_front, branch_members, members_in}
 use Rattle.yp_data_json.proofs.LastRows.{put_last_row, not_there_yet}
-use Rattle.yp_data_json.proofs.RowsIn.{own_rows, rows_in, front_cmp}
+use Rattle.yp_data_json.proofs.RowsIn.{rows_in, front_cmp}
 use Rattle.yp_data_json.proofs.Fits.{BranchFits, Fits, KeysStand, keys_stand}
 use Rattle.yp_data_json.proofs.Schemas.{type_is}
 

@@ -1,7 +1,7 @@
 -- Rows below one node.
-use Rattle.std.proofs.Common.{◌≡◌, ◌≢◌, ℕ, ◌+◌, ◌-◌, ◌<◌, ◌≤◌, List, [], ◌∷◌, ◌++◌, length, drop, map, Bool, true, false, true≢false, Option, Some, None, refl, sym, ap, subst, ◌∙◌, cond, arith, nat_eq, nat_lt, Ordering, Less, Equal, Greater, nat_cmp, ◌&&◌}
+use Rattle.std.proofs.Common.{◌≡◌, ◌≢◌, ℕ, ◌+◌, ◌-◌, ◌<◌, ◌≤◌, List, [], ◌∷◌, ◌++◌, length, drop, map, Bool, true, false, true≢false, Option, Some, None, refl, sym, ap, subst, ◌∙◌, arith, nat_lt, Ordering, Less, Equal, Greater, nat_cmp, ◌&&◌}
 use Rattle.std.specs.Cmp.Lexicographic.{slice_cmp}
-use Rattle.std.specs.Ordering.{ordering_then, is_lt, is_eq}
+use Rattle.std.specs.Ordering.{ordering_then}
 use Rattle.std.specs.List.{AllByRecursion}
 use Rattle.std.specs.List.Sorted.{IsStrictlySortedBy}
 use Rattle.std.proofs.lemmas.Cmp.{tied_itself}
@@ -12,15 +12,15 @@ use Rattle.std.specs.Cmp.{ranked}
 use Rattle.yp_base.specs.declared.path.Seg.{Seg}
 use Rattle.yp_base.specs.declared.row.Value.{Value}
 use Rattle.yp_base.specs.declared.row.Row.{Row}
-use Rattle.yp_base.specs.Order.{atom_cmp, path_cmp, segment_cmp}
+use Rattle.yp_base.specs.Order.{atom_cmp, path_cmp}
 use Rattle.yp_base.specs.OrderLaws.{segments_total}
 use Rattle.yp_schema.specs.declared.schema.SchemaNode.{SchemaNode}
 use Rattle.yp_schema.specs.Nodes.{node_at, same_number}
 use Rattle.yp_schema.specs.WellFormed.{IsSchema}
 use Rattle.yp_schema.specs.Datastore.{goes_down, is_segment, keys_of_kind}
 use Rattle.serde_json.specs.Data.{Data, Members, member}
-use Rattle.yp_data_json.specs.Runs.{EndsWell, IsRest, rest_of, AreBelow, begins_with, goes_through, AllGoThrough, ends_through, HasSegment, StandsBefore}
-use Rattle.yp_data_json.proofs.Parts.{all_front, all_back, all_mapped, sorted_front, sorted_back, less_middle}
+use Rattle.yp_data_json.specs.Runs.{EndsWell, IsRest, rest_of, AreBelow, begins_with, goes_through, ends_through, HasSegment, StandsBefore}
+use Rattle.yp_data_json.proofs.Parts.{all_front, all_back, sorted_front, sorted_back, less_middle}
 
 -- ---- parts of a test
 

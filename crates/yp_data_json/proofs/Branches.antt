@@ -1,5 +1,5 @@
 -- Rows with one segment make one branch of a forest.
-use Rattle.std.proofs.Common.{◌≡◌, ℕ, ◌+◌, List, [], ◌∷◌, ◌++◌, Bool, true, false, true≢false, Option, Some, None, refl, sym, ap, subst, ◌∙◌, cond, drop}
+use Rattle.std.proofs.Common.{◌≡◌, ℕ, ◌+◌, List, [], ◌∷◌, ◌++◌, Bool, true, false, Option, None, refl, sym, ap, subst, ◌∙◌, cond, drop}
 use Rattle.std.specs.Ordering.{eq_by_cmp, is_eq}
 use Rattle.std.specs.List.{AllByRecursion}
 use Rattle.std.proofs.lemmas.Cmp.{tied_itself}
@@ -10,7 +10,7 @@ use Rattle.yp_base.specs.Order.{segment_cmp}
 use Rattle.yp_base.specs.OrderLaws.{segments_total}
 use Rattle.yp_base.proofs.Exact.{segments_decide}
 use Rattle.yp_data_json.specs.Forest.{Forest, bare, branch, own_of, in_front, laid, laid_all, forest_at}
-use Rattle.yp_data_json.specs.Runs.{HasSegment, StartsApart}
+use Rattle.yp_data_json.specs.Runs.{HasSegment}
 
 -- the first branch, if there is one, has another segment
 abbrev pub StartsElse : Seg → Forest → Type 0

@@ -1,6 +1,6 @@
 -- Faults that are answered.
 use Rattle.std.proofs.Common.{◌≡◌, refl}
-use Rattle.std.specs.Prelude.{Result, Ok, Err}
+use Rattle.std.specs.Prelude.{Result, Err}
 use Rattle.yp_data_json.specs.declared.fault.DataFault.{DataFault}
 use Rattle.yp_data_json.specs.declared.fault.DataFault.TheVariants.{UnknownElement, InvalidValue, MissingKey, RepeatedKey, Memory}
 use Rattle.yp_data_json.specs.Reading.{Fails}

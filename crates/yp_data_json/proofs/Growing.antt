@@ -1,6 +1,6 @@
 -- What is read below a place are rows that stand there.
-use Rattle.std.proofs.Common.{◌≡◌, ℕ, ◌<◌, length, List, [], ◌∷◌, ◌++◌, Bool, true, false, ◌&&◌, refl, sym, ap, subst, ◌∙◌, append_assoc, arith}
-use Rattle.std.specs.Prelude.{Option, Some, None, is_some, Result, Ok, Err, nat_lt, not}
+use Rattle.std.proofs.Common.{◌≡◌, ℕ, List, [], ◌∷◌, ◌++◌, true, refl, sym, ap, subst, ◌∙◌}
+use Rattle.std.specs.Prelude.{Option, Some, None, is_some}
 use Rattle.std.specs.List.{AllByRecursion}
 use Rattle.std.specs.Ordering.{eq_by_cmp, is_eq}
 use Rattle.std.proofs.lemmas.Cmp.{tied_itself}
@@ -14,7 +14,7 @@ use Rattle.yp_base.specs.Order.{is_front, is_within, segment_cmp}
 use Rattle.yp_base.specs.Rows.{AreInOrder, put_row}
 use Rattle.yp_schema.specs.declared.schema.SchemaNode.{SchemaNode}
 use Rattle.yp_schema.specs.Nodes.{node_at, same_number}
-use Rattle.yp_schema.specs.Datastore.{keys_of_kind, is_segment, goes_down, is_path_of, last_node, is_key_node, value_of_kind, holds_value, IsRowOf, ends_in_entry, has_row, HaveEntries}
+use Rattle.yp_schema.specs.Datastore.{is_segment, goes_down, is_path_of, last_node, IsRowOf, ends_in_entry, has_row, HaveEntries}
 use Rattle.yp_data_json.specs.Reading.{below, row_at}
 use Rattle.yp_data_json.proofs.PutRows.{all_put, put_in_order, put_there, put_elsewhere, same_or_apart, put_keeps}
 

@@ -1,9 +1,8 @@
 -- Values, keys and members by the definitions of what data says, and by those of the reading.
-use Rattle.std.proofs.Common.{◌≡◌, ℕ, ◌<◌, length, List, [], ◌∷◌, ◌++◌, Bool, true, false, true≢false, ◌&&◌, ◌||◌, nat_eq, refl, sym, ap, subst, ◌∙◌, cond, append-nil, append_assoc, ⊎_elim, arith, nat_cmp}
-use Rattle.std.specs.Prelude.{Option, Some, None, is_some, Result, Ok, Err}
-use Rattle.std.specs.Cmp.Lexicographic.{slice_cmp, pointwise}
+use Rattle.std.proofs.Common.{◌≡◌, ℕ, ◌<◌, length, List, [], ◌∷◌, ◌++◌, true, false, true≢false, ◌||◌, nat_eq, refl, sym, ap, subst, ◌∙◌, append-nil, append_assoc, ⊎_elim, arith, nat_cmp}
+use Rattle.std.specs.Prelude.{Option, Some, None, is_some, Result, Ok}
+use Rattle.std.specs.Cmp.Lexicographic.{slice_cmp}
 use Rattle.std.specs.Ordering.{is_eq, match_ordering}
-use Rattle.std.specs.declared.cmp.Ordering.{Ordering}
 use Rattle.std.specs.declared.cmp.Ordering.TheVariants.{Less, Equal, Greater}
 use Rattle.std.proofs.lemmas.Cmp.{nat_list_cmp_total, tied_itself}
 use Rattle.std.proofs.lemmas.Map.Text.{is_eq-slice_cmp}
@@ -19,13 +18,13 @@ use Rattle.yp_base.specs.Json.{value_in}
 use Rattle.yp_schema.specs.declared.schema.SchemaNode.{SchemaNode}
 use Rattle.yp_schema.specs.declared.schema.Kind.{Kind}
 use Rattle.yp_schema.specs.declared.schema.Kind.TheVariants.{Container, Presence, List as Listing, Leaf, LeafList}
-use Rattle.yp_schema.specs.Nodes.{node_at, same_number, child_of, is_child, is_key, is_in}
-use Rattle.yp_schema.specs.WellFormed.{IsSchema, is_leaf, is_key_leaf}
+use Rattle.yp_schema.specs.Nodes.{node_at, child_of, is_child, is_key, is_in}
+use Rattle.yp_schema.specs.WellFormed.{IsSchema, is_leaf}
 use Rattle.serde_json.specs.Data.{Data, null, boolean, number, string, array, object, Items, no_items, item, Members, no_members, member}
 use Rattle.serde_json.specs.Find.{get_member}
 use Rattle.yp_data_json.specs.declared.fault.DataFault.{DataFault}
-use Rattle.yp_data_json.specs.Reading.{◌>>=◌, valid, typed_value, only_atom, typed_atom, key_in, KeyFault, at_key, both, keys_found, fault_alone, keys_in, below, row_at}
-use Rattle.yp_data_json.specs.Holding.{MembersHaveNamesOnce, IsOfType, IsValue, HasKey, HasKeys, IsEntryWith, IsAtomOf, OfKind, IsDataOf, IsLeafRow, ValuesHold, MembersHold, DataHolds, EntriesHold, EntryHolds}
+use Rattle.yp_data_json.specs.Reading.{◌>>=◌, valid, typed_value, only_atom, typed_atom, key_in, at_key, both, keys_found, fault_alone, keys_in, below, row_at}
+use Rattle.yp_data_json.specs.Holding.{IsOfType, IsValue, HasKey, HasKeys, IsEntryWith, OfKind, IsDataOf, IsLeafRow, ValuesHold, MembersHold, DataHolds, EntriesHold, EntryHolds}
 use Rattle.yp_data_json.proofs.Readings.{bound, valid_some, only_is, at_key_ok, both_ok, alone_ok, found_place}
 use Rattle.yp_data_json.proofs.Steps.{key_leaves}
 use Rattle.yp_data_json.proofs.Whole.{key_among}

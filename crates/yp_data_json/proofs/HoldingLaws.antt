@@ -1,9 +1,9 @@
 -- What the reading gives at a place, in the words of the data alone.
-use Rattle.std.proofs.Common.{◌≡◌, ℕ, ◌<◌, length, List, [], ◌∷◌, ◌++◌, Bool, true, false, true≢false, refl, sym, ap, subst, ◌∙◌, cond, inl, inr, ⊎_elim, append_assoc}
-use Rattle.std.specs.Prelude.{◌↔◌, ◌⊎◌, Option, Some, None, is_some, Result, Ok, Err, Contains, nat_eq, if◌then◌else◌}
+use Rattle.std.proofs.Common.{◌≡◌, ℕ, ◌<◌, length, List, [], ◌∷◌, ◌++◌, Bool, true, false, true≢false, refl, sym, ap, subst, ◌∙◌, cond, inl, ⊎_elim}
+use Rattle.std.specs.Prelude.{◌↔◌, ◌⊎◌, Some, None, is_some, Result, Ok, Err, Contains, nat_eq, if◌then◌else◌}
 use Rattle.std.specs.Cmp.Lexicographic.{pointwise}
 use Rattle.std.proofs.lemmas.Slice.Eq.{bytes_eq-Decides}
-use Rattle.serde_json.specs.Data.{Data, null, boolean, number, string, array, object, Items, no_items, item, Members, no_members, member}
+use Rattle.serde_json.specs.Data.{Data, null, boolean, number, string, array, object, no_items, item, Members, no_members, member}
 use Rattle.serde_json.specs.Find.{get_member}
 use Rattle.yp_base.specs.Rows.{AreInOrder}
 use Rattle.yp_base.specs.declared.atom.Atom.{Atom}
@@ -21,9 +21,9 @@ use Rattle.yp_data_json.specs.declared.fault.DataFault.TheVariants.{UnknownEleme
 use Rattle.yp_data_json.specs.Reading.{◌>>=◌, typed_atom, keys_in, below, row_at, entered, value_read, members_read, node_read, entry_read}
 use Rattle.yp_data_json.specs.AtPath.{are_keys, named_entry, named_value, array_of_one, by_kind, named_read, outer_read, is_bare, object_read, rows_read}
 use Rattle.yp_data_json.specs.Writing.{last_segment}
-use Rattle.yp_data_json.specs.Holding.{HasNamesOnce, MembersHaveNamesOnce, IsEntryWith, IsAtomOf, OfKind, AreMembersOf, IsDataOf, IsEntryOf, ValuesHold, MembersHold, DataHolds, EntriesHold, EntryHolds, IsOneItem, IsNamed, IsOneMember, SomeHolds, above_last, IsDataAt, HoldsAt, IsObject}
+use Rattle.yp_data_json.specs.Holding.{HasNamesOnce, MembersHaveNamesOnce, IsEntryWith, IsAtomOf, OfKind, IsDataOf, IsEntryOf, DataHolds, EntryHolds, IsOneItem, IsNamed, IsOneMember, SomeHolds, above_last, IsDataAt, HoldsAt, IsObject}
 use Rattle.yp_data_json.proofs.Places.{rows_last, place_within}
-use Rattle.yp_data_json.proofs.Readings.{bound, ok_rows, given}
+use Rattle.yp_data_json.proofs.Readings.{bound, ok_rows}
 use Rattle.yp_data_json.proofs.Wholes.{read_whole, keys_same}
 use Rattle.yp_data_json.proofs.RoundTrip.{keys_tie, name_ties}
 use Rattle.yp_data_json.proofs.Held.{keys_are, keys_give, atom_is, atom_of, get_here}

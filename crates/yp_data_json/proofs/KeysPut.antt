@@ -1,5 +1,5 @@
 -- Keys put one by one.
-use Rattle.std.proofs.Common.{◌≡◌, ℕ, ◌<◌, List, [], ◌∷◌, length, true, ◌&&◌, refl, sym, ap, subst, ◌∙◌}
+use Rattle.std.proofs.Common.{◌≡◌, ℕ, ◌<◌, List, ◌∷◌, length, true, ◌&&◌, sym, ap, subst, ◌∙◌}
 use Rattle.yp_base.specs.declared.atom.Atom.{Atom}
 use Rattle.yp_schema.specs.declared.schema.SchemaNode.{SchemaNode}
 use Rattle.yp_schema.specs.Nodes.{node_at}
@@ -7,7 +7,7 @@ use Rattle.yp_schema.specs.Datastore.{atom_fits, keys_fit}
 use Rattle.serde_json.specs.Data.{Members, put}
 use Rattle.yp_data_json.specs.Writing.{key_data, with_keys}
 use Rattle.yp_data_json.specs.Runs.{AreNodes}
-use Rattle.yp_data_json.proofs.Below.{both_left, both_right}
+use Rattle.yp_data_json.proofs.Below.{both_right}
 
 pub nodes_rest : (nodes : List SchemaNode) (all : List ℕ) (k : ℕ) (ks : List ℕ) → all ≡ k ∷ ks → AreNodes nodes all → (k < length nodes) × AreNodes nodes ks
 nodes_rest nodes all k ks is h = subst (λ ns. AreNodes nodes ns) is h

@@ -1,6 +1,6 @@
 -- A forest holds the rows that it was made of.
-use Rattle.std.proofs.Common.{◌≡◌, ℕ, List, [], ◌∷◌, ◌++◌, length, drop, Bool, true, false, true≢false, Option, Some, None, is_some, map, refl, sym, ap, ◌∙◌, subst, Ok, Result, arith, rules, cond, append_assoc, append-nil, Ordering, Less, Equal, Greater}
-use Rattle.std.specs.Ordering.{eq_by_cmp, is_eq, is_lt}
+use Rattle.std.proofs.Common.{◌≡◌, List, [], ◌∷◌, ◌++◌, length, drop, Bool, true, false, true≢false, Option, Some, None, is_some, refl, sym, ap, ◌∙◌, subst, cond, append_assoc, Less}
+use Rattle.std.specs.Ordering.{eq_by_cmp, is_lt}
 use Rattle.std.proofs.Math.Seq.{drop-append_seam}
 use Rattle.std.specs.List.{AllByRecursion}
 use Rattle.std.specs.List.Sorted.{IsStrictlySortedBy}
@@ -9,11 +9,11 @@ use Rattle.yp_base.specs.declared.path.Seg.{Seg}
 use Rattle.yp_base.specs.declared.row.Value.{Value}
 use Rattle.yp_base.specs.declared.row.Row.{Row}
 use Rattle.yp_base.specs.Order.{segment_cmp, path_cmp}
-use Rattle.yp_base.specs.OrderLaws.{segments_total, paths_total}
+use Rattle.yp_base.specs.OrderLaws.{segments_total}
 use Rattle.yp_base.proofs.Exact.{segments_decide}
-use Rattle.yp_base.specs.Rows.{path_of, AreInOrder}
+use Rattle.yp_base.specs.Rows.{AreInOrder}
 use Rattle.yp_data_json.specs.Reading.{row_at}
-use Rattle.yp_data_json.specs.Forest.{Forest, bare, branch, own_of, in_front, laid, forest_at}
+use Rattle.yp_data_json.specs.Forest.{Forest, bare, branch, own_of, laid, forest_at}
 use Rattle.yp_data_json.proofs.RowsIn.{own_rows, rows_in, front_cmp}
 
 -- a path isn't before its own front

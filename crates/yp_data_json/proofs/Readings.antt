@@ -1,30 +1,21 @@
 -- What is read below a place stands there: each function of the reading gives rows that are of the schema and come with those of their entries.
-use Rattle.std.proofs.Common.{◌≡◌, ℕ, suc, ◌+◌, ◌<◌, length, get_or, List, [], ◌∷◌, ◌++◌, Bool, true, false, ◌&&◌, refl, sym, ap, subst, ◌∙◌, cond, arith}
-use Rattle.std.specs.Prelude.{Option, Some, None, is_some, Result, Ok, Err, nat_lt, not, if◌then◌else◌}
-use Rattle.std.specs.Cmp.Lexicographic.{pointwise}
-use Rattle.std.proofs.lemmas.Bool.{and_parts, and_from, lt-ltb, eqb-true}
+use Rattle.std.proofs.Common.{◌≡◌, ℕ, suc, ◌+◌, ◌<◌, length, get_or, List, [], ◌∷◌, Bool, true, false, refl, sym, ap, subst, ◌∙◌, cond, arith}
+use Rattle.std.specs.Prelude.{Option, Some, None, Result, Ok, Err}
+use Rattle.std.proofs.lemmas.Bool.{and_parts, and_from, eqb-true}
 use Rattle.yp_base.specs.declared.atom.Atom.{Atom}
 use Rattle.yp_base.specs.declared.leaf_type.LeafType.{LeafType}
-use Rattle.yp_base.specs.declared.path.Seg.{Seg}
 use Rattle.yp_base.specs.declared.row.Value.{Value}
 use Rattle.yp_base.specs.declared.row.Value.TheVariants.{Atom as Plain, Member, Empty, Present}
 use Rattle.yp_base.specs.declared.row.Row.{Row}
-use Rattle.yp_base.specs.Json.{value_in, value_fits}
-use Rattle.yp_base.specs.Order.{is_within}
-use Rattle.yp_base.specs.Rows.{put_row, value_at}
+use Rattle.yp_base.specs.Json.{value_in}
 use Rattle.yp_base.proofs.JsonLaws.{json_fits}
 use Rattle.yp_schema.specs.declared.schema.SchemaNode.{SchemaNode}
-use Rattle.yp_schema.specs.declared.schema.Kind.{Kind}
-use Rattle.yp_schema.specs.declared.schema.Kind.TheVariants.{Container, Presence, List as Listing, Leaf, LeafList}
-use Rattle.yp_schema.specs.Nodes.{no_node, node_at, same_number, is_child, place_from, child_of, is_key}
-use Rattle.yp_schema.specs.Datastore.{atom_fits, keys_fit, keys_of_kind, is_segment, is_path_of, last_node, is_key_node, typed_fits, value_of_kind, holds_value, IsRowOf, is_entry_kind, last_kind_is, ends_in_entry, has_row}
-use Rattle.serde_json.specs.Data.{Data, null, boolean, number, string, array, object, Items, no_items, item, Members, no_members, member}
+use Rattle.yp_schema.specs.Nodes.{no_node, node_at, same_number, is_child, place_from, child_of}
+use Rattle.yp_schema.specs.Datastore.{atom_fits, keys_fit, typed_fits}
+use Rattle.serde_json.specs.Data.{Data, number, Members, member}
 use Rattle.serde_json.specs.Find.{get_member}
 use Rattle.yp_data_json.specs.declared.fault.DataFault.{DataFault}
-use Rattle.yp_data_json.specs.declared.fault.DataFault.TheVariants.{UnknownElement, InvalidValue, MissingKey, RepeatedKey}
-use Rattle.yp_data_json.specs.Reading.{◌>>=◌, valid, typed_value, only_atom, typed_atom, KeyFault, at_key, key_in, both, keys_found, fault_alone, keys_in, below, row_at, leaf_read, entered, value_read, values_read, in_object, in_array, in_plain, plain_read, for_child, members_read, node_read, entries_read, entry_read}
-use Rattle.yp_data_json.proofs.PutRows.{put_there}
-use Rattle.yp_data_json.proofs.Growing.{Stand, Grown, Entered, grown_still, grown_on, entered_on, cut, put_grown, last_of, path_more, within_more}
+use Rattle.yp_data_json.specs.Reading.{◌>>=◌, valid, typed_value, only_atom, typed_atom, KeyFault, at_key, key_in, both, keys_found, fault_alone, keys_in}
 
 -- ---- steps
 

@@ -1,9 +1,8 @@
 -- What is written of all rows at a place is read again as these rows.
-use Rattle.std.proofs.Common.{◌≡◌, ℕ, ◌<◌, List, [], ◌∷◌, ◌++◌, length, drop, Bool, true, false, true≢false, ◌&&◌, Option, Some, None, is_some, refl, sym, ap, subst, ◌∙◌, cond, append-nil, ⊎_elim, Result, Ok, Err, nat_eq}
+use Rattle.std.proofs.Common.{◌≡◌, ℕ, ◌<◌, List, [], ◌∷◌, ◌++◌, length, true, false, true≢false, Option, Some, None, is_some, refl, sym, ap, subst, ◌∙◌, cond, append-nil, ⊎_elim, Result, Ok, Err, nat_eq}
 use Rattle.std.specs.Prelude.{if◌then◌else◌}
 use Rattle.std.specs.List.{AllByRecursion}
 use Rattle.std.specs.Cmp.Lexicographic.{pointwise}
-use Rattle.std.specs.Ordering.{eq_by_cmp}
 use Rattle.std.proofs.lemmas.Bool.{and_parts, ltb-true}
 use Rattle.std.proofs.lemmas.Slice.Eq.{bytes_eq-Decides, slice_eq-Decides}
 use Rattle.yp_base.specs.declared.atom.Atom.{Atom}
@@ -11,7 +10,6 @@ use Rattle.yp_base.specs.declared.path.Seg.{Seg}
 use Rattle.yp_base.specs.declared.row.Value.{Value}
 use Rattle.yp_base.specs.declared.row.Value.TheVariants.{Member, Present}
 use Rattle.yp_base.specs.declared.row.Row.{Row}
-use Rattle.yp_base.specs.Order.{atom_cmp}
 use Rattle.yp_base.specs.OrderLaws.{atoms_total}
 use Rattle.yp_base.specs.Rows.{put_row, value_at, AreInOrder}
 use Rattle.yp_base.proofs.Exact.{order_decides, atoms_exact}
@@ -21,15 +19,15 @@ use Rattle.yp_schema.specs.declared.schema.Kind.{Kind}
 use Rattle.yp_schema.specs.declared.schema.Kind.TheVariants.{Container, Presence, List as Listing, Leaf, LeafList}
 use Rattle.yp_schema.specs.Nodes.{node_at, qualified_name, may_hold}
 use Rattle.yp_schema.specs.WellFormed.{IsSchema}
-use Rattle.yp_schema.specs.Datastore.{is_segment, keys_of_kind, goes_down, value_of_kind, holds_value, IsRowOf, is_entry_kind, is_leaf_kind, last_kind_is, ends_in_entry, ends_in_leaf, has_row, is_path_of, AreWhole}
-use Rattle.serde_json.specs.Data.{Data, array, object, no_items, item, Members, no_members, member}
+use Rattle.yp_schema.specs.Datastore.{keys_of_kind, goes_down, value_of_kind, holds_value, IsRowOf, is_entry_kind, is_leaf_kind, last_kind_is, has_row, is_path_of, AreWhole}
+use Rattle.serde_json.specs.Data.{object, Members}
 use Rattle.yp_data_json.specs.declared.fault.DataFault.{DataFault}
 use Rattle.yp_data_json.specs.declared.fault.DataFault.TheVariants.{UnknownElement, InvalidValue}
-use Rattle.yp_data_json.specs.Reading.{◌>>=◌, typed_value, typed_atom, keys_in, below, row_at, leaf_read, entered, in_object, members_read, node_read}
-use Rattle.yp_data_json.specs.AtPath.{are_keys, named_entry, named_value, array_of_one, by_kind, named_read, object_read, rows_read}
+use Rattle.yp_data_json.specs.Reading.{◌>>=◌, keys_in, below, row_at, entered, in_object, members_read, node_read}
+use Rattle.yp_data_json.specs.AtPath.{are_keys, named_entry, named_value, array_of_one, by_kind, named_read, rows_read}
 use Rattle.yp_data_json.specs.Forest.{forest_at}
 use Rattle.yp_data_json.specs.Runs.{IsRest}
-use Rattle.yp_data_json.specs.Writing.{leaf_data, key_data, one_key_data, with_keys, members_in, place_data, data_at, named_member, rows_json}
+use Rattle.yp_data_json.specs.Writing.{leaf_data, one_key_data, with_keys, members_in, place_data, data_at, named_member, rows_json}
 use Rattle.yp_data_json.proofs.AtPlace.{left_over, after_last, writable_below, json_at, place_segment}
 use Rattle.yp_data_json.proofs.Places.{rows_last}
 use Rattle.yp_data_json.proofs.Growing.{last_of}

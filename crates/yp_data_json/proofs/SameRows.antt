@@ -1,21 +1,17 @@
 -- Rows in order are told by what they contain.
-use Rattle.std.proofs.Common.{◌≡◌, ℕ, zero, suc, ◌<◌, length, List, [], ◌∷◌, map, true, true≢false, refl, sym, ap, subst, ◌∙◌, cond, arith}
-use Rattle.std.specs.Prelude.{Option, Some, None, is_some, Contains, slice_index_or}
-use Rattle.std.specs.List.{AllByRecursion}
-use Rattle.std.specs.Ordering.{is_eq, ordering_reverse}
-use Rattle.std.specs.declared.cmp.Ordering.{Ordering}
+use Rattle.std.proofs.Common.{◌≡◌, ℕ, zero, suc, ◌<◌, length, List, [], ◌∷◌, true, true≢false, refl, sym, ap, subst, ◌∙◌, cond, arith}
+use Rattle.std.specs.Prelude.{Some, None, Contains, slice_index_or}
+use Rattle.std.specs.Ordering.{is_eq}
 use Rattle.std.specs.declared.cmp.Ordering.TheVariants.{Less, Equal, Greater}
 use Rattle.std.proofs.lemmas.Cmp.{tied_itself}
 use Rattle.yp_base.specs.declared.path.Seg.{Seg}
-use Rattle.yp_base.specs.declared.row.Value.{Value}
 use Rattle.yp_base.specs.declared.row.Row.{Row}
 use Rattle.yp_base.specs.Order.{path_cmp}
 use Rattle.yp_base.specs.OrderLaws.{paths_total}
-use Rattle.yp_base.specs.Rows.{path_of, value_at, AreInOrder}
-use Rattle.yp_base.proofs.Exact.{paths_exact}
+use Rattle.yp_base.specs.Rows.{value_at, AreInOrder}
 use Rattle.yp_base.proofs.RowLaws.{AllPast, all_past, below, first_order, rest_order}
 use Rattle.yp_data_json.proofs.PutRows.{same_or_apart}
-use Rattle.yp_data_json.proofs.Adding.{Among, some_none, none_some, some_value}
+use Rattle.yp_data_json.proofs.Adding.{Among, none_some, some_value}
 
 -- a path before all rows has none
 past_none : (path : List Seg) (rows : List Row) → AllPast path rows → value_at path rows ≡ None

@@ -1,5 +1,5 @@
 -- What each call of the writer adds.
-use Rattle.std.proofs.Common.{◌≡◌, ◌≢◌, ℕ, zero, ◌+◌, ◌-◌, ◌<◌, ◌≤◌, List, [], ◌∷◌, ◌++◌, length, drop, map, max, Bool, true, false, true≢false, Option, Some, None, cond, refl, sym, ap, subst, ◌∙◌, arith, append_assoc, append-nil, not, ◌&&◌, Ordering, Less}
+use Rattle.std.proofs.Common.{◌≡◌, ◌≢◌, ℕ, ◌+◌, ◌-◌, ◌<◌, ◌≤◌, List, [], ◌∷◌, ◌++◌, length, drop, Bool, true, false, true≢false, Option, Some, None, cond, refl, sym, ap, subst, ◌∙◌, arith, append_assoc, append-nil, not, ◌&&◌}
 use Rattle.std.specs.Prelude.{nat_eq}
 use Rattle.std.specs.Cmp.Lexicographic.{pointwise}
 use Rattle.std.specs.Ordering.{eq_by_cmp}
@@ -9,7 +9,6 @@ use Rattle.std.proofs.lemmas.Bool.{eq-eqb, eqb-true}
 use borrow.Author.Tests.{ltb-true}
 use Rattle.yp_base.specs.declared.path.Seg.{Seg}
 use Rattle.yp_base.specs.declared.atom.Atom.{Atom}
-use Rattle.yp_base.specs.declared.leaf_type.LeafType.{LeafType}
 use Rattle.yp_base.specs.declared.row.Value.{Value}
 use Rattle.yp_base.specs.declared.row.Row.{Row}
 use Rattle.yp_schema.specs.declared.schema.SchemaNode.{SchemaNode}
@@ -17,16 +16,16 @@ use Rattle.yp_schema.specs.declared.schema.Kind.{Kind}
 use Rattle.yp_schema.specs.declared.schema.Kind.TheVariants.{Container, Presence, List as Listing, Leaf, LeafList}
 use Rattle.yp_schema.specs.Nodes.{node_at, same_number, is_in, may_hold}
 use Rattle.yp_schema.specs.WellFormed.{IsSchema, is_parent_of, is_empty, is_key_leaf, are_key_leaves, has_none, kind_stands}
-use Rattle.yp_schema.specs.Datastore.{goes_down, is_segment, keys_of_kind, is_key_node, holds_value, value_of_kind, typed_fits}
+use Rattle.yp_schema.specs.Datastore.{goes_down, is_segment, keys_of_kind, holds_value, value_of_kind, typed_fits}
 use Rattle.serde_json.specs.Data.{Data, null, boolean, number, string, array, object, Items, no_items, item, Members, no_members, member, put}
 use Rattle.serde_json.specs.View.{items_of}
 use Rattle.yp_data_json.specs.Forest.{Forest, bare, branch, own_of, in_front, laid, laid_all, forest_at}
 use Rattle.yp_data_json.specs.Writing.{leaf_data, item_data, item_in_front, branch_members, members_in}
-use Rattle.yp_data_json.specs.Runs.{EndsWell, IsRest, AreBelow, GoOnBelow, AreNodes, longest, begins_with, goes_through, AllGoThrough, ends_through, HasSegment, StartsApart, StandsBefore, all_in_front, has_items, AreOneMember, AreItems}
-use Rattle.yp_data_json.proofs.Parts.{all_front, all_back, ends_last}
+use Rattle.yp_data_json.specs.Runs.{EndsWell, IsRest, AreBelow, AreNodes, longest, begins_with, goes_through, AllGoThrough, ends_through, HasSegment, StartsApart, StandsBefore, all_in_front, has_items, AreOneMember, AreItems}
+use Rattle.yp_data_json.proofs.Parts.{all_back, ends_last}
 use Rattle.yp_data_json.proofs.Branches.{StartsElse, own_at, one_branch, laid_append, rows_start}
 use Rattle.yp_data_json.proofs.Members.{put_first, run_is, items_append, starts_else}
-use Rattle.yp_data_json.proofs.Below.{both_left, both_right, front_below, back_below, further, NextBefore, AllBefore, front_before, next_parent, next_segment, segment_node, segment_of, deep_enough}
+use Rattle.yp_data_json.proofs.Below.{both_left, both_right, further, NextBefore, AllBefore, front_before, next_parent, next_segment, segment_node, segment_of, deep_enough}
 
 -- ---- the most segments
 

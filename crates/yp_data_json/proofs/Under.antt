@@ -1,5 +1,5 @@
 -- Rows at or below a place: its own row, and those under it.
-use Rattle.std.proofs.Common.{◌≡◌, List, [], ◌∷◌, ◌++◌, map, Bool, true, false, true≢false, refl, sym, ap, subst, ◌∙◌, cond, append-nil, inl, inr}
+use Rattle.std.proofs.Common.{◌≡◌, List, [], ◌∷◌, ◌++◌, Bool, true, false, refl, sym, ap, subst, ◌∙◌, cond, append-nil, inl, inr}
 use Rattle.std.specs.Prelude.{◌⊎◌, Option, Some, None, is_some}
 use Rattle.std.specs.List.{AllByRecursion}
 use Rattle.std.specs.Ordering.{is_eq}
@@ -10,10 +10,10 @@ use Rattle.yp_base.specs.declared.row.Value.{Value}
 use Rattle.yp_base.specs.declared.row.Row.{Row}
 use Rattle.yp_base.specs.Order.{path_cmp, is_within}
 use Rattle.yp_base.specs.OrderLaws.{paths_total}
-use Rattle.yp_base.specs.Rows.{path_of, value_at, AreInOrder}
+use Rattle.yp_base.specs.Rows.{value_at, AreInOrder}
 use Rattle.yp_base.proofs.RowLaws.{AllPast, first_order}
 use Rattle.yp_schema.specs.declared.schema.SchemaNode.{SchemaNode}
-use Rattle.yp_schema.specs.Datastore.{has_row, ends_in_entry, HaveEntries}
+use Rattle.yp_schema.specs.Datastore.{HaveEntries}
 use Rattle.yp_data_json.specs.Reading.{row_at}
 use Rattle.yp_data_json.proofs.AtPlace.{front_rest}
 use Rattle.yp_data_json.proofs.Growing.{within_more, within_self}

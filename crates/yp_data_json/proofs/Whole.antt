@@ -1,5 +1,5 @@
 -- Whole rows make a forest that fits.
-use Rattle.std.proofs.Common.{◌≡◌, ℕ, ◌<◌, List, [], ◌∷◌, ◌++◌, length, drop, map, Bool, true, false, true≢false, Option, Some, None, is_some, refl, sym, ap, subst, ◌∙◌, cond, arith, append_assoc, append-nil, not, ◌&&◌, ◌||◌, nat_eq, nat_lt, Ordering, Less, Equal, Greater}
+use Rattle.std.proofs.Common.{◌≡◌, ℕ, ◌<◌, List, [], ◌∷◌, ◌++◌, length, drop, map, Bool, true, false, true≢false, Option, Some, None, is_some, refl, sym, ap, subst, ◌∙◌, cond, arith, append_assoc, append-nil, not, ◌||◌, nat_eq, Ordering, Less, Equal, Greater}
 use Rattle.std.specs.Ordering.{eq_by_cmp, is_eq, is_lt, ordering_then, ordering_reverse}
 use Rattle.std.specs.List.{AllByRecursion}
 use Rattle.std.specs.List.Sorted.{IsStrictlySortedBy}
@@ -20,7 +20,7 @@ use Rattle.yp_schema.specs.declared.schema.Kind.{Kind}
 use Rattle.yp_schema.specs.declared.schema.Kind.TheVariants.{Container, Presence, List as Listing, Leaf, LeafList}
 use Rattle.yp_schema.specs.Nodes.{node_at, child_of, is_key, is_in, same_number, may_hold}
 use Rattle.yp_schema.specs.WellFormed.{IsSchema, is_parent_of, is_empty, is_key_leaf, are_key_leaves, kind_stands}
-use Rattle.yp_schema.specs.Datastore.{atom_fits, keys_fit, one_fits, typed_fits, keys_of_kind, is_segment, goes_down, is_path_of, IsRowOf, last_node, is_key_node, is_present, is_member, value_of_kind, holds_value, is_entry_kind, last_kind_is, ends_in_entry, has_row, HaveEntries}
+use Rattle.yp_schema.specs.Datastore.{atom_fits, keys_fit, one_fits, typed_fits, keys_of_kind, goes_down, is_key_node, is_present, is_member, value_of_kind, is_entry_kind, last_kind_is, ends_in_entry, has_row}
 use Rattle.yp_data_json.specs.Forest.{Forest, bare, branch, own_of, in_front, laid, forest_at}
 use Rattle.yp_data_json.specs.Runs.{EndsWell}
 use Rattle.std.proofs.Math.Seq.{drop-append_seam}
@@ -31,7 +31,7 @@ use Rattle.yp_data_json.proofs.Laying.{StandsUnder}
 use Rattle.yp_data_json.proofs.Parts.{less_middle}
 use Rattle.yp_data_json.proofs.AtPlace.{same_front}
 use Rattle.yp_data_json.proofs.Below.{next_parent, next_segment, segment_node}
-use Rattle.yp_data_json.proofs.Steps.{empty_keys, child_holds, key_leaves}
+use Rattle.yp_data_json.proofs.Steps.{empty_keys, child_holds}
 use Rattle.yp_data_json.proofs.Fits.{BranchFits, Fits}
 
 -- ---- paths

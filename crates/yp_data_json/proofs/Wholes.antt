@@ -1,34 +1,32 @@
 -- What is read at a place is all that stands there.
-use Rattle.std.proofs.Common.{◌≡◌, ℕ, length, List, [], ◌∷◌, ◌++◌, Bool, true, false, ◌&&◌, refl, sym, ap, subst, ◌∙◌, cond}
-use Rattle.std.specs.Prelude.{Option, Some, None, is_some, Result, Ok, Err, not, if◌then◌else◌, nat_eq}
+use Rattle.std.proofs.Common.{◌≡◌, ℕ, List, [], ◌∷◌, ◌++◌, Bool, true, false, refl, sym, ap, subst, ◌∙◌, cond}
+use Rattle.std.specs.Prelude.{Option, Some, None, is_some, Result, Ok, Err, if◌then◌else◌, nat_eq}
 use Rattle.std.specs.Cmp.Lexicographic.{pointwise}
 use Rattle.std.specs.List.Sorted.{IsStrictlySortedBy}
-use Rattle.std.specs.Ordering.{eq_by_cmp, is_eq}
 use Rattle.std.proofs.lemmas.Bool.{and_parts, and_from, not-true}
-use Rattle.std.proofs.lemmas.Cmp.{tied_itself}
 use Rattle.std.proofs.lemmas.Slice.Eq.{slice_eq-Decides}
 use Rattle.yp_base.specs.declared.atom.Atom.{Atom}
 use Rattle.yp_base.specs.declared.path.Seg.{Seg}
 use Rattle.yp_base.specs.declared.row.Value.TheVariants.{Member, Present}
 use Rattle.yp_base.specs.declared.row.Row.{Row}
-use Rattle.yp_base.specs.Order.{is_within, atom_cmp}
-use Rattle.yp_base.specs.OrderLaws.{atoms_total, segments_total}
-use Rattle.yp_base.specs.Rows.{put_row, AreInOrder}
+use Rattle.yp_base.specs.Order.{is_within}
+use Rattle.yp_base.specs.OrderLaws.{atoms_total}
+use Rattle.yp_base.specs.Rows.{put_row}
 use Rattle.yp_base.proofs.Exact.{order_decides, atoms_exact}
 use Rattle.yp_schema.specs.declared.schema.SchemaNode.{SchemaNode}
 use Rattle.yp_schema.specs.declared.schema.Kind.{Kind}
 use Rattle.yp_schema.specs.declared.schema.Kind.TheVariants.{Container, Presence, List as Listing, Leaf, LeafList}
-use Rattle.yp_schema.specs.Nodes.{node_at, same_number, qualified_name}
+use Rattle.yp_schema.specs.Nodes.{node_at, qualified_name}
 use Rattle.yp_schema.specs.WellFormed.{is_empty}
-use Rattle.yp_schema.specs.Datastore.{value_of_kind, keys_of_kind, is_segment, goes_down, is_path_of, last_node, is_key_at, is_key_node, ends_in_key, is_place, is_entry_kind, is_leaf_kind, last_kind_is, ends_in_entry, ends_in_leaf, has_row, AreWritable, AreWhole}
+use Rattle.yp_schema.specs.Datastore.{value_of_kind, keys_of_kind, goes_down, is_path_of, is_key_at, ends_in_key, is_place, is_entry_kind, is_leaf_kind, last_kind_is, ends_in_entry, has_row, AreWhole}
 use Rattle.serde_json.specs.Data.{Data, null, boolean, number, string, array, object, Items, no_items, item, Members, no_members, member}
 use Rattle.yp_data_json.specs.declared.fault.DataFault.{DataFault}
 use Rattle.yp_data_json.specs.declared.fault.DataFault.TheVariants.{UnknownElement, InvalidValue}
 use Rattle.yp_data_json.specs.Reading.{◌>>=◌, typed_value, typed_atom, keys_in, below, row_at, leaf_read, entered, in_object, in_array, in_plain, members_read, node_read, entries_read, values_read, datastore_read}
-use Rattle.yp_data_json.specs.AtPath.{are_keys, named_entry, named_value, one_of, array_of_one, by_kind, named_read, outer_read, is_bare, object_read, rows_read}
+use Rattle.yp_data_json.specs.AtPath.{are_keys, named_entry, named_value, array_of_one, by_kind, named_read, outer_read, is_bare, object_read, rows_read}
 use Rattle.yp_data_json.proofs.Places.{rows_last}
 use Rattle.yp_data_json.proofs.PutRows.{put_there}
-use Rattle.yp_data_json.proofs.Growing.{Stand, Grown, Entered, grown_still, grown_on, last_of, within_self}
+use Rattle.yp_data_json.proofs.Growing.{Stand, Grown, grown_still, grown_on, last_of, within_self}
 use Rattle.yp_data_json.proofs.Readings.{bound, ok_rows, given}
 use Rattle.yp_data_json.proofs.ReadStands.{Spot, Here, Under, spot_on, put_spot, under_spot, entered_grown, entered_there, members_grown, node_grown}
 

@@ -1,5 +1,5 @@
 -- Changes that carry a value, and changes that carry none.
-use Rattle.std.proofs.Common.{◌≡◌, Bool, true, false, List, refl, sym, ap, subst}
+use Rattle.std.proofs.Common.{◌≡◌, Bool, true, false, List, ap, subst}
 use Rattle.serde_json.specs.Data.{Data, no_members, member}
 use Rattle.yp_base.specs.declared.path.Seg.{Seg}
 use Rattle.yp_base.specs.declared.row.Row.{Row}

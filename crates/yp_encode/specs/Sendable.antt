@@ -1,5 +1,5 @@
 -- Which notices can be sent.
-use Rattle.std.specs.Prelude.{◌≡◌, ℕ, List, [], Bool, true, false, Option, None}
+use Rattle.std.specs.Prelude.{◌≡◌, List, [], Bool, true, false, None}
 use Rattle.std.specs.List.{AllByRecursion}
 use Rattle.yp_base.specs.declared.notice.ChangeKind.{ChangeKind}
 use Rattle.yp_base.specs.declared.notice.ChangeKind.TheVariants.{Create, Delete, Insert, Move, Replace}

@@ -1,5 +1,5 @@
 -- The rounds take up exactly the nodes that meet the rules: one node, a part, the parts.
-use Rattle.std.proofs.Common.{◌≡◌, ◌≢◌, ℕ, ◌+◌, ◌<◌, ◌≤◌, List, [], ◌∷◌, ◌++◌, map, length, Bool, true, false, not, ◌&&◌, cond, refl, sym, ap, ◌∙◌, subst, Option, Some, None, is_some, option_and_then, Result, Ok, Err, arith, nat_le, nat_lt, ◌⊎◌, inl, inr, append_assoc, append-nil, length-append}
+use Rattle.std.proofs.Common.{◌≡◌, ℕ, ◌+◌, ◌<◌, ◌≤◌, List, [], ◌∷◌, ◌++◌, map, length, true, false, not, ◌&&◌, cond, refl, sym, ap, ◌∙◌, subst, Option, Some, None, is_some, option_and_then, Ok, Err, arith, nat_le, nat_lt, ◌⊎◌, inl, inr, append_assoc, append-nil}
 use Rattle.std.specs.Option.{unwrap_or}
 use Rattle.std.specs.BTreeMap.{insert_entry}
 use Rattle.std.specs.List.{AllByRecursion, AllZip, Contains}
@@ -11,14 +11,12 @@ use Rattle.std.proofs.lemmas.List.Sorted.{IsPermutation-refl, IsPermutation-sym,
 use Rattle.serde_json.specs.Data.{Data, Items, no_items, item}
 use Rattle.serde_json.specs.Find.{as_array}
 use Rattle.yp_schema.specs.declared.stated.Stated.{Stated}
-use Rattle.yp_schema.specs.declared.fault.SchemaFault.{SchemaFault}
 use Rattle.yp_schema.specs.declared.fault.SchemaKind.TheVariants as faults
-use Rattle.yp_schema.specs.declared.fault.SchemaFault.TheVariants.{At}
 use Rattle.yp_schema.specs.declared.listing.Listed.{Listed}
 use Rattle.yp_schema.specs.Names.{Names, names_cmp, front}
 use Rattle.yp_schema.specs.Nodes.{may_hold}
 use Rattle.yp_schema.specs.Stated.{node_in}
-use Rattle.yp_schema.specs.Rounds.{Nodes, listed_at, module_of_holder, parent_module, own_module, is_typed, placed, in_module, added, at_place, first_round, keys_there, is_key_type, may_be_key, keys_fit, checked, second_round, part_in, parts_in, ◌>>=◌}
+use Rattle.yp_schema.specs.Rounds.{Nodes, listed_at, module_of_holder, parent_module, own_module, is_typed, in_module, added, at_place, first_round, keys_there, is_key_type, may_be_key, keys_fit, checked, second_round, part_in, parts_in, ◌>>=◌}
 use Rattle.yp_schema.specs.Compiled.{ItemsState, PartStates, nodes_in, HasNewPath, HasParent, module_of, HasModule, HasKey, HasKeys, placed_node}
 use Rattle.yp_schema.proofs.Rising.{Rising, rising_insert}
 use Rattle.yp_schema.proofs.Sound.{both_true}

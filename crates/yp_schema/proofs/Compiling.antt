@@ -1,16 +1,12 @@
 -- What is read is what compiles.
-use Rattle.std.proofs.Common.{◌≡◌, ◌↔◌, ℕ, ◌+◌, ◌<◌, ◌≤◌, List, [], ◌∷◌, ◌++◌, map, length, true, refl, sym, ap, ◌∙◌, subst, Result, Ok, Err, arith, append_assoc, append-nil, length-append}
-use Rattle.std.specs.List.{AllByRecursion, AllZip, Contains}
-use Rattle.std.specs.List.Sorted.{IsPermutation}
+use Rattle.std.proofs.Common.{◌≡◌, ◌↔◌, ◌+◌, ◌<◌, ◌≤◌, List, [], ◌∷◌, ◌++◌, map, length, true, refl, sym, ap, ◌∙◌, subst, Result, Ok, Err, arith, append_assoc, append-nil, length-append}
 use Rattle.std.proofs.lemmas.List.Sorted.{IsPermutation-sym, Contains-permutation}
 use Rattle.serde_json.specs.Data.{Data}
 use Rattle.yp_schema.specs.declared.schema.SchemaNode.{SchemaNode}
 use Rattle.yp_schema.specs.declared.stated.Stated.{Stated}
-use Rattle.yp_schema.specs.declared.listing.Listed.{Listed}
-use Rattle.yp_schema.specs.Names.{Names}
 use Rattle.yp_schema.specs.Rounds.{Nodes, is_typed, parts_in, ◌>>=◌}
 use Rattle.yp_schema.specs.Reading.{numbered, schema_of}
-use Rattle.yp_schema.specs.Compiled.{PartStates, nodes_in, EachAfter, HasNewPath, HasParent, HasModule, HasKeys, placed_node, Compiles}
+use Rattle.yp_schema.specs.Compiled.{nodes_in, EachAfter, HasNewPath, HasParent, HasModule, HasKeys, placed_node, Compiles}
 use Rattle.yp_schema.proofs.After.{AllAfter, each_after, all_after, after_weaker, after_append, each_alone, all_at}
 use Rattle.yp_schema.proofs.Entries.{sorted_of, rising_of, same_entries}
 use Rattle.yp_schema.proofs.Admitting.{Holds, no_nodes_hold, Admits, AdmitsPart, AllParts, nodes_append, nodes_more, parts_admit, admit_parts}

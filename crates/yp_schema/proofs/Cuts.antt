@@ -1,6 +1,6 @@
-use Rattle.std.proofs.Common.{◌≡◌, ℕ, suc, ◌<◌, ◌+◌, ◌==◌, List, [], ◌∷◌, ◌++◌, length, take, drop, Bool, true, false, not, cond, refl, sym, ap, ◌∙◌, arith, rules, append_assoc, Option, Some, None}
-use Rattle.std.specs.List.{position_or_len, before_first, after_first, prefix_len}
-use Rattle.yp_schema.specs.Names.{Names, cut, onto_first}
+use Rattle.std.proofs.Common.{◌≡◌, ℕ, suc, ◌<◌, ◌+◌, ◌==◌, List, [], ◌∷◌, ◌++◌, length, take, drop, Bool, true, false, refl, sym, ap, ◌∙◌, arith, append_assoc}
+use Rattle.std.specs.List.{position_or_len, before_first, after_first}
+use Rattle.yp_schema.specs.Names.{Names, cut}
 
 abbrev slash : ℕ → Bool
 slash b = b == 47

@@ -1,6 +1,6 @@
 -- The index of the children of a schema's nodes.
-use Rattle.std.proofs.Common.{◌≡◌, ℕ, zero, suc, ◌+◌, ◌<◌, ◌&&◌, List, [], ◌∷◌, ◌++◌, length, Bool, true, false, cond, refl, sym, ap, ◌∙◌, subst, Option, Some, None, option_and_then, IfSome, arith, nat_eq}
-use Rattle.std.specs.BTreeMap.{BTreeMap, get_by_text, is_at}
+use Rattle.std.proofs.Common.{◌≡◌, ℕ, zero, suc, ◌+◌, ◌<◌, List, [], ◌∷◌, ◌++◌, length, Bool, true, false, cond, refl, sym, ap, subst, Option, Some, None, IfSome, arith}
+use Rattle.std.specs.BTreeMap.{BTreeMap, is_at}
 use Rattle.std.specs.Cmp.Lexicographic.{slice_cmp}
 use Rattle.std.specs.Ordering.{nat_cmp}
 use Rattle.std.specs.Map.{lookup}
@@ -8,7 +8,7 @@ use Rattle.std.specs.String.{string_bytes}
 use Rattle.std.specs.declared.string.String.{String}
 use Rattle.yp_schema.specs.declared.schema.SchemaNode.{SchemaNode}
 use Rattle.yp_schema.specs.Nodes.{child_of, is_child, place_from}
-use Rattle.yp_schema.specs.Index.{indexed_at, slot_of, IsIndex}
+use Rattle.yp_schema.specs.Index.{indexed_at}
 
 -- one more slot without children
 pub empty_more : {Y : Type 0} (index : List (BTreeMap (String Y) ℕ)) (m : BTreeMap (String Y) ℕ) → m.entries ≡ [] → ((s : ℕ) (q : List ℕ) → indexed_at s q index ≡ None) → (s : ℕ) (q : List ℕ) → indexed_at s q (index ++ m ∷ []) ≡ None

@@ -1,28 +1,22 @@
 -- What is so of the nodes so far, and what the rounds of a part keep.
-use Rattle.std.proofs.Common.{◌≡◌, ℕ, zero, suc, ◌+◌, ◌<◌, ◌≤◌, ◌==◌, ◌&&◌, List, [], ◌∷◌, ◌++◌, length, Bool, true, false, not, cond, refl, sym, ap, ◌∙◌, subst, Option, Some, None, is_some, option_map, option_and_then, Result, Ok, Err, Ordering, Less, Equal, Greater, arith, nat_le, nat_lt, nat_eq, ◌⊎◌, inl, inr}
+use Rattle.std.proofs.Common.{◌≡◌, ℕ, ◌+◌, ◌<◌, ◌≤◌, ◌&&◌, List, [], ◌∷◌, ◌++◌, length, Bool, true, false, not, cond, refl, sym, ap, ◌∙◌, subst, Option, Some, None, is_some, option_and_then, Result, Ok, Err, Less, Equal, Greater, arith, nat_le, nat_lt, nat_eq, ◌⊎◌, inl, inr}
 use Rattle.std.specs.Ordering.{is_eq, match_ordering}
-use Rattle.std.specs.BTreeMap.{insert_entry, is_at}
+use Rattle.std.specs.BTreeMap.{insert_entry}
 use Rattle.std.proofs.lemmas.Bool.Decides.{nat_tests}
 use Rattle.serde_json.specs.Data.{Data, Items, no_items, item}
 use Rattle.serde_json.specs.Find.{as_array}
-use Rattle.yp_base.specs.Types.{same_text, has_atoms}
-use Rattle.yp_base.specs.declared.leaf_type.LeafType.{LeafType}
-use Rattle.yp_schema.specs.declared.schema.Kind.{Kind}
-use Rattle.yp_schema.specs.declared.schema.Kind.TheVariants.{Container, Presence, List as Listing, Leaf, LeafList}
+use Rattle.yp_base.specs.Types.{same_text}
 use Rattle.yp_schema.specs.declared.stated.Body.{Body}
 use Rattle.yp_schema.specs.declared.stated.Stated.{Stated}
-use Rattle.yp_schema.specs.declared.fault.SchemaKind.{SchemaKind}
 use Rattle.yp_schema.specs.declared.fault.SchemaKind.TheVariants as faults
-use Rattle.yp_schema.specs.declared.fault.SchemaFault.{SchemaFault}
-use Rattle.yp_schema.specs.declared.fault.SchemaFault.TheVariants.{At}
 use Rattle.yp_schema.specs.declared.listing.Listed.{Listed}
 use Rattle.yp_schema.specs.Names.{Names, names_cmp, front, last}
 use Rattle.yp_schema.specs.Nodes.{may_hold}
 use Rattle.yp_schema.specs.WellFormed.{is_name}
 use Rattle.yp_schema.specs.Stated.{node_in}
-use Rattle.yp_schema.specs.Rounds.{Nodes, listed_at, module_of_holder, parent_module, own_module, module_in, is_typed, placed, in_module, added, at_place, first_round, keys_there, may_be_key, keys_fit, checked, second_round, part_in, parts_in, ◌>>=◌}
-use Rattle.yp_schema.proofs.Rising.{Rising, listed_insert, rising_insert, same_path, itself}
-use Rattle.yp_schema.proofs.Sound.{body_fits, IsSound, IsForm, form_text, home_fits, Has, has_at, node_sound, both_true}
+use Rattle.yp_schema.specs.Rounds.{Nodes, listed_at, module_of_holder, parent_module, own_module, is_typed, placed, in_module, added, at_place, first_round, keys_there, may_be_key, keys_fit, checked, second_round, part_in, parts_in, ◌>>=◌}
+use Rattle.yp_schema.proofs.Rising.{Rising, listed_insert, rising_insert, same_path}
+use Rattle.yp_schema.proofs.Sound.{body_fits, IsSound, form_text, home_fits, Has, has_at, node_sound, both_true}
 
 -- the text of a member form, by the parent's module
 abbrev pub member_text : Option (List ℕ) → List ℕ → List ℕ → List ℕ

@@ -1,7 +1,7 @@
 -- What the rounds leave is a schema, once it is numbered.
-use Rattle.std.proofs.Common.{◌≡◌, ℕ, zero, suc, ◌+◌, ◌<◌, ◌≤◌, ◌==◌, ◌&&◌, ◌||◌, List, [], ◌∷◌, ◌++◌, map, length, get_or, Bool, true, false, not, cond, refl, sym, ap, ◌∙◌, subst, Option, Some, None, is_some, option_map, option_and_then, Ordering, Less, Equal, Greater, arith, nat_le, nat_lt, nat_eq, ◌⊎◌, inl, inr, Result, Ok, Err, IfOk}
-use Rattle.std.specs.Ordering.{is_eq, nat_cmp, ordering_then}
-use Rattle.std.specs.Cmp.Lexicographic.{slice_cmp, pointwise}
+use Rattle.std.proofs.Common.{◌≡◌, ℕ, zero, suc, ◌+◌, ◌<◌, ◌≤◌, ◌&&◌, ◌||◌, List, [], ◌∷◌, ◌++◌, map, length, get_or, Bool, true, false, not, cond, refl, sym, ap, ◌∙◌, subst, Option, Some, None, is_some, option_and_then, Ordering, Less, Equal, Greater, arith, nat_lt, nat_eq, ◌⊎◌, inl, inr, Result, Ok, Err, IfOk}
+use Rattle.std.specs.Ordering.{nat_cmp, ordering_then}
+use Rattle.std.specs.Cmp.Lexicographic.{slice_cmp}
 use Rattle.std.specs.List.{slice_get}
 use Rattle.std.proofs.lemmas.List.{length-map}
 use Rattle.std.proofs.lemmas.Cmp.{tied_itself, nat_list_cmp_total}
@@ -15,16 +15,16 @@ use Rattle.yp_schema.specs.declared.schema.SchemaNode.{SchemaNode}
 use Rattle.yp_schema.specs.declared.fault.SchemaFault.{SchemaFault}
 use Rattle.yp_schema.specs.declared.listing.Listed.{Listed}
 use Rattle.yp_schema.specs.Names.{Names, names_cmp, front, last}
-use Rattle.yp_schema.specs.Nodes.{node_at, no_node, child_of, is_child, place_from, same_number, is_in, may_hold, qualified_name}
-use Rattle.yp_schema.specs.WellFormed.{is_name, is_identifier, begins_name, go_on_name, is_parent_of, is_at_home, member_form, has_atom_type, has_type, has_none, is_leaf, is_key_leaf, are_key_leaves, is_empty, kind_stands, Stands, SiblingsInOrder, AreAbove, AreShallow, IsSchema}
+use Rattle.yp_schema.specs.Nodes.{node_at, no_node, child_of, is_child, place_from, same_number, is_in, may_hold}
+use Rattle.yp_schema.specs.WellFormed.{is_name, go_on_name, is_parent_of, is_at_home, member_form, has_atom_type, has_type, has_none, is_leaf, is_key_leaf, are_key_leaves, is_empty, kind_stands, Stands, SiblingsInOrder, AreAbove, AreShallow, IsSchema}
 use Rattle.yp_schema.specs.Stated.{are_key_names, all_names}
 use Rattle.yp_schema.specs.Rounds.{Nodes, listed_at, module_of_holder, parent_module, atoms_in, is_typed, is_key_type, may_be_key, keys_fit, parts_in}
 use Rattle.yp_schema.specs.Reading.{Reads, Numbers, numbers_from, number_of, with_number, key_numbers, numbered_node, numbered}
 use Rattle.yp_schema.proofs.Ends.{front_append, last_append}
 use Rattle.yp_schema.proofs.Numbering.{length_more}
 use Rattle.yp_schema.proofs.Rising.{Rising, itself, turned, above_get, listed_get, number_get, get_number, get_listed, less_from_places, get_within, within_get}
-use Rattle.yp_schema.proofs.Sound.{both_true, type_fits, kind_fits, body_fits}
-use Rattle.yp_schema.proofs.Kept.{IsKept, AreKept, AreNodes, member_text, same_itself, same_turned, parts_kept, no_nodes}
+use Rattle.yp_schema.proofs.Sound.{both_true, type_fits, kind_fits}
+use Rattle.yp_schema.proofs.Kept.{IsKept, AreNodes, member_text, same_itself, same_turned, parts_kept, no_nodes}
 
 -- ---- names
 

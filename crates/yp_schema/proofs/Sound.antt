@@ -1,23 +1,21 @@
 -- What is so of each node that the JSON of a part states.
-use Rattle.std.proofs.Common.{◌≡◌, ℕ, zero, suc, ◌+◌, ◌-◌, ◌<◌, ◌≤◌, ◌==◌, ◌&&◌, List, [], ◌∷◌, ◌++◌, length, take, drop, Bool, true, false, not, cond, refl, sym, ap, ◌∙◌, subst, Option, Some, None, option_map, option_and_then, arith, nat_le, nat_lt, codes}
+use Rattle.std.proofs.Common.{◌≡◌, ℕ, suc, ◌+◌, ◌-◌, ◌<◌, ◌==◌, ◌&&◌, List, [], ◌∷◌, ◌++◌, length, take, drop, Bool, true, false, cond, refl, sym, ap, ◌∙◌, subst, Option, Some, None, option_map, option_and_then, arith, nat_le, nat_lt, codes}
 use Rattle.std.specs.List.{position_or_len, before_first, after_first}
-use Rattle.std.proofs.lemmas.Grind.{common_steps}
 use Rattle.std.proofs.lemmas.Bool.Decides.{nat_tests}
-use Rattle.serde_json.specs.Data.{Data, Members, Items, null, boolean, number, string, array, object}
+use Rattle.serde_json.specs.Data.{Data, Members, boolean, string}
 use Rattle.serde_json.specs.Find.{as_object}
-use Rattle.yp_base.specs.Types.{same_text, is_type, has_atoms, are_names}
+use Rattle.yp_base.specs.Types.{same_text, is_type, are_names}
 use Rattle.yp_base.specs.declared.leaf_type.LeafType.{LeafType}
-use Rattle.yp_base.specs.declared.leaf_type.LeafType.TheVariants.{Bool as Truth, Int, Uint, Dec, Text, Names as Enumeration, Empty}
+use Rattle.yp_base.specs.declared.leaf_type.LeafType.TheVariants.{Dec, Names as Enumeration}
 use Rattle.yp_schema.specs.declared.schema.Kind.{Kind}
 use Rattle.yp_schema.specs.declared.schema.Kind.TheVariants.{Container, Presence, List as Listing, Leaf, LeafList}
 use Rattle.yp_schema.specs.declared.stated.Shape.{Shape}
 use Rattle.yp_schema.specs.declared.stated.Shape.TheVariants as shapes
 use Rattle.yp_schema.specs.declared.stated.Body.{Body}
 use Rattle.yp_schema.specs.declared.stated.Stated.{Stated}
-use Rattle.yp_schema.specs.Names.{Names, front, last, cut, rooted, names_in, around_colon, onto_first}
+use Rattle.yp_schema.specs.Names.{Names, front, last, cut, rooted, names_in, around_colon}
 use Rattle.yp_schema.specs.WellFormed.{is_name, is_empty, has_none}
 use Rattle.yp_schema.specs.Stated.{with_shape, has_only, flag_member, tested, are_key_names, texts_member, text_member, container_in, container_kind, list_in, enumeration_in, typed_in, leaf_in, of_kind, body_in, body, type_in, integer_in, decimal_at, places_in, form_of, form_in, stated_in, stated, node_in}
-use Rattle.yp_schema.proofs.Ends.{front_append, last_append}
 
 -- ---- types
 

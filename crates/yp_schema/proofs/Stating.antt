@@ -1,5 +1,5 @@
 -- The names and the module of each node that an item states.
-use Rattle.std.proofs.Common.{◌≡◌, List, [], ◌∷◌, ◌++◌, ℕ, codes, refl, sym, ap, ◌∙◌, Bool, true, false, cond, Option, Some, None, option_map, option_and_then}
+use Rattle.std.proofs.Common.{◌≡◌, List, [], ◌∷◌, ◌++◌, ℕ, codes, refl, sym, ap, ◌∙◌, true, false, cond, Option, Some, None, option_map, option_and_then}
 use Rattle.serde_json.specs.Data.{Data, Members}
 use Rattle.serde_json.specs.Find.{as_object}
 use Rattle.yp_base.specs.Types.{same_text}

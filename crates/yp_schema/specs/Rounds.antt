@@ -8,7 +8,6 @@ use Rattle.yp_base.specs.Types.{same_text, has_atoms}
 use Rattle.yp_base.specs.declared.leaf_type.LeafType.{LeafType}
 use Rattle.yp_schema.specs.declared.schema.Kind.{Kind}
 use Rattle.yp_schema.specs.declared.schema.Kind.TheVariants.{Container, Presence, List as Listing, Leaf, LeafList}
-use Rattle.yp_schema.specs.declared.stated.Body.{Body}
 use Rattle.yp_schema.specs.declared.stated.Stated.{Stated}
 use Rattle.yp_schema.specs.declared.fault.SchemaKind.{SchemaKind}
 use Rattle.yp_schema.specs.declared.fault.SchemaKind.TheVariants as faults

@@ -1,5 +1,4 @@
-use Rattle.std.proofs.Common.{◌≡◌}
-use Rattle.push_program.proofs.LineLaws.{IsFirst, first_cut}
+use Rattle.push_program.proofs.LineLaws.{first_cut}
 use Rattle.push_program.proofs.lines.first_line.Goals as goal
 
 pub returns-clause-pieces : goal.returns-clause-pieces

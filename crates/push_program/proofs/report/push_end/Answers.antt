@@ -1,5 +1,4 @@
 use Rattle.std.proofs.Common.{ap, sym, ◌∙◌, ◌++◌, string_bytes}
-use Rattle.push_program.specs.Notices.{made_by}
 use Rattle.push_program.specs.Report.{tree_line}
 use Rattle.push_program.proofs.Showing.{told_tree, told_none}
 use Rattle.push_program.proofs.report.push_end.Goals as goal

@@ -1,4 +1,4 @@
-use Rattle.std.proofs.Common.{◌≡◌, ◌+◌, ap, sym, subst, List, ◌∷◌, length, arith}
+use Rattle.std.proofs.Common.{◌≡◌, ◌+◌, sym, subst, List, ◌∷◌, length, arith}
 use Rattle.push_program.specs.declared.command.Command.{Command}
 use Rattle.push_program.proofs.Runs.{Goes, goes_on}
 use Rattle.push_program.proofs.run.run_all.Goals as goal

@@ -1,5 +1,3 @@
-use Rattle.std.proofs.Common.{ap, ◌∙◌, take}
-use Rattle.std.proofs.lemmas.List.{take_min}
 use Rattle.push_program.proofs.TopLaws.{front_is}
 use Rattle.push_program.proofs.top.front_of.Goals as goal
 

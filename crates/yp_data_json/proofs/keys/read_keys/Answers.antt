@@ -1,7 +1,7 @@
-use Rattle.std.proofs.Common.{◌≡◌, ◌<◌, length, IfSome, Some, Ok, Err, ◌++◌, ◌∷◌, [], sym, ap, ◌∙◌, get_or, drop, ◌+◌, rules}
+use Rattle.std.proofs.Common.{sym, ◌∙◌, ◌+◌}
 use Rattle.serde_json.specs.View.{members_view}
-use Rattle.yp_data_json.specs.Reading.{keys_found, earliest}
-use Rattle.yp_data_json.proofs.KeyLaws.{after, step_key, step_fault, found_at}
+use Rattle.yp_data_json.specs.Reading.{keys_found}
+use Rattle.yp_data_json.proofs.KeyLaws.{step_key, step_fault}
 use Rattle.yp_data_json.proofs.keys.read_keys.Goals as goal
 use Rattle.yp_data_json.proofs.keys.read_keys.Goals.{in-Ok+in_ok-push-in-Ok, in-Err}
 

@@ -1,9 +1,9 @@
-use Rattle.std.proofs.Common.{◌≡◌, ◌+◌, ◌<◌, ◌≤◌, ℕ, true, List, [], ◌∷◌, ◌++◌, length, drop, map, Some, None, inl, inr, Result, Ok, Err, refl, sym, ap, subst, ◌∙◌, arith, rules, append-nil, length-append, string_bytes}
+use Rattle.std.proofs.Common.{◌≡◌, ◌+◌, ◌<◌, ◌≤◌, ℕ, true, List, [], ◌∷◌, ◌++◌, length, drop, map, Some, inl, inr, Result, Ok, Err, sym, ap, subst, ◌∙◌, arith, rules, append-nil, length-append, string_bytes}
 use Rattle.std.proofs.lemmas.List.{map-append}
 use Rattle.std.specs.List.{AllByRecursion}
 use Rattle.std.proofs.Math.ListN.{drop_of_length-le}
-use Rattle.serde_json.specs.Data.{Data, array, object, no_members, member, put}
-use Rattle.serde_json.specs.View.{view, members_view, items_of}
+use Rattle.serde_json.specs.Data.{Data, object, no_members, member, put}
+use Rattle.serde_json.specs.View.{view, members_view}
 use Rattle.serde_json.proofs.Views.{members_view-insert_entry, view-Array, view-Object}
 use Rattle.serde_json.specs.declared.value.Value.{Value}
 use Rattle.std.specs.Prelude.{IfOk}
@@ -11,11 +11,11 @@ use Rattle.yp_base.specs.declared.row.Row.{Row}
 use Rattle.yp_base.specs.declared.memory.NoMemory.{NoMemory}
 use Rattle.yp_schema.specs.declared.schema.SchemaNode.{SchemaNode}
 use Rattle.yp_schema.specs.Nodes.{node_at}
-use Rattle.yp_data_json.specs.Forest.{laid_all, forest_at}
+use Rattle.yp_data_json.specs.Forest.{laid_all}
 use Rattle.yp_data_json.specs.Writing.{leaf_data, members_in}
 use Rattle.yp_data_json.specs.Runs.{longest, IsRest, AreBelow, AreNodes, goes_through, AllGoThrough, all_in_front, AreOneMember}
 use Rattle.yp_data_json.proofs.Parts.{all_front, all_back}
-use Rattle.yp_data_json.proofs.Below.{front_below, back_below, next_segment, segment_node, segment_of, further, AllBefore, NextBefore}
+use Rattle.yp_data_json.proofs.Below.{front_below, back_below, next_segment, segment_node, further, AllBefore, NextBefore}
 use Rattle.yp_data_json.proofs.Steps.{longest_front, longest_back, deep_rows, deep_left, first_next, first_node, all_before_none, own_row_adds, run_some, some_rows, last_next, last_before, one_more, regrouped, rest_before, has_plain, plain_below, container_member, presence_member, leaf_fits, leaf_member, entry_some, item_step, items_member, keys_within}
 use Rattle.yp_data_json.proofs.writing.+write.Goals as goal
 

@@ -1,5 +1,4 @@
-use Rattle.std.proofs.Common.{◌≡◌, [], ◌∷◌, ◌++◌, sym, ap, ◌∙◌, append_assoc}
-use Rattle.std.specs.List.{AllByRecursion}
+use Rattle.std.proofs.Common.{[], ◌∷◌, ◌++◌, sym, ap, ◌∙◌, append_assoc}
 use Rattle.yp_data_json.specs.Runs.{HasSegment}
 use Rattle.yp_data_json.proofs.Parts.{all_both}
 use Rattle.yp_data_json.proofs.writing.split_entry.Goals as goal

@@ -1,4 +1,4 @@
-use Rattle.std.proofs.Common.{arith, ap, ◌+◌}
+use Rattle.std.proofs.Common.{ap, ◌+◌}
 use Rattle.yp_encode.proofs.Edits.{sendable_here, one_more, all_made}
 use Rattle.yp_encode.proofs.line.edits.Goals as goal
 

@@ -1,6 +1,6 @@
-use Rattle.std.proofs.Common.{◌≡◌, ◌+◌, ◌++◌, drop, map}
+use Rattle.std.proofs.Common.{◌≡◌, ◌+◌, drop, map}
 use Rattle.std.specs.List.{AllByRecursion}
-use Rattle.serde_json.specs.View.{view, items_of}
+use Rattle.serde_json.specs.View.{view}
 use Rattle.yp_encode.specs.Lines.{edits_from}
 use Rattle.yp_encode.specs.Sendable.{IsSendableChange}
 use Rattle.yp_encode.proofs.Edits.{behind}

@@ -1,4 +1,4 @@
-use Rattle.std.proofs.Common.{◌≡◌, drop, length}
+use Rattle.std.proofs.Common.{◌≡◌, drop}
 use Rattle.serde_json.specs.View.{items_view}
 use Rattle.yp_schema.specs.Rounds.{first_round}
 use Rattle.yp_schema.proofs.listing.take_nodes.Given as goal
