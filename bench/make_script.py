@@ -47,9 +47,16 @@ def establish() -> dict[str, Any]:
     return {"establish": {"by": RECEIVER, "datastore": "ietf-datastores:operational", "on-change": {}}}
 
 
+def patch(number: int, edits: Iterable[tuple[str, str, Any]]) -> dict[str, Any]:
+    """The patch of so many edits, each with its operation, target and value."""
+    said = [
+        {"edit-id": str(place), "operation": operation, "target": target, "value": value}
+        for place, (operation, target, value) in enumerate(edits, 1)]
+    return {"patch": {"ietf-yang-patch:yang-patch": {"patch-id": str(number), "edit": said}}}
+
+
 def creation(number: int, target: str, value: Any) -> dict[str, Any]:
-    edit = {"edit-id": "1", "operation": "create", "target": target, "value": value}
-    return {"patch": {"ietf-yang-patch:yang-patch": {"patch-id": str(number), "edit": [edit]}}}
+    return patch(number, [("create", target, value)])
 
 
 def scattered(count: int) -> Iterator[int]:

@@ -1,0 +1,102 @@
+"""What all workloads share: scripts as files, runs of a program on them, and limits in words."""
+
+from __future__ import annotations
+
+import pathlib
+import subprocess
+import sys
+from dataclasses import dataclass
+
+BENCH = pathlib.Path(__file__).resolve().parent
+MADE = BENCH / "made"
+RUNS = 3
+
+HEAD = (
+    f"{'':22}{'':10}{'clock':>9}{'processor':>10}{'peak':>8}{'ratio of':>16}{'json':>9}{'over':>9}\n"
+    f"{'workload':22}{'size':>10}{'s':>9}{'s':>9}{'MiB':>9}{'s':>8}{'MiB':>8}{'s':>9}{'json':>9}")
+
+# A limit in words, with whether it held.
+Limit = tuple[str, bool]
+
+
+@dataclass(frozen=True)
+class Cost:
+    """What a run took: seconds on the clock and on the processors, and its peak memory in MiB, or the most of it."""
+
+    clock: float
+    processors: float
+    memory: float
+    is_exact: bool = True
+
+
+def made(name: str, maker: str, words: list[str]) -> pathlib.Path:
+    """The script that a maker writes, as a file."""
+    MADE.mkdir(exist_ok=True)
+    script = MADE / f"{name.replace(' ', '-')}.jsonl"
+    with script.open("wb") as out:
+        subprocess.run([sys.executable, str(BENCH / maker), *words], stdout=out, check=True)
+    return script
+
+
+def run_once(words: list[str], script: pathlib.Path, output: pathlib.Path) -> Cost:
+    result = MADE / "result"
+    starter = [sys.executable, "-I", "-S", str(BENCH / "measured.py"), str(result)]
+    with script.open("rb") as source, output.open("wb") as sink:
+        subprocess.run([*starter, *words], stdin=source, stdout=sink, check=True)
+    status, clock, processors, peak, least = result.read_text(encoding="ascii").split()
+    result.unlink()
+    if status != "0":
+        sys.exit(f"{words} on {script.name}: status {status}")
+    return Cost(float(clock), float(processors), int(peak) / 1024, int(peak) > 1.1 * int(least))
+
+
+def best(runs: list[Cost]) -> Cost:
+    return Cost(
+        min(run.clock for run in runs), min(run.processors for run in runs), min(run.memory for run in runs),
+        all(run.is_exact for run in runs))
+
+
+def wanted(script: pathlib.Path) -> tuple[int, int]:
+    """How many commands are accepted, and how many updates sent, where each command of a script is accepted.
+
+    A subscription is told once, and then each patch of it.
+    """
+    accepted = told = 0
+    subscribed = False
+    with script.open("rb") as lines:
+        for line in lines:
+            if b'{"establish":' in line:
+                subscribed = True
+                told += 1
+            elif b'{"patch":' in line:
+                accepted += 1
+                told += subscribed
+            elif b'{"tick":' in line:
+                accepted += 1
+    return accepted, told
+
+
+def look(script: pathlib.Path, output: pathlib.Path) -> None:
+    """Each command is accepted, each patch after the subscription is told, and the report is whole."""
+    accepted = told = 0
+    last = b""
+    with output.open("rb") as lines:
+        for line in lines:
+            accepted += line.startswith(b"reply ") and line.endswith(b'{"ok":true}\n')
+            told += line.startswith(b"to ")
+            last = line
+    if (accepted, told, last) != (*wanted(script), b"end\n"):
+        sys.exit(f"{script.name}: {accepted} accepted and {told} told in place of {wanted(script)}, then {last!r}")
+
+
+def line(name: str, size: int, cost: Cost, before: Cost | None, floor: Cost | None) -> str:
+    """What a workload took at a size, with the ratios to the size before and to the floor."""
+    time_ratio = f"{cost.processors / before.processors:.2f}" if before else "-"
+    memory_ratio = f"{cost.memory / before.memory:.2f}" if before and before.is_exact else "-"
+    memory = f"{'' if cost.is_exact else '<'}{cost.memory:.1f}"
+    over = f"{floor.processors:9.3f}{cost.processors / floor.processors:9.2f}" if floor else f"{'-':>9}{'-':>9}"
+    return f"{name:22}{size:10}{cost.clock:9.3f}{cost.processors:9.3f}{memory:>9}{time_ratio:>8}{memory_ratio:>8}{over}"
+
+
+def held(said: str, value: float, most: float) -> Limit:
+    return f"{said} {value:.2f}, at most {most:g}: {'held' if value <= most else 'NOT HELD'}", value <= most
