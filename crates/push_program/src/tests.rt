@@ -1,36 +1,49 @@
+mod lanes;
 mod limits;
 mod malformed;
+mod order;
+mod refusals;
+mod rows;
+mod several_faults;
+mod shapes;
+mod streams;
+mod subscribing;
+mod telling;
+mod ticks;
 
-use crate::fault::ScriptKind;
 use crate::top::{Status, push_main};
 use std::alloc::Global;
+use std::process::Abort;
 use std::test::Fail;
 use yp_base::memory::NoMemory;
 use yp_base::txt::Txt;
 use yp_io::memory::{MemSink, MemSource};
+use yp_script::fault::ScriptKind;
 
-pub(crate) const START: &str = "{\"start\":\"2026-01-01T00:00:00Z\"}\n";
+pub(crate) const START: &str = r#"{"start":"2026-01-01T00:00:00Z"}
+"#;
 
 pub(crate) const SCHEMA: &str =
-    "{\"schema\":[{\"path\":\"/acme:interfaces\",\"kind\":\"container\"},{\"path\":\"/acme:interfaces/interface\",\"kind\":\"list\",\"keys\":[\"name\"]},{\"path\":\"/acme:interfaces/interface/name\",\"kind\":\"leaf\",\"type\":\"string\"},{\"path\":\"/acme:interfaces/interface/mtu\",\"kind\":\"leaf\",\"type\":\"uint16\"},{\"path\":\"/acme:interfaces/interface/enabled\",\"kind\":\"leaf\",\"type\":\"boolean\"},{\"path\":\"/acme:interfaces/interface/secret\",\"kind\":\"leaf\",\"type\":\"string\",\"deny-all\":true},{\"path\":\"/acme:interfaces/interface/stats\",\"kind\":\"container\"},{\"path\":\"/acme:interfaces/interface/stats/in\",\"kind\":\"leaf\",\"type\":\"uint64\"}]}\n";
+    r#"{"schema":[{"path":"/acme:interfaces","kind":"container"},{"path":"/acme:interfaces/interface","kind":"list","keys":["name"]},{"path":"/acme:interfaces/interface/name","kind":"leaf","type":"string"},{"path":"/acme:interfaces/interface/mtu","kind":"leaf","type":"uint16"},{"path":"/acme:interfaces/interface/enabled","kind":"leaf","type":"boolean"},{"path":"/acme:interfaces/interface/secret","kind":"leaf","type":"string","deny-all":true},{"path":"/acme:interfaces/interface/stats","kind":"container"},{"path":"/acme:interfaces/interface/stats/in","kind":"leaf","type":"uint64"}]}
+"#;
 
-pub(crate) const RECEIVER: &str =
-    "{\"receiver\":{\"name\":\"r1\",\"user\":\"ann\",\"queue\":4,\"take\":\"auto\"}}\n";
+pub(crate) const RECEIVER: &str = r#"{"receiver":{"name":"r1","user":"ann","queue":4,"take":"auto"}}
+"#;
+
+pub(crate) const SECOND_RECEIVER: &str =
+    r#"{"receiver":{"name":"r2","user":"bob","queue":4,"take":"auto"}}
+"#;
 
 pub(crate) const ESTABLISH: &str =
-    "{\"establish\":{\"by\":\"r1\",\"datastore\":\"ietf-datastores:operational\",\"on-change\":{}}}\n";
+    r#"{"establish":{"by":"r1","datastore":"ietf-datastores:operational","on-change":{}}}
+"#;
 
 pub(crate) const CREATE: &str =
-    "{\"patch\":{\"ietf-yang-patch:yang-patch\":{\"patch-id\":\"p\",\"edit\":[{\"edit-id\":\"e\",\"operation\":\"create\",\"target\":\"/acme:interfaces/interface=eth0\",\"value\":{\"acme:interface\":[{\"name\":\"eth0\",\"mtu\":1500,\"secret\":\"hush\"}]}}]}}}\n";
+    r#"{"patch":{"ietf-yang-patch:yang-patch":{"patch-id":"p","edit":[{"edit-id":"e","operation":"create","target":"/acme:interfaces/interface=eth0","value":{"acme:interface":[{"name":"eth0","mtu":1500}]}}]}}}
+"#;
 
-const OPEN_CREATE: &str =
-    "{\"patch\":{\"ietf-yang-patch:yang-patch\":{\"patch-id\":\"p\",\"edit\":[{\"edit-id\":\"e\",\"operation\":\"create\",\"target\":\"/acme:interfaces/interface=eth0\",\"value\":{\"acme:interface\":[{\"name\":\"eth0\",\"mtu\":1500}]}}]}}}\n";
-
-const LEAF_OF_NONE: &str =
-    "{\"patch\":{\"ietf-yang-patch:yang-patch\":{\"patch-id\":\"p\",\"edit\":[{\"edit-id\":\"e\",\"operation\":\"create\",\"target\":\"/acme:interfaces/interface=lo/mtu\",\"value\":{\"acme:mtu\":9}}]}}}\n";
-
-const SECRET: &str =
-    "{\"patch\":{\"ietf-yang-patch:yang-patch\":{\"patch-id\":\"p\",\"edit\":[{\"edit-id\":\"e\",\"operation\":\"create\",\"target\":\"/acme:interfaces/interface=eth0/secret\",\"value\":{\"acme:secret\":\"hush\"}}]}}}\n";
+pub(crate) const TICK: &str = r#"{"tick":5}
+"#;
 
 // Lines one after another.
 pub(crate) fn joined(alloc: Global, lines: &[&str]) -> Result<String, NoMemory> {
@@ -41,6 +54,21 @@ pub(crate) fn joined(alloc: Global, lines: &[&str]) -> Result<String, NoMemory> 
     Ok(text)
 }
 
+// The line of a patch with these edits.
+pub(crate) fn patch(alloc: Global, edits: &str) -> Result<String, NoMemory> {
+    let start = r#"{"patch":{"ietf-yang-patch:yang-patch":{"patch-id":"p","edit":["#;
+    joined(alloc, &[start, edits, "]}}}\n"])
+}
+
+// A text so many times.
+pub(crate) fn repeated(alloc: Global, text: &str, count: u32) -> Result<String, NoMemory> {
+    let mut all = String::new(alloc);
+    for _ in 0..count {
+        all.push_str(text)?;
+    }
+    Ok(all)
+}
+
 // The word `run`.
 pub(crate) fn run_words(alloc: Global) -> Result<Vec<Txt>, NoMemory> {
     let word = Txt::from_string(String::from_str(alloc, "run")?);
@@ -49,14 +77,28 @@ pub(crate) fn run_words(alloc: Global) -> Result<Vec<Txt>, NoMemory> {
     Ok(words)
 }
 
-// How a run of these lines ends, with nothing written.
-pub(crate) fn ends(alloc: Global, lines: &[&str], want: Status) -> Result<bool, NoMemory> {
-    let text = joined(alloc, lines)?;
-    let mut source = MemSource::new(text.into_bytes(), 7, Vec::new(alloc));
+// Whether a run of these bytes ends so, with nothing written.
+pub(crate) fn bytes_end(alloc: Global, bytes: Vec<u8>, want: Status) -> Result<bool, NoMemory> {
+    let mut source = MemSource::new(bytes, 65_536, Vec::new(alloc));
     let mut sink = MemSink::with_room(alloc, 1000, 1000, Vec::new(alloc))?;
     let words = run_words(alloc)?;
     let status = push_main(alloc, words.as_slice(), &mut source, &mut sink);
     Ok(status == want && sink.bytes().is_empty())
+}
+
+// Whether a run of these lines ends so, with nothing written.
+pub(crate) fn ends(alloc: Global, lines: &[&str], want: Status) -> Result<bool, NoMemory> {
+    bytes_end(alloc, joined(alloc, lines)?.into_bytes(), want)
+}
+
+// Whether a line of these has a fault of this kind, and nothing is written.
+pub(crate) fn is_fault(
+    alloc: Global,
+    lines: &[&str],
+    line: u32,
+    kind: ScriptKind,
+) -> Result<bool, NoMemory> {
+    ends(alloc, lines, Status::BadScript { line, kind })
 }
 
 // Whether a run of these lines writes this report.
@@ -64,162 +106,64 @@ pub(crate) fn reports(alloc: Global, lines: &[&str], want: &[&str]) -> Result<bo
     let text = joined(alloc, lines)?;
     let want = joined(alloc, want)?;
     let mut source = MemSource::new(text.into_bytes(), 4096, Vec::new(alloc));
-    let mut sink = MemSink::with_room(alloc, 10000, 10000, Vec::new(alloc))?;
+    let mut sink = MemSink::with_room(alloc, 100_000, 100_000, Vec::new(alloc))?;
     let words = run_words(alloc)?;
     let status = push_main(alloc, words.as_slice(), &mut source, &mut sink);
     Ok(status == Status::Done && sink.bytes() == want.as_bytes())
 }
 
-const FULL: &str =
-    "to r1 {\"ietf-restconf:notification\":{\"eventTime\":\"2026-01-01T00:00:00.00Z\",\"ietf-yang-push:push-update\":{\"datastore-contents\":{},\"id\":2147483648}}}\n";
-
-const CHANGE: &str =
-    "to r1 {\"ietf-restconf:notification\":{\"eventTime\":\"2026-01-01T00:00:00.00Z\",\"ietf-yang-push:push-change-update\":{\"datastore-changes\":{\"yang-patch\":{\"edit\":[{\"edit-id\":\"1\",\"operation\":\"create\",\"target\":\"/acme:interfaces/interface=eth0\",\"value\":{\"acme:interface\":[{\"mtu\":1500,\"name\":\"eth0\"}]}}],\"patch-id\":\"2\"}},\"id\":2147483648}}}\n";
-
-const TREE: &str =
-    "tree r1 2147483648 {\"acme:interfaces\":{\"interface\":[{\"mtu\":1500,\"name\":\"eth0\"}]}}\n";
-
-#[test]
-fn an_empty_datastore_is_told_whole(rt: HostRuntime) -> Result<(), Fail> {
-    let told = reports(
-        rt.alloc(),
-        &[START, SCHEMA, RECEIVER, ESTABLISH],
-        &[
-            "reply 1 0 1 {\"id\":2147483648}\n",
-            FULL,
-            "tree r1 2147483648 {}\n",
-            "end\n",
-        ],
-    )?;
-    assert!(rt; told);
-    Ok(())
-}
-
-#[test]
-fn a_creation_is_told_and_a_second_one_is_refused(rt: HostRuntime) -> Result<(), Fail> {
-    let alloc = rt.alloc();
-    let id = "reply 1 0 1 {\"id\":2147483648}\n";
-    let ok = "reply 2 0 2 {\"ok\":true}\n";
-    let there = "reply 3 0 3 {\"edit-id\":\"e\",\"error\":\"data-exists\"}\n";
-    let one = [START, SCHEMA, RECEIVER, ESTABLISH, OPEN_CREATE];
-    assert!(rt; reports(alloc, &one, &[id, ok, FULL, CHANGE, TREE, "end\n"])?);
-    let two = [START, SCHEMA, RECEIVER, ESTABLISH, OPEN_CREATE, OPEN_CREATE];
-    assert!(rt; reports(alloc, &two, &[id, ok, there, FULL, CHANGE, TREE, "end\n"])?);
-    Ok(())
-}
-
-#[test]
-fn a_creation_is_told_without_what_is_hidden(rt: HostRuntime) -> Result<(), Fail> {
-    let told = reports(
-        rt.alloc(),
-        &[
-            START,
-            SCHEMA,
-            RECEIVER,
-            ESTABLISH,
-            CREATE,
-            CREATE,
-            LEAF_OF_NONE,
-        ],
-        &[
-            "reply 1 0 1 {\"id\":2147483648}\n",
-            "reply 2 0 2 {\"ok\":true}\n",
-            "reply 3 0 3 {\"edit-id\":\"e\",\"error\":\"data-exists\"}\n",
-            "reply 4 0 4 {\"edit-id\":\"e\",\"error\":\"data-missing\"}\n",
-            FULL,
-            CHANGE,
-            TREE,
-            "end\n",
-        ],
-    )?;
-    assert!(rt; told);
-    Ok(())
-}
-
-#[test]
-fn a_script_without_a_subscription_has_no_tree(rt: HostRuntime) -> Result<(), Fail> {
-    let told = reports(
-        rt.alloc(),
-        &[START, SCHEMA, RECEIVER, CREATE],
-        &["reply 1 0 1 {\"ok\":true}\n", "end\n"],
-    )?;
-    assert!(rt; told);
-    Ok(())
+// Whether a run of this text writes a report that ends so.
+pub(crate) fn has_end(alloc: Global, text: String, end: &str) -> Result<bool, NoMemory> {
+    let mut source = MemSource::new(text.into_bytes(), 65_536, Vec::new(alloc));
+    let mut sink = MemSink::with_room(alloc, 200_000, 200_000, Vec::new(alloc))?;
+    let words = run_words(alloc)?;
+    let status = push_main(alloc, words.as_slice(), &mut source, &mut sink);
+    Ok(status == Status::Done && sink.bytes().ends_with(end.as_bytes()))
 }
 
 #[test]
 fn the_first_line_with_a_fault_is_told(rt: HostRuntime) -> Result<(), Fail> {
     let alloc = rt.alloc();
-    let kind = ScriptKind::Order;
-    assert!(rt; ends(alloc, &[], Status::BadScript { line: 1, kind })?);
-    assert!(rt; ends(alloc, &[START], Status::BadScript { line: 2, kind })?);
-    assert!(rt; ends(alloc, &[START, SCHEMA], Status::BadScript { line: 3, kind })?);
-    let kind = ScriptKind::UnknownCommand;
-    assert!(rt; ends(alloc, &[SCHEMA], Status::BadScript { line: 1, kind })?);
-    assert!(rt;
-        ends(
-            alloc,
-            &[START, RECEIVER],
-            Status::BadScript { line: 2, kind }
-        )?
-    );
-    assert!(rt;
-        ends(
-            alloc,
-            &[START, SCHEMA, SCHEMA],
-            Status::BadScript { line: 3, kind }
-        )?
-    );
-    assert!(rt;
-        ends(
-            alloc,
-            &[START, SCHEMA, RECEIVER, START],
-            Status::BadScript { line: 4, kind }
-        )?
-    );
-    assert!(rt;
-        ends(
-            alloc,
-            &[START, SCHEMA, RECEIVER, ESTABLISH, ESTABLISH],
-            Status::BadScript { line: 5, kind }
-        )?
-    );
+    let lines = [START, SCHEMA, RECEIVER, "x\n", "{}\n", "\"\n"];
+    assert!(rt; is_fault(alloc, &lines, 4, ScriptKind::NotJson)?);
+    let lines = [START, SCHEMA, RECEIVER, "{}\n", "x\n", "\"\n"];
+    assert!(rt; is_fault(alloc, &lines, 4, ScriptKind::UnknownCommand)?);
+    let lines = [START, SCHEMA, RECEIVER, CREATE, ESTABLISH, "x\n", CREATE];
+    assert!(rt; is_fault(alloc, &lines, 6, ScriptKind::NotJson)?);
     Ok(())
 }
 
 #[test]
-fn other_words_read_nothing(rt: HostRuntime) -> Result<(), Fail> {
+fn a_blank_line_is_skipped_and_counted(rt: HostRuntime) -> Result<(), Fail> {
     let alloc = rt.alloc();
-    let mut source = MemSource::new(joined(alloc, &[START])?.into_bytes(), 10, Vec::new(alloc));
-    let mut sink = MemSink::with_room(alloc, 10, 10, Vec::new(alloc))?;
-    let words = Vec::new(alloc);
-    assert_eq!(rt;
-        push_main(alloc, words.as_slice(), &mut source, &mut sink),
-        Status::BadWords
-    );
+    let lines = [
+        "\n", START, " \t\r\n", SCHEMA, "\r\n", RECEIVER, "\t\n", "x\n",
+    ];
+    assert!(rt; is_fault(alloc, &lines, 8, ScriptKind::NotJson)?);
+    let lines = [
+        "\n", START, " \t\r\n", SCHEMA, "\r\n", RECEIVER, "\t\n", " \t\r",
+    ];
+    assert!(rt; reports(alloc, &lines, &["end\n"])?);
+    let lines = [START, SCHEMA, "\u{c}\n"];
+    assert!(rt; is_fault(alloc, &lines, 3, ScriptKind::NotJson)?);
+    let lines = [START, SCHEMA, "\u{a0}\n"];
+    assert!(rt; is_fault(alloc, &lines, 3, ScriptKind::NotJson)?);
     Ok(())
 }
 
-#[test]
-fn a_read_and_a_write_that_fail_are_told(rt: HostRuntime) -> Result<(), Fail> {
-    let alloc = rt.alloc();
-    let words = run_words(alloc)?;
-    let text = joined(alloc, &[START, SCHEMA, RECEIVER])?;
-    let failing = vec![in alloc; 2u64]?;
-    let mut source = MemSource::new(text.into_bytes(), 10, failing);
-    let mut sink = MemSink::with_room(alloc, 10, 10, Vec::new(alloc))?;
-    assert_eq!(rt;
-        push_main(alloc, words.as_slice(), &mut source, &mut sink),
-        Status::ReadFault
-    );
-    assert_eq!(rt; sink.bytes(), b"".as_slice());
-    let text = joined(alloc, &[START, SCHEMA, RECEIVER])?;
-    let mut source = MemSource::new(text.into_bytes(), 10, Vec::new(alloc));
-    let mut sink = MemSink::with_room(alloc, 3, 10, Vec::new(alloc))?;
-    assert_eq!(rt;
-        push_main(alloc, words.as_slice(), &mut source, &mut sink),
-        Status::WriteFault
-    );
-    assert_eq!(rt; sink.bytes(), b"end".as_slice());
+// Sees that each of these lines has a fault of this kind behind the lines before it.
+pub(crate) fn see_faults(
+    rt: &impl Abort,
+    alloc: Global,
+    before: &[&str],
+    line: u32,
+    kind: ScriptKind,
+    texts: &[&str],
+) -> Result<(), NoMemory> {
+    let before = joined(alloc, before)?;
+    for text in texts {
+        let lines = [before.as_str(), *text, "\n"];
+        assert!(rt; is_fault(alloc, &lines, line, kind)?, "{text}");
+    }
     Ok(())
 }
