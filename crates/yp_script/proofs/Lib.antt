@@ -1,6 +1,7 @@
 pub mod Keeping
 pub mod LineLaws
 pub mod NameLaws
+pub mod OrderLaws
 pub mod PartLaws
 pub mod Positions
 pub mod SaidLaws

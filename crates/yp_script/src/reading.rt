@@ -1,10 +1,11 @@
 //! Reading a script.
-ghost use Rattle.std.specs.Prelude.{◌≡◌, ◌≤◌, length, IfOk};
+ghost use Rattle.std.specs.Prelude.{◌≡◌, ◌≤◌, length, take, IfOk, OnOk};
 ghost use Rattle.yp_schema.specs.WellFormed.{IsSchema};
 ghost use Rattle.yp_time.specs.Instants.{IsStart};
 ghost use Rattle.yp_script.specs.Commands.{HasFew};
+ghost use Rattle.yp_script.specs.Lines.{lines_from, pieces_of};
 ghost use Rattle.yp_script.specs.Readings.{Gives};
-ghost use Rattle.yp_script.specs.Script.{AreReceivers, MayRun, script_in, script_of};
+ghost use Rattle.yp_script.specs.Script.{AreInOrder, AreReceivers, MayRun, script_in, script_of};
 
 use crate::cursor::Lines;
 use crate::fault::ScriptFault;
@@ -36,6 +37,7 @@ fn read_text(alloc: Global, text: &[u8]) -> Result<Script, ScriptFault>
 /// `Limit` before all others. Where the text ends too early, the line after the last has `Order`.
 pub fn read_script(alloc: Global, bytes: &[u8]) -> Result<Script, ScriptFault>
     ensures read { Gives result (script_in bytes.now) }
+    ensures order { OnOk result (AreInOrder (lines_from 0 0 (pieces_of (take 67108865 bytes.now)))) }
     ensures start { IfOk result (λ script. IsStart script.start) }
     ensures schema { IfOk result (λ script. IsSchema script.schema) }
     ensures receivers { IfOk result (λ script. AreReceivers script.receivers) }
