@@ -1,5 +1,5 @@
 -- A script: what its lines say, in order, each judged by the lines before it; the first line with a fault is told, with the least of its faults.
-use Rattle.std.specs.Prelude.{◌≡◌, ℕ, ◌+◌, ◌-◌, ◌≤◌, List, [], ◌∷◌, ◌++◌, All, length, take, replicate, slice_set, slice_index_or, true, Option, Some, None, Result, Ok, Err, map, option_and_then}
+use Rattle.std.specs.Prelude.{◌≡◌, ℕ, ◌+◌, ◌-◌, ◌≤◌, List, [], ◌∷◌, ◌++◌, All, length, take, replicate, slice_set, slice_index_or, true, Option, Some, None, Result, Ok, Err, map, option_and_then, sum_by}
 use Rattle.std.specs.Result.{result_ok}
 use Rattle.serde_json.specs.Data.{Data}
 use Rattle.yp_base.specs.Types.{are_distinct}
@@ -182,3 +182,7 @@ pub record AreInOrder (lines : List Line) : Type 0 where
   pub forms : List Form
   pub known : map form_at lines ≡ map (λ form. Some form) forms
   pub order : InOrder forms
+
+-- how many commands a script has
+abbrev pub count_commands : Script → ℕ
+count_commands script = length script.before + sum_by (λ lane. length lane) script.lanes + length script.after

@@ -2,6 +2,7 @@ use Rattle.std.proofs.Common.{IfOk, List, ℕ, ◌∙◌, subst}
 use Rattle.yp_script.specs.Readings.{Gives}
 use Rattle.yp_script.specs.Lines.{lines_from, pieces_of}
 use Rattle.yp_script.specs.Script.{AreInOrder, script_of}
+use Rattle.yp_script.proofs.Counting.{read_count}
 use Rattle.yp_script.proofs.Keeping.{read_keeps, read_schema, read_receivers, read_commands, take_least}
 use Rattle.yp_script.proofs.OrderLaws.{read_in_order}
 use Rattle.yp_script.proofs.reading.read_script.Goals as goal
@@ -23,3 +24,6 @@ returns-clause-receivers c = read_receivers c.read_text.result (read_keeps c.rea
 
 pub returns-clause-commands : goal.returns-clause-commands
 returns-clause-commands c = read_commands c.read_text.result (read_keeps c.read_text.result c.split_at.result.0.now c.read_text.ensures.read) c.read_text.ensures.few
+
+pub returns-clause-count : goal.returns-clause-count
+returns-clause-count c = read_count c.read_text.result c.split_at.result.0.now c.read_text.ensures.read
