@@ -1,8 +1,7 @@
 //! The report of a script.
 ghost use Rattle.std.specs.Prelude.{◌≡◌, ◌≤◌, ◌<◌, ◌++◌, [], IfOk, OnOk, codes, string_bytes};
 ghost use Rattle.yp_schema.specs.Datastore.{AreWritable};
-ghost use Rattle.yp_script.specs.Counts.{command_count};
-ghost use Rattle.yp_script.specs.Script.{MayRun};
+ghost use Rattle.yp_script.specs.Script.{MayRun, count_commands};
 ghost use Rattle.push_program.specs.Progress.{Ready, held_line, mirror_lines, desk_lines};
 ghost use Rattle.push_program.specs.Report.{report_text};
 
@@ -87,7 +86,7 @@ fn report_with<L: Ledger>(alloc: Global, script: &Script, blank: Blank) -> Resul
     requires parts { blank.parts ≡ L.parts }
     requires some { 0 < L.parts }
     requires commands { MayRun script.now }
-    requires few { command_count script.now ≤ 100000 }
+    requires few { count_commands script.now ≤ 100000 }
     ensures { IfOk result (λ text. string_bytes text ≡ report_text script.now) }
 {
     let mut steps = Steps::<L>::open(blank);
@@ -103,7 +102,7 @@ fn report_with<L: Ledger>(alloc: Global, script: &Script, blank: Blank) -> Resul
 /// holds of its subscriptions, and `end`. An error says that memory ran out.
 pub fn report(alloc: Global, script: &Script) -> Result<String, NoMemory>
     requires commands { MayRun script.now }
-    requires few { command_count script.now ≤ 100000 }
+    requires few { count_commands script.now ≤ 100000 }
     ensures { IfOk result (λ text. string_bytes text ≡ report_text script.now) }
 {
     report_with::<Brand>(alloc, script, Blank::new(1))

@@ -1,12 +1,11 @@
 //! A run of a script: its commands, turn by turn.
-ghost use Rattle.std.specs.Prelude.{◌≡◌, ◌≤◌, ◌<◌, ◌+◌, ◌++◌, ◌∷◌, ◌^◌, [], All, List, length, map, IfOk, OnOk};
+ghost use Rattle.std.specs.Prelude.{◌≡◌, ◌≤◌, ◌<◌, ◌+◌, ◌++◌, ◌∷◌, ◌^◌, [], All, List, length, map, sum_by, IfOk, OnOk};
 ghost use Rattle.std.specs.List.{AllByRecursion};
 ghost use Rattle.yp_base.specs.declared.notice.Notice.TheVariants.{Full};
 ghost use Rattle.yp_schema.specs.Datastore.{IsRowOf};
 ghost use Rattle.yp_encode.specs.Sendable.{IsSendableChange};
 ghost use Rattle.yp_journal.specs.History.{MayCome};
-ghost use Rattle.yp_script.specs.Counts.{lane_count, command_count};
-ghost use Rattle.yp_script.specs.Script.{MayRun};
+ghost use Rattle.yp_script.specs.Script.{MayRun, count_commands};
 ghost use Rattle.push_program.specs.Desks.{with_lines, told_changes, notice_for, bare_desks, id_in};
 ghost use Rattle.push_program.specs.Notices.{selection};
 ghost use Rattle.push_program.specs.Progress.{Ready, Advances, Goes};
@@ -188,10 +187,10 @@ fn run_lanes<L: Ledger>(
 ) -> Result<(), NoMemory>
     requires ready { Ready script.now run.old }
     requires commands { All (All (MayCome script.now.schema script.now.receivers)) script.now.lanes }
-    requires room { run.old.state.position + lane_count script.now.lanes < 2 ^ 63 }
+    requires room { run.old.state.position + sum_by (λ lane. length lane) script.now.lanes < 2 ^ 63 }
     ensures ready { OnOk result (Ready script.now run.new) }
     ensures goes { OnOk result ((rest : List Turn) → Goes script.now (lane_turns 1 script.now.lanes ++ rest) run.old → Goes script.now rest run.new) }
-    ensures position { OnOk result (run.new.state.position ≡ run.old.state.position + lane_count script.now.lanes) }
+    ensures position { OnOk result (run.new.state.position ≡ run.old.state.position + sum_by (λ lane. length lane) script.now.lanes) }
 {
     let mut lane = 1;
     for commands in script.lanes.items() {
@@ -238,7 +237,7 @@ pub fn run_all<L: Ledger>(
     steps: &mut Steps<L>,
 ) -> Result<Progress, NoMemory>
     requires commands { MayRun script.now }
-    requires few { command_count script.now ≤ 100000 }
+    requires few { count_commands script.now ≤ 100000 }
     ensures ready { IfOk result (λ run. Ready script.now run) }
     ensures goes { IfOk result (λ run. Goes script.now [] run) }
 {

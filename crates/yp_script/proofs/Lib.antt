@@ -1,8 +1,10 @@
+pub mod Counting
 pub mod Keeping
 pub mod Limits
 pub mod LineLaws
 pub mod ListLaws
 pub mod NameLaws
+pub mod OrderLaws
 pub mod PartLaws
 pub mod Positions
 pub mod SaidLaws

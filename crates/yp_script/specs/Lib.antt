@@ -1,5 +1,4 @@
 pub mod Commands
-pub mod Counts
 pub mod Cursor
 pub mod Faults
 pub mod Forms

@@ -1,5 +1,6 @@
 -- The order of a script's lines: a start; schema lines, one at least; receivers; commands; lanes and their end, which may be left out; commands.
-use Rattle.std.specs.Prelude.{Bool, true, false}
+use Rattle.std.specs.Prelude.{◌≡◌, ℕ, ◌∷◌, [], ◌++◌, List, map, replicate, Bool, true, false, Option, Some, None}
+use Rattle.yp_script.specs.declared.form.Asked.{Asked}
 use Rattle.yp_script.specs.declared.form.Form.{Form}
 use Rattle.yp_script.specs.declared.form.Form.TheVariants.{Start, Schema, Receiver, Command, Lanes, Lane, Join}
 use Rattle.yp_script.specs.declared.stage.Stage.{Stage}
@@ -114,3 +115,18 @@ has_begun Receivers = true
 has_begun Before = true
 has_begun Within = true
 has_begun After = true
+
+-- ---- whole scripts
+
+-- the forms of the lanes' lines and of those behind them, where there are lanes
+abbrev pub lanes_part : Option (List Asked × List Asked) → List Form
+lanes_part None = []
+lanes_part (Some part) = Lanes ∷ map Lane part.0 ++ Join ∷ map Command part.1
+
+-- the forms of a script's lines: a start; parts of the schema, one at least; receivers; commands; and the lanes' part, where there is one
+pub record InOrder (forms : List Form) : Type 0 where
+  pub parts : ℕ
+  pub receivers : ℕ
+  pub before : List Asked
+  pub lanes : Option (List Asked × List Asked)
+  pub all : forms ≡ Start ∷ (Schema ∷ replicate parts Schema ++ (replicate receivers Receiver ++ (map Command before ++ lanes_part lanes)))

@@ -1,5 +1,6 @@
 -- A script: what its lines say, in order, each judged by the lines before it; the first line with a fault is told, with the least of its faults.
-use Rattle.std.specs.Prelude.{◌≡◌, ℕ, ◌+◌, ◌-◌, ◌≤◌, List, [], ◌∷◌, ◌++◌, All, length, take, replicate, slice_set, slice_index_or, true, Option, Some, None, Result, Ok, Err}
+use Rattle.std.specs.Prelude.{◌≡◌, ℕ, ◌+◌, ◌-◌, ◌≤◌, List, [], ◌∷◌, ◌++◌, All, length, take, replicate, slice_set, slice_index_or, true, Option, Some, None, Result, Ok, Err, map, option_and_then, sum_by}
+use Rattle.std.specs.Result.{result_ok}
 use Rattle.serde_json.specs.Data.{Data}
 use Rattle.yp_base.specs.Types.{are_distinct}
 use Rattle.yp_schema.specs.declared.schema.SchemaNode.{SchemaNode}
@@ -23,7 +24,7 @@ use Rattle.yp_script.specs.declared.stage.Stage.TheVariants.{Opening, Started, S
 use Rattle.yp_script.specs.Faults.{Said, said_map, holding}
 use Rattle.yp_script.specs.Forms.{is_receiver_name, is_user_name, names_of, form_of, start_said, part_said, receiver_said, command_said, lanes_said, lane_said, is_join}
 use Rattle.yp_script.specs.Lines.{Line, pieces_of, lines_from}
-use Rattle.yp_script.specs.Order.{may_stand, behind_command, is_complete}
+use Rattle.yp_script.specs.Order.{may_stand, behind_command, is_complete, InOrder}
 
 -- ---- what the lines so far say
 
@@ -171,3 +172,17 @@ pub record MayRun (script : Script) : Type 0 where
   pub before : All (MayCome script.schema script.receivers) script.before
   pub lanes : All (All (MayCome script.schema script.receivers)) script.lanes
   pub after : All (MayCome script.schema script.receivers) script.after
+
+-- the form of a line, where it has one that is read
+abbrev pub form_at : Line → Option Form
+form_at line = option_and_then form_of (result_ok line.json)
+
+-- lines whose forms stand in order
+pub record AreInOrder (lines : List Line) : Type 0 where
+  pub forms : List Form
+  pub known : map form_at lines ≡ map (λ form. Some form) forms
+  pub order : InOrder forms
+
+-- how many commands a script has
+abbrev pub count_commands : Script → ℕ
+count_commands script = length script.before + sum_by (λ lane. length lane) script.lanes + length script.after

@@ -54,7 +54,7 @@ impl Parts {
         }
     }
 
-    /// One part more, with the number of its line. After want of memory nothing is changed.
+    /// One part more, with the number of its line.
     pub fn push(&mut self, line: u32, part: Json) -> Result<(), NoMemory>
         ensures numbers { OnOk result (self.new.numbers.items ≡ self.old.numbers.items ++ line ∷ []) }
         ensures parts { OnOk result (self.new.parts.items ≡ self.old.parts.items ++ part ∷ []) }

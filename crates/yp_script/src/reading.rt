@@ -1,11 +1,11 @@
 //! Reading a script.
-ghost use Rattle.std.specs.Prelude.{◌≡◌, ◌≤◌, length, IfOk};
+ghost use Rattle.std.specs.Prelude.{◌≡◌, ◌≤◌, length, take, IfOk, OnOk};
 ghost use Rattle.yp_schema.specs.WellFormed.{IsSchema};
 ghost use Rattle.yp_time.specs.Instants.{IsStart};
 ghost use Rattle.yp_script.specs.Commands.{HasFew};
-ghost use Rattle.yp_script.specs.Counts.{command_count};
+ghost use Rattle.yp_script.specs.Lines.{lines_from, pieces_of};
 ghost use Rattle.yp_script.specs.Readings.{Gives};
-ghost use Rattle.yp_script.specs.Script.{AreReceivers, MayRun, script_in, script_of};
+ghost use Rattle.yp_script.specs.Script.{AreInOrder, AreReceivers, MayRun, count_commands, script_in, script_of};
 
 use crate::cursor::Lines;
 use crate::fault::ScriptFault;
@@ -34,14 +34,16 @@ fn read_text(alloc: Global, text: &[u8]) -> Result<Script, ScriptFault>
 /// Reads a script. Its lines are a start, schema lines, receivers, commands, and lanes with commands
 /// behind them where there are lanes. The fault is that of the first line that has one, by the lines
 /// before it; of its faults the least is told, but a line past the limits of lines and bytes has
-/// `Limit` before all others. Where the text ends too early, the line after the last has `Order`.
+/// `Limit` before all others. Where the text ends too early, the line after the last has `Order`. The
+/// commands of a script that was read may run in a journal of its receivers, and are 100,000 at most.
 pub fn read_script(alloc: Global, bytes: &[u8]) -> Result<Script, ScriptFault>
     ensures read { Gives result (script_in bytes.now) }
+    ensures order { OnOk result (AreInOrder (lines_from 0 0 (pieces_of (take 67108865 bytes.now)))) }
     ensures start { IfOk result (λ script. IsStart script.start) }
     ensures schema { IfOk result (λ script. IsSchema script.schema) }
     ensures receivers { IfOk result (λ script. AreReceivers script.receivers) }
     ensures commands { IfOk result MayRun }
-    ensures limits { IfOk result (λ script. command_count script ≤ 100000) }
+    ensures count { IfOk result (λ script. count_commands script ≤ 100000) }
 {
     let (text, _) = bytes.split_at(bytes.len().min(MOST_READ));
     read_text(alloc, text)

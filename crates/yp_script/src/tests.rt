@@ -88,6 +88,13 @@ fn commands_stand_before_in_and_after_the_lanes(rt: HostRuntime) -> Result<(), F
         Ok(script) => {
             assert!(rt; script.receivers.len() == 2);
             assert!(rt; script.receivers.number_of("r2") == Some(1));
+            match script.receivers.get(1) {
+                Some(receiver) => {
+                    assert!(rt; receiver.user.as_str() == "bob");
+                    assert!(rt; receiver.places == 32 && receiver.auto);
+                }
+                None => assert!(rt; false),
+            }
             assert!(rt; script.schema.count() == 1);
             assert!(rt; script.start.second() == 1_767_225_600);
             assert!(rt;

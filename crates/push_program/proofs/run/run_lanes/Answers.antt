@@ -1,7 +1,6 @@
-use Rattle.std.proofs.Common.{◌≡◌, ◌+◌, List, ◌∷◌, ◌++◌, length, drop, sym, ap, ◌∙◌, subst, arith, append_assoc}
+use Rattle.std.proofs.Common.{◌≡◌, ◌+◌, List, ◌∷◌, ◌++◌, length, sum_by, drop, sym, ap, ◌∙◌, subst, arith, append_assoc}
 use Rattle.std.proofs.lemmas.List.{drop_more}
 use Rattle.yp_journal.specs.declared.command.Command.{Command}
-use Rattle.yp_script.specs.Counts.{lane_count}
 use Rattle.push_program.specs.Progress.{Goes}
 use Rattle.push_program.specs.Turns.{Turn, turns_of, lane_turns}
 use Rattle.push_program.proofs.run.run_lanes.Goals as goal
@@ -15,7 +14,7 @@ loop-commands-preserved g c =
     let tail : List (List Command) = drop (i + 1) lanes in
     let front : drop i lanes ≡ here ∷ tail = drop_more lanes i here c.loop-commands-test.true ∙ ap (λ (first : List Command). first ∷ tail) (sym c.commands-item.is) in
     let items : c.items.result.now ≡ here = c.items.ensures in
-    let count : lane_count (drop i lanes) ≡ length c.items.result.now + lane_count tail = ap lane_count front ∙ ap (λ (cs : List Command). length cs + lane_count tail) (sym items) in
+    let count : sum_by (λ (lane : List Command). length lane) (drop i lanes) ≡ length c.items.result.now + sum_by (λ (lane : List Command). length lane) tail = ap sum_by (λ (lane : List Command). length lane) front ∙ ap (λ (cs : List Command). length cs + sum_by (λ (lane : List Command). length lane) tail) (sym items) in
     record {
       ready = c.in_ok-run_commands.ensures.ready;
       lane = omega (arith, c.loop-commands.invariant.lane);
