@@ -61,12 +61,15 @@ given_step : (nodes : List SchemaNode) (receiver id : ℕ) (before after : Journ
     → IsStep nodes receiver id after held (made_of after (change_update s.id after.position changes))
 given_step nodes receiver id before after held s [] is fits next held_is same = λ t there mine.
     held_is ∙ ap (λ (rows : List Row). Some rows) (no_record nodes before.rows after.rows fits.schema fits.datastore next.datastore (sym is))
-given_step nodes receiver id before after held s (change ∷ changes) is fits next held_is same = (refl, (
+given_step nodes receiver id before after held s (change ∷ changes) is fits next held_is same = (
+  refl,
+  (
       ap (λ b. cond b (Some (changed_by (change ∷ changes) (unwrap_or held []))) held) (itself id s.id same)
       ∙ ap (λ h. Some (changed_by (change ∷ changes) (unwrap_or h []))) held_is
       ∙ ap (λ cs. Some (changed_by cs (selection nodes before.rows))) is
       ∙ ap (λ (rows : List Row). Some rows) (record_mirrors nodes before.rows after.rows fits.schema fits.datastore next.datastore)
-    ))
+      ),
+)
 
 was_given : (nodes : List SchemaNode) (receiver id : ℕ) (before after : JournalState) (held : Option (List Row)) (s : Subscription) (r : Bool)
     → (s.receiver == receiver) ≡ r → of_id id before.subscriptions ≡ Some s → of_id id after.subscriptions ≡ Some s → Fits nodes before → Fits nodes after → Holds nodes receiver id before held
@@ -164,7 +167,7 @@ none_given nodes receiver id receivers s there mine = let never : None ≡ Some 
 pub mirrors : (script : Script) → IsSchema script.schema → Mirrors script
 mirrors script schema receiver id before update after is mine =
     let m = mirrored script.schema receiver id (first_state script.receivers) None (journal_of script) (own id before) update (own id after) (fits_first script schema) (none_given script.schema receiver id script.receivers)
-        (ap (own id) is ∙ own_split id before update after mine) in
+    (ap (own id) is ∙ own_split id before update after mine) in
     let position : update.position ≡ 0 + m.count = m.position in
     let at : m.count ≡ update.position = omega (arith, position) in
     received_own id (before ++ update ∷ []) None

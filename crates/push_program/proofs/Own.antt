@@ -54,6 +54,7 @@ own_for n nodes receiver id before after (subscription ∷ subscriptions) ids =
   where
     mine : List Made
     mine = cond (subscription.receiver == receiver) (made_of after (updates_of nodes before after subscription)) []
+
     at : (b : Bool) → (subscription.id == id) ≡ b → own id (made_for nodes receiver before after subscriptions) ≡ own_update nodes receiver before after (of_id id subscriptions)
         → own id mine ++ own id (made_for nodes receiver before after subscriptions) ≡ own_update nodes receiver before after (cond b (Some subscription) (of_id id subscriptions))
     at true is rest =

@@ -44,6 +44,7 @@ trees_are script name sent number front (s ∷ subscriptions) schema ids is =
   where
     there : of_id s.id (given_by script) ≡ Some s
     there = ap (of_id s.id) is ∙ found_here 0 front s subscriptions (subst (λ (ss : List Subscription). AreIds 0 ss) is ids)
+
     here : (b : Bool) → (s.receiver == number) ≡ b
         → cond b (tree_line script.schema name s.id (selection script.schema (state_of script.schema (first_state script.receivers) (journal_of script)).rows)) []
         ≡ cond b (tree_if script.schema name s.id (received s.id None (made_by script number))) []
@@ -64,7 +65,7 @@ pub reported : (script : Script) (run : Progress) → Ready script run → Goes 
 reported script run ready goes =
     let replies : string_bytes run.replies ≡ reply_lines 0 (journal_of script) = sym (append-nil (string_bytes run.replies)) ∙ goes.replies in
     let desks : run.desks.items ≡ desks_for script.schema script.start (made_by script) 0 script.receivers =
-        sym (map_itself (λ (desk : Sending). with_lines script.schema script.start [] desk) (none_more script.schema script.start) run.desks.items) ∙ goes.desks in
+    sym (map_itself (λ (desk : Sending). with_lines script.schema script.start [] desk) (none_more script.schema script.start) run.desks.items) ∙ goes.desks in
     let ids : AreIds 0 (given_by script) = subst (λ (state : JournalState). AreIds 0 state.subscriptions) goes.state ready.fits.ids in
     (λ i. replies i ++ (desk_lines script.schema (goes.state i).rows (goes.state i).subscriptions (desks i) ++ codes "end\n"))
     ∙ ap (λ t. reply_lines 0 (journal_of script) ++ (t ++ codes "end\n")) (receivers_are script 0 script.receivers ready.fits.schema ids)

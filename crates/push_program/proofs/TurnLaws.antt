@@ -63,7 +63,7 @@ edit_advances script lane index patch before after changes ready taken is desks 
     let same : before.state.subscriptions ≡ after.state.subscriptions = ap (λ (state : JournalState). state.subscriptions) (sym taken.state) in
     let fits : Fits script.schema after.state = subst (λ (state : JournalState). Fits script.schema state) (sym taken.state) (fits_next script.schema before.state (commands.Edit patch) ready.fits) in
     let leads : changed_by changes (selection script.schema before.state.rows) ≡ selection script.schema after.state.rows =
-        ap (λ cs. changed_by cs (selection script.schema before.state.rows)) is ∙ record_mirrors script.schema before.state.rows after.state.rows ready.fits.schema ready.fits.datastore fits.datastore in
+    ap (λ cs. changed_by cs (selection script.schema before.state.rows)) is ∙ record_mirrors script.schema before.state.rows after.state.rows ready.fits.schema ready.fits.datastore fits.datastore in
     record {
       state = taken.state;
       replies = taken.replies;
@@ -84,7 +84,7 @@ tick_advances script lane index tick before after ready taken desks mirrors =
     let same : before.state.subscriptions ≡ after.state.subscriptions = ap (λ (state : JournalState). state.subscriptions) (sym taken.state) in
     let rows : before.state.rows ≡ after.state.rows = ap (λ (state : JournalState). state.rows) (sym taken.state) in
     let none : change_record (selection script.schema before.state.rows) (selection script.schema after.state.rows) ≡ [] =
-        ap (λ (now : List Row). change_record (selection script.schema before.state.rows) (selection script.schema now)) (sym rows) ∙ nothing_changed (selection script.schema before.state.rows) in
+    ap (λ (now : List Row). change_record (selection script.schema before.state.rows) (selection script.schema now)) (sym rows) ∙ nothing_changed (selection script.schema before.state.rows) in
     record {
       state = taken.state;
       replies = taken.replies;
@@ -121,7 +121,7 @@ full_advances script lane index by id before after ready taken given desks mirro
           (λ desk. ap (λ made. with_lines script.schema script.start made desk) (sym (made_full script.schema desk.number by before.state ready.fits.ids))) before.desks.items
           ∙ (λ i. map (λ (desk : Sending). with_lines script.schema script.start (made_at script.schema desk.number before.state (sym taken.state i)) desk) before.desks.items);
       mirrors = subst (λ (now : List Row). AllMirror script.schema now after.mirrors.items) rows
-        (subst (λ (ms : List (List Row)). AllMirror script.schema before.state.rows ms) (sym (mirrors ∙ ap (λ (now : List Row). before.mirrors.items ++ selection script.schema now ∷ []) (sym rows))) (one_more script.schema before.state.rows before.mirrors.items ready.mirrors));
+          (subst (λ (ms : List (List Row)). AllMirror script.schema before.state.rows ms) (sym (mirrors ∙ ap (λ (now : List Row). before.mirrors.items ++ selection script.schema now ∷ []) (sym rows))) (one_more script.schema before.state.rows before.mirrors.items ready.mirrors));
       each =
           ap length mirrors ∙ length-append before.mirrors.items (selection script.schema after.state.rows ∷ []) ∙ ap (λ n. n + 1) ready.each
           ∙ sym (length-append before.state.subscriptions (record { id = next_id (length before.state.subscriptions); receiver = by } ∷ [])) ∙ ap (λ (state : JournalState). length state.subscriptions) (sym taken.state);

@@ -35,9 +35,9 @@ receivers_same nodes state (commands.Everything by) = refl
 legal_from : (nodes : List SchemaNode) (receivers : List ReceiverInfo) (state : JournalState) (turns : List Turn) → state.receivers ≡ receivers → TurnsMayCome nodes receivers turns → IsLegal nodes state (entries_from nodes state turns)
 legal_from nodes receivers state [] same all = tt
 legal_from nodes receivers state (turn ∷ turns) same all = (
-      record { command = subst (λ (rs : List ReceiverInfo). MayCome nodes rs turn.command) (sym same) all.0; reply = refl; stamp = refl },
-      legal_from nodes receivers (next_state nodes state turn.command) turns (receivers_same nodes state turn.command ∙ same) all.1,
-    )
+  record { command = subst (λ (rs : List ReceiverInfo). MayCome nodes rs turn.command) (sym same) all.0; reply = refl; stamp = refl },
+  legal_from nodes receivers (next_state nodes state turn.command) turns (receivers_same nodes state turn.command ∙ same) all.1,
+)
 
 listed : {X : Type 0} (P : X → Type 0) (xs : List X) → All P xs → AllByRecursion P xs
 listed P [] all = tt

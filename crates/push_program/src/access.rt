@@ -5,9 +5,9 @@ ghost use Rattle.yp_schema.specs.Datastore.{is_path_of, IsRowOf};
 ghost use Rattle.push_program.specs.Access.{are_open, is_open, is_readable, visible_rows};
 
 use std::alloc::Global;
-use yp_base::memory::{Duplicate, NoMemory};
+use yp_base::memory::NoMemory;
 use yp_base::path::{Path, Seg};
-use yp_base::row::{Row, Rows};
+use yp_base::row::Rows;
 use yp_base::series::Series;
 use yp_schema::schema::Schema;
 
@@ -59,15 +59,15 @@ pub fn may_read(schema: &Schema, path: &Path) -> bool
     are_open_segments(schema, path.items())
 }
 
-/// The rows that may be read.
-pub fn read_visible(alloc: Global, schema: &Schema, rows: &Rows) -> Result<Rows, NoMemory>
-    requires { AllByRecursion (IsRowOf schema.now) rows.now }
-    ensures { IfOk result (λ seen. seen ≡ visible_rows schema.now rows.now) }
+/// Of these rows those that may be read.
+pub fn read_visible(alloc: Global, schema: &Schema, rows: Rows) -> Result<Rows, NoMemory>
+    requires { AllByRecursion (IsRowOf schema.now) rows }
+    ensures { IfOk result (λ seen. seen ≡ visible_rows schema.now rows) }
 {
     let mut seen = Vec::new(alloc);
-    for row in rows.items() {
+    for row in rows.into_vec() {
         if may_read(schema, &row.path) {
-            seen.push(row.copy(alloc)?)?;
+            seen.push(row)?;
         }
     }
     Ok(Series::from_vec(seen))

@@ -70,7 +70,7 @@ fn carried_below<L: Ledger>(
 {
     if row.new.is_some() {
         let all = collect_within(alloc, rows, &row.path, steps)?;
-        let carried = read_visible(alloc, schema, &all)?;
+        let carried = read_visible(alloc, schema, all)?;
         Ok(carried)
     } else {
         Ok(Series::from_vec(Vec::new(alloc)))

@@ -12,10 +12,10 @@ ghost use Rattle.push_program.specs.Progress.{Ready, Advances, Goes};
 ghost use Rattle.push_program.specs.Received.{changed_by};
 ghost use Rattle.push_program.specs.Turns.{Turn, turns_of, lane_turns, turns_in};
 
+use crate::changes::record_of;
 use crate::desk::Desk;
 use crate::hearing::{all_hear, hear_full};
 use crate::progress::Progress;
-use crate::changes::record_of;
 use crate::telling::push_reply;
 use crate::updates::{select, send_all, send_one};
 use std::alloc::Global;
@@ -245,6 +245,14 @@ pub fn run_all<L: Ledger>(
     run_commands(alloc, script, 0, 1, script.before.items(), &mut run, steps)?;
     run_lanes(alloc, script, &mut run, steps)?;
     let next = script.before.len() as u64 + 1;
-    run_commands(alloc, script, 0, next, script.after.items(), &mut run, steps)?;
+    run_commands(
+        alloc,
+        script,
+        0,
+        next,
+        script.after.items(),
+        &mut run,
+        steps,
+    )?;
     Ok(run)
 }

@@ -33,7 +33,7 @@ pub fn select<L: Ledger>(
 {
     let _len = rows.len();
     let all = collect(alloc, rows, steps)?;
-    let selected = read_visible(alloc, schema, &all)?;
+    let selected = read_visible(alloc, schema, all)?;
     Ok(selected)
 }
 
@@ -76,15 +76,7 @@ pub fn send_all(
 {
     let mut given = changes;
     for desk in desks.iter_mut() {
-        given = desk.send_changes(
-            alloc,
-            schema,
-            start,
-            subscriptions,
-            position,
-            stamp,
-            given,
-        )?;
+        given = desk.send_changes(alloc, schema, start, subscriptions, position, stamp, given)?;
     }
     Ok(given)
 }

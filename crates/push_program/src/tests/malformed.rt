@@ -323,7 +323,7 @@ const WRONG_SUBSCRIPTIONS: &[&str] = &[
     r#"{"establish":{"by":"r1","datastore":"ietf-datastores:operational"}}"#,
     r#"{"establish":{"by":"r1","datastore":"ietf-datastores:operational","on-change":{},"more":1}}"#,
     r#"{"establish":{"by":"r2","datastore":"ietf-datastores:operational","on-change":{}}}"#,
-    r#"{"establish":{"by":"R1","datastore":"ietf-datastores:operational","on-change":{}}}"#,
+    r#"{"establish":{"by":"Ann","datastore":"ietf-datastores:operational","on-change":{}}}"#,
     r#"{"establish":{"by":"","datastore":"ietf-datastores:operational","on-change":{}}}"#,
     r#"{"establish":{"by":1,"datastore":"ietf-datastores:operational","on-change":{}}}"#,
     r#"{"establish":{"by":"r1","datastore":1,"on-change":{}}}"#,

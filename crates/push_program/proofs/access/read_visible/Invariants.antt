@@ -1,5 +1,6 @@
-use Rattle.std.proofs.Common.{◌≡◌, ◌++◌, drop}
+use Rattle.std.proofs.Common.{◌≡◌, ◌++◌}
 use Rattle.std.specs.List.{AllByRecursion}
+use Rattle.std.specs.Vec.Iter.{into_iter_items}
 use Rattle.yp_schema.specs.Datastore.{IsRowOf}
 use Rattle.push_program.specs.Access.{visible_rows}
 use Rattle.push_program.proofs.access.read_visible.Given as goal
@@ -7,6 +8,6 @@ use Rattle.push_program.proofs.access.read_visible.Given as goal
 -- the rows seen so far and those of the rows that are left are all
 abbrev pub invariant-loop-row : goal.invariant-loop-row
 invariant-loop-row l = record {
-  of_schema : AllByRecursion (IsRowOf l.schema) (drop l.row-index l.row-items);
-  seen : l.seen.items ++ visible_rows l.schema (drop l.row-index l.row-items) ≡ visible_rows l.schema l.fn.rows;
+  of_schema : AllByRecursion (IsRowOf l.schema) (into_iter_items l.row-iterator);
+  seen : l.seen.items ++ visible_rows l.schema (into_iter_items l.row-iterator) ≡ visible_rows l.schema l.fn.rows;
 }

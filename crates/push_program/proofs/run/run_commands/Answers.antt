@@ -16,12 +16,12 @@ loop-command-preserved g c =
     let turn : Turn = record { lane = c.args.lane; index = c.loop-command.index; command = command } in
     let front : drop i commands ≡ command ∷ drop (i + 1) commands = drop_more commands i command c.loop-command-test.true ∙ ap (λ (first : Command). first ∷ drop (i + 1) commands) (sym c.command-item.is) in
     let next : c.run_turn.new.run.state.position ≡ c.loop-command.run.state.position + 1 =
-        ap (λ (state : JournalState). state.position) c.in_ok-run_turn.ensures.state ∙ next_position c.args.script.now.schema c.loop-command.run.state command in
+    ap (λ (state : JournalState). state.position) c.in_ok-run_turn.ensures.state ∙ next_position c.args.script.now.schema c.loop-command.run.state command in
     record {
       ready = ready_on c.args.script.now turn c.loop-command.run c.run_turn.new.run c.loop-command.invariant.ready c.in_ok-run_turn.ensures;
       index = omega (arith, c.loop-command.invariant.index);
       position = omega (arith, next, c.loop-command.invariant.position);
       goes = λ rest was.
-        goes_on c.args.script.now turn (turns_of c.args.lane (c.loop-command.index + 1) (drop (i + 1) commands) ++ rest) c.loop-command.run c.run_turn.new.run
-        (subst (λ (left : List Command). Goes c.args.script.now (turns_of c.args.lane c.loop-command.index left ++ rest) c.loop-command.run) front (c.loop-command.invariant.goes rest was)) c.in_ok-run_turn.ensures;
+          goes_on c.args.script.now turn (turns_of c.args.lane (c.loop-command.index + 1) (drop (i + 1) commands) ++ rest) c.loop-command.run c.run_turn.new.run
+          (subst (λ (left : List Command). Goes c.args.script.now (turns_of c.args.lane c.loop-command.index left ++ rest) c.loop-command.run) front (c.loop-command.invariant.goes rest was)) c.in_ok-run_turn.ensures;
     }
