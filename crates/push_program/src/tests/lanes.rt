@@ -1,8 +1,13 @@
 // Several receivers, and lanes, which are done one after the other: whole scripts with their reports.
-use super::{CREATE, ESTABLISH, RECEIVER, SCHEMA, SECOND_RECEIVER, START, TICK, joined, reports};
+use super::{
+    CREATE, ESTABLISH, RECEIVER, SCHEMA, SECOND_RECEIVER, START, TICK, joined, patch, reports,
+    run_words,
+};
+use crate::top::{Status, push_main};
 use std::alloc::Global;
 use std::test::Fail;
 use yp_base::memory::NoMemory;
+use yp_io::memory::{MemSink, MemSource};
 
 const OTHER_ESTABLISH: &str =
     r#"{"establish":{"by":"r2","datastore":"ietf-datastores:operational","on-change":{}}}
@@ -160,5 +165,146 @@ fn lanes_may_be_empty(rt: HostRuntime) -> Result<(), Fail> {
     let lines = [START, SCHEMA, TICK, EMPTY_LANES, TICK];
     assert!(rt; reports(alloc, &lines, &[EMPTY_LANES_TOLD])?);
     assert!(rt; reports(alloc, &[START, SCHEMA, EMPTY_LANES], &["end\n"])?);
+    Ok(())
+}
+
+// The edit that creates the interface of this number.
+fn creation(alloc: Global, interface: u32) -> Result<String, NoMemory> {
+    let number = interface.to_string(alloc)?;
+    let number = number.as_str();
+    let target = r#"","operation":"create","target":"/acme:interfaces/interface=eth"#;
+    let value = r#"","value":{"acme:interface":[{"name":"eth"#;
+    let end = r#"","enabled":true,"mtu":1500}]}}"#;
+    joined(
+        alloc,
+        &[
+            r#"{"edit-id":""#,
+            number,
+            target,
+            number,
+            value,
+            number,
+            end,
+        ],
+    )
+}
+
+// The patch that creates the interfaces 0 to 63.
+fn creations(alloc: Global) -> Result<String, NoMemory> {
+    let mut edits = creation(alloc, 0)?;
+    for interface in 1..64u32 {
+        edits.push_str(",")?;
+        edits.push_str(creation(alloc, interface)?.as_str())?;
+    }
+    patch(alloc, edits.as_str())
+}
+
+// The line of a lane that replaces the mtu of an interface.
+fn lane_line(alloc: Global, lane: u32, interface: u32, mtu: u32) -> Result<String, NoMemory> {
+    let lane = lane.to_string(alloc)?;
+    let interface = interface.to_string(alloc)?;
+    let mtu = mtu.to_string(alloc)?;
+    let start =
+        r#","do":{"patch":{"ietf-yang-patch:yang-patch":{"patch-id":"p","edit":[{"edit-id":"e","operation":"replace","target":"/acme:interfaces/interface=eth"#;
+    let value = r#"/mtu","value":{"acme:mtu":"#;
+    joined(
+        alloc,
+        &[
+            r#"{"lane":"#,
+            lane.as_str(),
+            start,
+            interface.as_str(),
+            value,
+            mtu.as_str(),
+            "}}]}}}}\n",
+        ],
+    )
+}
+
+// Two lanes of 500 commands, the lines of the second before those of the first.
+fn busy_lanes(alloc: Global) -> Result<String, NoMemory> {
+    let mut text = String::from_str(alloc, "{\"lanes\":2}\n")?;
+    for number in 1..=500u32 {
+        text.push_str(lane_line(alloc, 2, 32 + number % 32, 1500 + number)?.as_str())?;
+        text.push_str(lane_line(alloc, 1, number % 32, 1500 + number)?.as_str())?;
+    }
+    text.push_str("{\"join\":true}\n")?;
+    Ok(text)
+}
+
+// The replies of a lane of 500 commands, behind so many positions.
+fn lane_replies(alloc: Global, lane: u32, before: u32) -> Result<String, NoMemory> {
+    let lane = lane.to_string(alloc)?;
+    let mut text = String::new(alloc);
+    for index in 1..=500u32 {
+        let position = before.saturating_add(index).to_string(alloc)?;
+        let index = index.to_string(alloc)?;
+        text.push_str("reply ")?;
+        text.push_str(position.as_str())?;
+        text.push_str(" ")?;
+        text.push_str(lane.as_str())?;
+        text.push_str(" ")?;
+        text.push_str(index.as_str())?;
+        text.push_str(" {\"ok\":true}\n")?;
+    }
+    Ok(text)
+}
+
+// All replies of two receivers' subscriptions and the lanes.
+fn busy_replies(alloc: Global) -> Result<String, NoMemory> {
+    let first = lane_replies(alloc, 1, 3)?;
+    let second = lane_replies(alloc, 2, 503)?;
+    joined(
+        alloc,
+        &[
+            "reply 1 0 1 {\"ok\":true}\n",
+            "reply 2 0 2 {\"id\":2147483648}\n",
+            "reply 3 0 3 {\"id\":2147483649}\n",
+            first.as_str(),
+            second.as_str(),
+            "reply 1004 0 4 {\"ok\":true}\n",
+            "to r1 ",
+        ],
+    )
+}
+
+// Behind 500 commands interface n has the mtu of the last command whose number is n modulo 32.
+const BUSY_TREE: &str =
+    r#"tree r2 2147483649 {"acme:interfaces":{"interface":[{"enabled":true,"mtu":1980,"name":"eth0"},{"enabled":true,"mtu":1981,"name":"eth1"},{"enabled":true,"mtu":1990,"name":"eth10"},{"enabled":true,"mtu":1991,"name":"eth11"},{"enabled":true,"mtu":1992,"name":"eth12"},{"enabled":true,"mtu":1993,"name":"eth13"},{"enabled":true,"mtu":1994,"name":"eth14"},{"enabled":true,"mtu":1995,"name":"eth15"},{"enabled":true,"mtu":1996,"name":"eth16"},{"enabled":true,"mtu":1997,"name":"eth17"},{"enabled":true,"mtu":1998,"name":"eth18"},{"enabled":true,"mtu":1999,"name":"eth19"},{"enabled":true,"mtu":1982,"name":"eth2"},{"enabled":true,"mtu":2000,"name":"eth20"},{"enabled":true,"mtu":1969,"name":"eth21"},{"enabled":true,"mtu":1970,"name":"eth22"},{"enabled":true,"mtu":1971,"name":"eth23"},{"enabled":true,"mtu":1972,"name":"eth24"},{"enabled":true,"mtu":1973,"name":"eth25"},{"enabled":true,"mtu":1974,"name":"eth26"},{"enabled":true,"mtu":1975,"name":"eth27"},{"enabled":true,"mtu":1976,"name":"eth28"},{"enabled":true,"mtu":1977,"name":"eth29"},{"enabled":true,"mtu":1983,"name":"eth3"},{"enabled":true,"mtu":1978,"name":"eth30"},{"enabled":true,"mtu":1979,"name":"eth31"},{"enabled":true,"mtu":1980,"name":"eth32"},{"enabled":true,"mtu":1981,"name":"eth33"},{"enabled":true,"mtu":1982,"name":"eth34"},{"enabled":true,"mtu":1983,"name":"eth35"},{"enabled":true,"mtu":1984,"name":"eth36"},{"enabled":true,"mtu":1985,"name":"eth37"},{"enabled":true,"mtu":1986,"name":"eth38"},{"enabled":true,"mtu":1987,"name":"eth39"},{"enabled":true,"mtu":1984,"name":"eth4"},{"enabled":true,"mtu":1988,"name":"eth40"},{"enabled":true,"mtu":1989,"name":"eth41"},{"enabled":true,"mtu":1990,"name":"eth42"},{"enabled":true,"mtu":1991,"name":"eth43"},{"enabled":true,"mtu":1992,"name":"eth44"},{"enabled":true,"mtu":1993,"name":"eth45"},{"enabled":true,"mtu":1994,"name":"eth46"},{"enabled":true,"mtu":1995,"name":"eth47"},{"enabled":true,"mtu":1996,"name":"eth48"},{"enabled":true,"mtu":1997,"name":"eth49"},{"enabled":true,"mtu":1985,"name":"eth5"},{"enabled":true,"mtu":1998,"name":"eth50"},{"enabled":true,"mtu":1999,"name":"eth51"},{"enabled":true,"mtu":2000,"name":"eth52"},{"enabled":true,"mtu":1969,"name":"eth53"},{"enabled":true,"mtu":1970,"name":"eth54"},{"enabled":true,"mtu":1971,"name":"eth55"},{"enabled":true,"mtu":1972,"name":"eth56"},{"enabled":true,"mtu":1973,"name":"eth57"},{"enabled":true,"mtu":1974,"name":"eth58"},{"enabled":true,"mtu":1975,"name":"eth59"},{"enabled":true,"mtu":1986,"name":"eth6"},{"enabled":true,"mtu":1976,"name":"eth60"},{"enabled":true,"mtu":1977,"name":"eth61"},{"enabled":true,"mtu":1978,"name":"eth62"},{"enabled":true,"mtu":1979,"name":"eth63"},{"enabled":true,"mtu":1987,"name":"eth7"},{"enabled":true,"mtu":1988,"name":"eth8"},{"enabled":true,"mtu":1989,"name":"eth9"}]}}
+end
+"#;
+
+// Whether a run of this text writes a report that begins and ends so.
+fn is_framed(alloc: Global, text: String, start: &str, end: &str) -> Result<bool, NoMemory> {
+    let mut source = MemSource::new(text.into_bytes(), 65_536, Vec::new(alloc));
+    let mut sink = MemSink::with_room(alloc, 1_000_000, 1_000_000, Vec::new(alloc))?;
+    let words = run_words(alloc)?;
+    let status = push_main(alloc, words.as_slice(), &mut source, &mut sink);
+    let bytes = sink.bytes();
+    let framed = bytes.starts_with(start.as_bytes()) && bytes.ends_with(end.as_bytes());
+    Ok(status == Status::Done && framed)
+}
+
+#[test]
+fn of_two_busy_lanes_each_command_counts_in_its_order(rt: HostRuntime) -> Result<(), Fail> {
+    let alloc = rt.alloc();
+    let created = creations(alloc)?;
+    let lanes = busy_lanes(alloc)?;
+    let text = joined(
+        alloc,
+        &[
+            START,
+            SCHEMA,
+            RECEIVER,
+            SECOND_RECEIVER,
+            created.as_str(),
+            ESTABLISH,
+            OTHER_ESTABLISH,
+            lanes.as_str(),
+            TICK,
+        ],
+    )?;
+    let replies = busy_replies(alloc)?;
+    assert!(rt; is_framed(alloc, text, replies.as_str(), BUSY_TREE)?);
     Ok(())
 }

@@ -61,8 +61,8 @@ fn a_blank_line_may_be_longer(rt: HostRuntime) -> Result<(), Fail> {
     Ok(())
 }
 
-// A text with so many line feeds behind a start and a schema, and a last line without one.
-fn has_lines(alloc: Global, blanks: u32, last: &str) -> Result<String, NoMemory> {
+// A script of three lines, so many blank lines behind them, and what stands last.
+fn with_blank_lines(alloc: Global, blanks: u32, last: &str) -> Result<String, NoMemory> {
     let blanks = repeated(alloc, "\n", blanks)?;
     joined(alloc, &[START, SCHEMA, RECEIVER, blanks.as_str(), last])
 }
@@ -71,13 +71,13 @@ fn has_lines(alloc: Global, blanks: u32, last: &str) -> Result<String, NoMemory>
 fn a_script_has_at_most_100000_lines(rt: HostRuntime) -> Result<(), Fail> {
     let alloc = rt.alloc();
     let end = "tree r1 2147483648 {}\nend\n";
-    assert!(rt; has_end(alloc, has_lines(alloc, 99_996, ESTABLISH)?, end)?);
+    assert!(rt; has_end(alloc, with_blank_lines(alloc, 99_996, ESTABLISH)?, end)?);
     let kind = ScriptKind::Limit;
     for last in [ESTABLISH, "\n", " ", "x", "{}\n"] {
-        let text = has_lines(alloc, 99_997, last)?;
+        let text = with_blank_lines(alloc, 99_997, last)?;
         assert!(rt; is_fault(alloc, &[text.as_str()], 100_001, kind)?, "{last}");
     }
-    let text = has_lines(alloc, 99_996, "x\n\n")?;
+    let text = with_blank_lines(alloc, 99_996, "x\n\n")?;
     assert!(rt; is_fault(alloc, &[text.as_str()], 100_000, ScriptKind::NotJson)?);
     Ok(())
 }
@@ -86,17 +86,17 @@ fn a_script_has_at_most_100000_lines(rt: HostRuntime) -> Result<(), Fail> {
 fn a_line_too_many_is_told_before_its_length(rt: HostRuntime) -> Result<(), Fail> {
     let alloc = rt.alloc();
     let long = repeated(alloc, "x", 65_537)?;
-    let text = has_lines(alloc, 99_997, long.as_str())?;
+    let text = with_blank_lines(alloc, 99_997, long.as_str())?;
     assert!(rt; is_fault(alloc, &[text.as_str()], 100_001, ScriptKind::Limit)?);
-    let text = has_lines(alloc, 99_996, long.as_str())?;
+    let text = with_blank_lines(alloc, 99_996, long.as_str())?;
     assert!(rt; is_fault(alloc, &[text.as_str()], 100_000, ScriptKind::TooLong)?);
     Ok(())
 }
 
-// A start, a schema, and a third line of blanks up to so many bytes.
-fn filled(alloc: Global, bytes: usize) -> Result<Vec<u8>, NoMemory> {
+// A start, a schema, and a third line of this byte again and again, up to so many bytes.
+fn filled(alloc: Global, bytes: usize, byte: u8) -> Result<Vec<u8>, NoMemory> {
     let mut text = joined(alloc, &[START, SCHEMA])?.into_bytes();
-    text.resize(bytes, b' ')?;
+    text.resize(bytes, byte)?;
     Ok(text)
 }
 
@@ -112,14 +112,26 @@ fn is_read(alloc: Global, bytes: Vec<u8>) -> Result<bool, NoMemory> {
 #[test]
 fn a_script_has_at_most_67108864_bytes(rt: HostRuntime) -> Result<(), Fail> {
     let alloc = rt.alloc();
-    assert!(rt; is_read(alloc, filled(alloc, 67_108_864)?)?);
+    assert!(rt; is_read(alloc, filled(alloc, 67_108_864, b' ')?)?);
     let kind = ScriptKind::Limit;
-    let bytes = filled(alloc, 67_108_865)?;
+    let bytes = filled(alloc, 67_108_865, b' ')?;
     assert!(rt; bytes_end(alloc, bytes, Status::BadScript { line: 3, kind })?);
     Ok(())
 }
 
-// A schema of one container whose name has so many bytes.
+#[test]
+fn a_byte_too_many_is_told_before_what_its_line_holds(rt: HostRuntime) -> Result<(), Fail> {
+    let alloc = rt.alloc();
+    let kind = ScriptKind::TooLong;
+    let bytes = filled(alloc, 67_108_864, b'x')?;
+    assert!(rt; bytes_end(alloc, bytes, Status::BadScript { line: 3, kind })?);
+    let kind = ScriptKind::Limit;
+    let bytes = filled(alloc, 67_108_865, b'x')?;
+    assert!(rt; bytes_end(alloc, bytes, Status::BadScript { line: 3, kind })?);
+    Ok(())
+}
+
+// A schema of one container whose module and name have so many bytes.
 fn named_schema(alloc: Global, module: u32, name: u32) -> Result<String, NoMemory> {
     let module = repeated(alloc, "m", module)?;
     let name = repeated(alloc, "n", name)?;
@@ -186,13 +198,19 @@ fn wide_part(alloc: Global, part: u32, count: u32) -> Result<String, NoMemory> {
     Ok(line)
 }
 
-#[test]
-fn a_schema_has_at_most_4096_nodes(rt: HostRuntime) -> Result<(), Fail> {
-    let alloc = rt.alloc();
+// A start, and a schema of four parts of 1,024 nodes each.
+fn wide_schema(alloc: Global) -> Result<String, NoMemory> {
     let mut text = joined(alloc, &[START])?;
     for part in 0..4u32 {
         text.push_str(wide_part(alloc, part, 1024)?.as_str())?;
     }
+    Ok(text)
+}
+
+#[test]
+fn a_schema_has_at_most_4096_nodes(rt: HostRuntime) -> Result<(), Fail> {
+    let alloc = rt.alloc();
+    let text = wide_schema(alloc)?;
     let node = "{\"schema\":[{\"path\":\"/acme:e\",\"kind\":\"container\"}]}\n";
     assert!(rt; reports(alloc, &[text.as_str(), "{\"schema\":[]}\n"], &["end\n"])?);
     assert!(rt; is_fault(alloc, &[text.as_str(), node], 6, ScriptKind::Schema)?);

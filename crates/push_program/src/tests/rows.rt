@@ -31,14 +31,20 @@ fn many_rows(alloc: Global, last: &str) -> Result<String, NoMemory> {
 }
 
 #[test]
-fn a_patch_makes_at_most_20000_rows(rt: HostRuntime) -> Result<(), Fail> {
+fn a_patch_that_makes_20000_rows_is_applied(rt: HostRuntime) -> Result<(), Fail> {
     let alloc = rt.alloc();
-    let line = many_rows(alloc, r#"{"id":999,"member":[7,8]}"#)?;
-    let want = "{\"edit-id\":\"many\",\"error\":\"too-big\"}";
-    let report = ["reply 1 0 1 ", want, "\nend\n"];
-    assert!(rt; reports(alloc, &[START, GROUPS, RECEIVER, line.as_str()], &report)?);
     let line = many_rows(alloc, r#"{"id":999,"member":[7]}"#)?;
     let report = ["reply 1 0 1 {\"ok\":true}\n", "end\n"];
+    assert!(rt; reports(alloc, &[START, GROUPS, RECEIVER, line.as_str()], &report)?);
+    Ok(())
+}
+
+#[test]
+fn a_patch_that_makes_20001_rows_is_refused(rt: HostRuntime) -> Result<(), Fail> {
+    let alloc = rt.alloc();
+    let line = many_rows(alloc, r#"{"id":999,"member":[7,8]}"#)?;
+    let refused = "reply 1 0 1 {\"edit-id\":\"many\",\"error\":\"too-big\"}\n";
+    let report = [refused, "end\n"];
     assert!(rt; reports(alloc, &[START, GROUPS, RECEIVER, line.as_str()], &report)?);
     Ok(())
 }

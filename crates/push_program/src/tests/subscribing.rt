@@ -84,6 +84,19 @@ fn the_last_line_may_lack_its_line_feed(rt: HostRuntime) -> Result<(), Fail> {
     Ok(())
 }
 
+#[test]
+fn a_line_may_hold_white_space_and_members_in_any_order(rt: HostRuntime) -> Result<(), Fail> {
+    let start = "{\"start\":\"2026-01-01T00:00:00Z\"}\r\n";
+    let schema = "\t{ \"schema\" : [ { \"kind\" : \"container\" , \"path\" : \"/acme:c\" } ] }\r\n";
+    let receiver =
+        " {\"receiver\":{\"take\":\"auto\",\"queue\":4,\"user\":\"ann\",\"name\":\"r1\"}}\n";
+    let establish =
+        "{\"establish\":{\"on-change\":{ },\"datastore\":\"ietf-datastores:operational\",\"by\":\"r1\"}}\t\n";
+    let lines = [start, schema, receiver, establish];
+    assert!(rt; reports(rt.alloc(), &lines, &[EMPTY])?);
+    Ok(())
+}
+
 const TWICE: &str = r#"{"tick":700,"tick":100}
 {"establish":{"by":"r1","datastore":"ietf-datastores:operational","on-change":{}}}
 "#;

@@ -6,6 +6,25 @@ const TWO: &str =
     r#"{"patch":{"ietf-yang-patch:yang-patch":{"patch-id":"p","edit":[{"edit-id":"e0","operation":"create","target":"/acme:interfaces/interface=eth0","value":{"acme:interface":[{"name":"eth0","mtu":1500,"secret":"hush"}]}},{"edit-id":"e1","operation":"create","target":"/acme:interfaces/interface=eth1","value":{"acme:interface":[{"name":"eth1","mtu":9000}]}}]}}}
 "#;
 
+const WITH_SECRET: &str =
+    r#"{"patch":{"ietf-yang-patch:yang-patch":{"patch-id":"p","edit":[{"edit-id":"e","operation":"create","target":"/acme:interfaces/interface=eth0","value":{"acme:interface":[{"secret":"hush","name":"eth0","mtu":1500}]}}]}}}
+"#;
+
+const WITH_SECRET_TOLD: &str = r#"reply 1 0 1 {"id":2147483648}
+reply 2 0 2 {"ok":true}
+to r1 {"ietf-restconf:notification":{"eventTime":"2026-01-01T00:00:00.00Z","ietf-yang-push:push-update":{"datastore-contents":{},"id":2147483648}}}
+to r1 {"ietf-restconf:notification":{"eventTime":"2026-01-01T00:00:00.00Z","ietf-yang-push:push-change-update":{"datastore-changes":{"yang-patch":{"edit":[{"edit-id":"1","operation":"create","target":"/acme:interfaces/interface=eth0","value":{"acme:interface":[{"mtu":1500,"name":"eth0"}]}}],"patch-id":"2"}},"id":2147483648}}}
+tree r1 2147483648 {"acme:interfaces":{"interface":[{"mtu":1500,"name":"eth0"}]}}
+end
+"#;
+
+#[test]
+fn a_creation_is_told_without_what_is_hidden(rt: HostRuntime) -> Result<(), Fail> {
+    let lines = [START, SCHEMA, RECEIVER, ESTABLISH, WITH_SECRET];
+    assert!(rt; reports(rt.alloc(), &lines, &[WITH_SECRET_TOLD])?);
+    Ok(())
+}
+
 const UNDONE: &str =
     r#"{"patch":{"ietf-yang-patch:yang-patch":{"patch-id":"created and deleted","edit":[{"edit-id":"1","operation":"create","target":"/acme:interfaces/interface=eth9","value":{"acme:interface":[{"name":"eth9","mtu":1}]}},{"edit-id":"2","operation":"delete","target":"/acme:interfaces/interface=eth9"}]}}}
 {"patch":{"ietf-yang-patch:yang-patch":{"patch-id":"deleted and created","edit":[{"edit-id":"1","operation":"delete","target":"/acme:interfaces/interface=eth0"},{"edit-id":"2","operation":"create","target":"/acme:interfaces/interface=eth0","value":{"acme:interface":[{"name":"eth0","mtu":1500,"secret":"hush"}]}}]}}}
