@@ -202,7 +202,8 @@ fn wide_part(alloc: Global, part: u32, count: u32) -> Result<String, NoMemory> {
 fn wide_schema(alloc: Global) -> Result<String, NoMemory> {
     let mut text = joined(alloc, &[START])?;
     for part in 0..4u32 {
-        text.push_str(wide_part(alloc, part, 1024)?.as_str())?;
+        let line = wide_part(alloc, part, 1024)?;
+        text.push_str(line.as_str())?;
     }
     Ok(text)
 }
