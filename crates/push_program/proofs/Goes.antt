@@ -1,5 +1,5 @@
 -- A run, as far as it has come.
-use Rattle.std.proofs.Common.{◌≡◌, ℕ, ◌+◌, List, [], ◌∷◌, ◌++◌, map, length, refl, sym, ap, ◌∙◌, subst, append_assoc, append-nil, string_bytes}
+use Rattle.std.proofs.Common.{◌≡◌, ℕ, ◌+◌, List, [], ◌∷◌, ◌++◌, map, length, refl, sym, ap, ◌∙◌, subst, append_assoc, string_bytes}
 use Rattle.yp_base.specs.declared.row.Row.{Row}
 use Rattle.yp_journal.specs.declared.receiver.ReceiverInfo.{ReceiverInfo}
 use Rattle.yp_schema.specs.declared.schema.SchemaNode.{SchemaNode}
@@ -10,8 +10,8 @@ use Rattle.push_program.specs.Desks.{Sending, with_lines, desks_for, bare_desks}
 use Rattle.push_program.specs.Notices.{Made, made_at, made_from, made_by}
 use Rattle.push_program.specs.Progress.{AllMirror, Fits, Ready, Advances, Goes}
 use Rattle.push_program.specs.Report.{reply_line, reply_lines, sent_lines}
-use Rattle.push_program.specs.Turns.{Turn, turns_of, lane_turns, turns_in, entry_at, entries_from, journal_of}
-use Rattle.push_program.proofs.Mirror.{fits_first, fits_next, next_position}
+use Rattle.push_program.specs.Turns.{Turn, turns_in, entries_from, journal_of}
+use Rattle.push_program.proofs.Mirror.{fits_next, next_position}
 use Rattle.push_program.proofs.StepLines.{lines_more, map_same, map_twice}
 use Rattle.push_program.proofs.Turns.{receivers_same}
 

@@ -1,5 +1,6 @@
 pub mod Collects
 pub mod Concealing
+pub mod Coverings
 pub mod Edited
 pub mod Edits
 pub mod Ends
@@ -8,8 +9,6 @@ pub mod Mirror
 pub mod Own
 pub mod Picks
 pub mod RecordLaws
-pub mod RecordPicks
-pub mod RecordRoots
 pub mod Recorded
 pub mod Replies
 pub mod Selected

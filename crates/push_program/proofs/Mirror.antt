@@ -1,11 +1,10 @@
 -- After each update of a subscription its receiver's rows are fresh selection; the positions of its updates rise.
-use Rattle.std.proofs.Common.{◌≡◌, ℕ, zero, suc, ◌+◌, ◌==◌, ◌<◌, Bool, true, false, true≢false, List, [], ◌∷◌, ◌++◌, take, Option, Some, None, is_some, unwrap_or, refl, sym, ap, ◌∙◌, subst, cond, arith}
+use Rattle.std.proofs.Common.{◌≡◌, ℕ, suc, ◌+◌, ◌==◌, ◌<◌, Bool, true, false, true≢false, List, [], ◌∷◌, ◌++◌, take, Option, Some, None, is_some, unwrap_or, refl, sym, ap, ◌∙◌, subst, cond, arith}
 use Rattle.std.proofs.lemmas.List.Elements.{filter-append}
 use Rattle.yp_base.specs.declared.notice.Change.{Change}
-use Rattle.yp_base.specs.declared.notice.Notice.TheVariants.{Full, Changes}
+use Rattle.yp_base.specs.declared.notice.Notice.TheVariants.{Full}
 use Rattle.yp_base.specs.declared.row.Row.{Row}
 use Rattle.yp_schema.specs.declared.schema.SchemaNode.{SchemaNode}
-use Rattle.yp_schema.specs.Datastore.{IsDatastore}
 use Rattle.yp_schema.specs.WellFormed.{IsSchema}
 use Rattle.yp_journal.specs.declared.command.Command.{Command}
 use Rattle.yp_journal.specs.declared.command.Command.TheVariants as commands

@@ -1,15 +1,14 @@
 -- What is made for one subscription: an update at most for each step.
-use Rattle.std.proofs.Common.{◌≡◌, ℕ, ◌+◌, ◌==◌, ◌<◌, ◌||◌, Bool, true, false, true≢false, List, [], ◌∷◌, ◌++◌, map, filter, Option, Some, None, unwrap_or, refl, ap, ◌∙◌, cond, arith, append-nil}
+use Rattle.std.proofs.Common.{◌≡◌, ℕ, ◌+◌, ◌==◌, ◌<◌, Bool, true, false, List, [], ◌∷◌, ◌++◌, filter, Option, Some, None, unwrap_or, refl, ap, ◌∙◌, cond, arith, append-nil}
 use Rattle.std.proofs.lemmas.List.Elements.{filter-append}
 use Rattle.yp_base.specs.declared.notice.Change.{Change}
 use Rattle.yp_base.specs.declared.notice.Notice.{Notice}
 use Rattle.yp_base.specs.declared.notice.Notice.TheVariants.{Full, Changes, Started, Modified, Suspended, Resumed, Terminated}
 use Rattle.yp_base.specs.declared.row.Row.{Row}
 use Rattle.yp_schema.specs.declared.schema.SchemaNode.{SchemaNode}
-use Rattle.yp_journal.specs.declared.entry.Entry.{Entry}
 use Rattle.yp_journal.specs.declared.subscription.Subscription.{Subscription}
-use Rattle.yp_journal.specs.History.{JournalState, next_id, next_state}
-use Rattle.push_program.specs.Notices.{Made, selection, is_given, change_update, updates_of, made_of, made_for, made_at, made_from}
+use Rattle.yp_journal.specs.History.{JournalState, next_id}
+use Rattle.push_program.specs.Notices.{Made, selection, is_given, change_update, updates_of, made_of, made_for, made_at}
 use Rattle.push_program.specs.Received.{changed_by, heard, received, updates}
 use Rattle.push_program.specs.Records.{change_record}
 use Rattle.push_program.specs.Progress.{AreIds}

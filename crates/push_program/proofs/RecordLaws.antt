@@ -34,7 +34,7 @@ use Rattle.push_program.specs.Concealed.{AllReadable, IsReadableChange}
 use Rattle.push_program.specs.Received.{changed_by}
 use Rattle.push_program.specs.Records.{changed_paths, is_above, roots_of, carried_rows, change_at, change_record}
 use Rattle.push_program.proofs.Selections.{value_at_picked, all_picked, selection_is, selected_readable}
-use Rattle.push_program.proofs.RecordRoots.{is_covered, listed_covered, some_paths}
+use Rattle.push_program.proofs.Coverings.{has_root, listed_rooted, some_paths}
 
 -- ---- what is changed
 
@@ -90,10 +90,10 @@ none_alike path old new is = alike_at (are_alike old new) old new (record { path
 unchanged : (old new : List Row) (path : List Seg) → is_listed path (changed_paths old new) ≡ false → value_at path old ≡ value_at path new
 unchanged old new path h = none_alike path (value_at path old) (value_at path new) (sym (changed_at old new path) ∙ unlisted_none path (changed_rows old new) h)
 
-uncovered : (old new : List Row) (path : List Seg) → is_covered path (roots_of (changed_paths old new)) ≡ false → value_at path old ≡ value_at path new
-uncovered old new path h =
+unrooted : (old new : List Row) (path : List Seg) → has_root path (roots_of (changed_paths old new)) ≡ false → value_at path old ≡ value_at path new
+unrooted old new path h =
     elim (is_listed path (changed_paths old new)) as (λ b. is_listed path (changed_paths old new) ≡ b → value_at path old ≡ value_at path new) [
-      | true ↦ λ e. absurd (true≢false (sym (listed_covered (changed_paths old new) path e) ∙ h))
+      | true ↦ λ e. absurd (true≢false (sym (listed_rooted (changed_paths old new) path e) ∙ h))
       | false ↦ λ e. unchanged old new path e
     ] refl
 
@@ -196,12 +196,12 @@ module _ (nodes : List SchemaNode) (schema : IsSchema nodes) (old new : List Row
 
   -- at each path: the value after the step where a root is at or above it, and else the one before
   led : (path : List Seg) (roots : List (List Seg)) (rows : List Row) → AllByRecursion (IsThere old new) roots
-      → value_at path (changed_by (map (change_at old new) roots) rows) ≡ cond (is_covered path roots) (value_at path new) (value_at path rows)
+      → value_at path (changed_by (map (change_at old new) roots) rows) ≡ cond (has_root path roots) (value_at path new) (value_at path rows)
   led path [] rows all = refl
   led path (root ∷ roots) rows all =
       led path roots (put_rows (carried_rows new root) (rows_without root rows)) all.1
-      ∙ ap (cond (is_covered path roots) (value_at path new)) (one_led path root rows (carried root all.0))
-      ∙ grouped (is_within root path) (is_covered path roots) (value_at path new) (value_at path rows)
+      ∙ ap (cond (has_root path roots) (value_at path new)) (one_led path root rows (carried root all.0))
+      ∙ grouped (is_within root path) (has_root path roots) (value_at path new) (value_at path rows)
     where
       grouped : (a b : Bool) (one other : Option Value) → cond b one (cond a one other) ≡ cond (a || b) one other
       grouped true true one other = refl
@@ -214,9 +214,9 @@ module _ (nodes : List SchemaNode) (schema : IsSchema nodes) (old new : List Row
       let roots = roots_of (changed_paths old new) in
       same_rows (changed_by (change_record old new) old) new (changed_order (change_record old new) old before.in_order) after.in_order (λ path.
       led path roots old (roots_there old new)
-      ∙ elim (is_covered path roots) as (λ b. is_covered path roots ≡ b → cond b (value_at path new) (value_at path old) ≡ value_at path new) [
+      ∙ elim (has_root path roots) as (λ b. has_root path roots ≡ b → cond b (value_at path new) (value_at path old) ≡ value_at path new) [
         | true ↦ λ e. refl
-        | false ↦ λ e. uncovered old new path e
+        | false ↦ λ e. unrooted old new path e
       ] refl)
 
 -- ---- selections

@@ -15,7 +15,7 @@ use Rattle.yp_data_json.proofs.Growing.{within_more, within_self}
 use Rattle.yp_edit.proofs.Alike.{are_one}
 use Rattle.push_program.specs.Access.{is_readable, visible_rows}
 use Rattle.push_program.specs.Concealed.{AllReadable}
-use Rattle.push_program.proofs.RecordPicks.{readable_above}
+use Rattle.push_program.proofs.Picks.{readable_above}
 
 module _ (p : List Seg → Bool) where
   value_picked_at : (e b : Bool) (path : List Seg) (row : Row) (rows : List Row) → is_eq (path_cmp path row.path) ≡ e → p row.path ≡ b → value_at path (picked p rows) ≡ cond (p path) (value_at path rows) None

@@ -1,6 +1,5 @@
 -- What a turn tells is what the definition makes at its step.
-use Rattle.std.proofs.Common.{◌≡◌, ℕ, ◌+◌, ◌<◌, ◌==◌, ◌||◌, take, drop, get_or, slice_set, Bool, true, false, List, [], ◌∷◌, ◌++◌, map, length, refl, sym, ap, ◌∙◌, subst, cond, arith, append_assoc, append-nil, Option, Some, None, is_some}
-use Rattle.std.specs.List.{list_any}
+use Rattle.std.proofs.Common.{◌≡◌, ℕ, ◌+◌, ◌<◌, ◌==◌, ◌||◌, take, drop, get_or, slice_set, Bool, true, false, List, [], ◌∷◌, ◌++◌, map, length, refl, sym, ap, ◌∙◌, cond, arith, append_assoc, append-nil, Option, Some, None, is_some}
 use Rattle.std.proofs.lemmas.List.{get_or_default}
 use Rattle.std.proofs.lemmas.List.Edits.{map_over_more}
 use Rattle.yp_base.specs.declared.notice.Change.{Change}
@@ -11,13 +10,13 @@ use Rattle.yp_schema.specs.declared.schema.SchemaNode.{SchemaNode}
 use Rattle.yp_edit.proofs.Differing.{none_differ}
 use Rattle.yp_journal.specs.declared.subscription.Subscription.{Subscription}
 use Rattle.yp_journal.specs.History.{JournalState, next_id, with_subscription}
-use Rattle.push_program.specs.Desks.{Sending, with_lines, changes_for, told_changes, notice_for}
+use Rattle.push_program.specs.Desks.{Sending, with_lines, told_changes, notice_for}
 use Rattle.push_program.specs.Notices.{Made, selection, is_given, change_update, updates_of, made_of, made_for, made_at}
 use Rattle.push_program.specs.Progress.{AreIds}
 use Rattle.push_program.specs.Received.{changed_by}
 use Rattle.push_program.specs.Records.{roots_of, change_at, change_record}
 use Rattle.push_program.specs.Report.{sent_line, sent_lines}
-use Rattle.push_program.proofs.Subscriptions.{of_id, given_is, none_of_id}
+use Rattle.push_program.proofs.Subscriptions.{of_id, given_is}
 
 -- ---- lines
 

@@ -1,9 +1,8 @@
 -- The report that a run comes to.
-use Rattle.std.proofs.Common.{◌≡◌, ℕ, zero, suc, ◌+◌, ◌<◌, ◌==◌, get_or, Bool, true, false, List, [], ◌∷◌, ◌++◌, map, length, Option, Some, None, refl, sym, ap, ◌∙◌, subst, cond, arith, append_assoc, append-nil, string_bytes, codes}
+use Rattle.std.proofs.Common.{◌≡◌, ℕ, zero, suc, ◌+◌, ◌<◌, ◌==◌, get_or, Bool, true, false, List, [], ◌∷◌, ◌++◌, length, Some, None, refl, sym, ap, ◌∙◌, subst, cond, arith, append_assoc, append-nil, string_bytes, codes}
 use Rattle.std.specs.List.{AllByRecursion}
 use Rattle.yp_base.specs.declared.row.Row.{Row}
-use Rattle.yp_schema.specs.declared.schema.SchemaNode.{SchemaNode}
-use Rattle.yp_schema.specs.Datastore.{IsDatastore, AreWritable}
+use Rattle.yp_schema.specs.Datastore.{AreWritable}
 use Rattle.yp_schema.specs.WellFormed.{IsSchema}
 use Rattle.yp_journal.specs.declared.receiver.ReceiverInfo.{ReceiverInfo}
 use Rattle.yp_journal.specs.declared.subscription.Subscription.{Subscription}
@@ -11,10 +10,10 @@ use Rattle.yp_journal.specs.History.{JournalState, first_state, next_id, state_o
 use Rattle.yp_script.specs.declared.script.Script.{Script}
 use Rattle.push_program.specs.declared.progress.Progress.{Progress}
 use Rattle.push_program.specs.Desks.{Sending, with_lines, desks_for}
-use Rattle.push_program.specs.Notices.{Made, selection, made_by}
+use Rattle.push_program.specs.Notices.{selection, made_by}
 use Rattle.push_program.specs.Progress.{AreIds, Ready, Goes, held_line, mirror_lines, desk_lines}
 use Rattle.push_program.specs.Received.{received}
-use Rattle.push_program.specs.Report.{reply_lines, sent_lines, tree_if, tree_line, tree_lines, given_by, receiver_lines, all_receiver_lines, report_text}
+use Rattle.push_program.specs.Report.{reply_lines, sent_lines, tree_if, tree_line, tree_lines, given_by, all_receiver_lines, report_text}
 use Rattle.push_program.specs.Turns.{journal_of}
 use Rattle.push_program.proofs.Mirror.{held_at_end}
 use Rattle.push_program.proofs.Sendables.{writable_top}

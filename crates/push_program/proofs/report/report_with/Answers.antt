@@ -1,4 +1,4 @@
-use Rattle.std.proofs.Common.{◌≡◌, ℕ, List, ◌++◌, sym, ap, ◌∙◌, append_assoc, string_bytes, codes}
+use Rattle.std.proofs.Common.{◌≡◌, ℕ, List, ◌++◌, ap, ◌∙◌, append_assoc, string_bytes, codes}
 use Rattle.push_program.specs.Progress.{desk_lines}
 use Rattle.push_program.proofs.Trees.{reported}
 use Rattle.push_program.proofs.report.report_with.Goals as goal

@@ -1,4 +1,4 @@
-use Rattle.std.proofs.Common.{◌≡◌, ◌+◌, List, [], ◌∷◌, ◌++◌, length, sym, ap, ◌∙◌, subst, append-nil}
+use Rattle.std.proofs.Common.{◌≡◌, ◌+◌, List, [], ◌++◌, length, sym, ◌∙◌, subst, append-nil}
 use Rattle.yp_journal.specs.declared.command.Command.{Command}
 use Rattle.push_program.specs.Progress.{Goes}
 use Rattle.push_program.specs.Turns.{Turn, turns_of, lane_turns}

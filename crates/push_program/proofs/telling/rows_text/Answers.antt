@@ -1,4 +1,4 @@
-use Rattle.std.proofs.Common.{ap, ◌∙◌, []}
+use Rattle.std.proofs.Common.{ap, ◌∙◌}
 use Rattle.serde_json.specs.Written.{has_float, compact_text}
 use Rattle.yp_data_json.specs.Writing.{rows_json}
 use Rattle.yp_encode.proofs.Floats.{rows_none}

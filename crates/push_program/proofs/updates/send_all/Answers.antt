@@ -1,4 +1,4 @@
-use Rattle.std.proofs.Common.{◌≡◌, ap, ◌∙◌, get_or, arith}
+use Rattle.std.proofs.Common.{ap, ◌∙◌, get_or, arith}
 use Rattle.push_program.specs.Desks.{Sending, with_lines, changes_for}
 use Rattle.push_program.proofs.StepLines.{written_more}
 use Rattle.push_program.proofs.updates.send_all.Goals as goal

@@ -13,8 +13,8 @@ use Rattle.yp_edit.proofs.Alike.{are_one, ties_itself}
 use Rattle.push_program.specs.Records.{is_above, roots_of}
 
 -- whether a path is at or below one of these
-abbrev pub is_covered : List Seg → List (List Seg) → Bool
-is_covered path roots = list_any (λ root. is_within root path) roots
+abbrev pub has_root : List Seg → List (List Seg) → Bool
+has_root path roots = list_any (λ root. is_within root path) roots
 
 or_right : (a b : Bool) → b ≡ true → (a || b) ≡ true
 or_right true b h = refl
@@ -27,12 +27,12 @@ within_on root above path upper lower =
     subst (λ (p : List Seg). is_within root p ≡ true) (sym found.1) (within_more root above found.0 upper)
 
 -- what is below a covered path is covered
-covered_on : (above path : List Seg) (roots : List (List Seg)) → is_within above path ≡ true → is_covered above roots ≡ true → is_covered path roots ≡ true
-covered_on above path [] lower h = absurd (true≢false (sym h))
-covered_on above path (root ∷ roots) lower h =
-    elim (is_within root above) as (λ b. is_within root above ≡ b → (b || is_covered above roots) ≡ true → (is_within root path || is_covered path roots) ≡ true) [
-      | true ↦ λ e k. ap (λ b. b || is_covered path roots) (within_on root above path e lower)
-      | false ↦ λ e k. or_right (is_within root path) (is_covered path roots) (covered_on above path roots lower k)
+rooted_on : (above path : List Seg) (roots : List (List Seg)) → is_within above path ≡ true → has_root above roots ≡ true → has_root path roots ≡ true
+rooted_on above path [] lower h = absurd (true≢false (sym h))
+rooted_on above path (root ∷ roots) lower h =
+    elim (is_within root above) as (λ b. is_within root above ≡ b → (b || has_root above roots) ≡ true → (is_within root path || has_root path roots) ≡ true) [
+      | true ↦ λ e k. ap (λ b. b || has_root path roots) (within_on root above path e lower)
+      | false ↦ λ e k. or_right (is_within root path) (has_root path roots) (rooted_on above path roots lower k)
     ] refl h
 
 -- one that passes a test is found
@@ -45,20 +45,20 @@ found_one t (path ∷ paths) h =
     ] refl h
 
 -- a path that is kept is covered
-kept_at : (b : Bool) (t : List Seg → Bool) (path one : List Seg) (paths : List (List Seg)) → t one ≡ b → is_within one path ≡ true → (path ≡ one → b ≡ true) → is_eq (path_cmp path one) ≡ true → is_covered path (cond b (one ∷ filter t paths) (filter t paths)) ≡ true
-kept_at true t path one paths is within passes same = ap (λ b. b || is_covered path (filter t paths)) within
+kept_at : (b : Bool) (t : List Seg → Bool) (path one : List Seg) (paths : List (List Seg)) → t one ≡ b → is_within one path ≡ true → (path ≡ one → b ≡ true) → is_eq (path_cmp path one) ≡ true → has_root path (cond b (one ∷ filter t paths) (filter t paths)) ≡ true
+kept_at true t path one paths is within passes same = ap (λ b. b || has_root path (filter t paths)) within
 kept_at false t path one paths is within passes same = absurd (true≢false (sym (passes (are_one path one same))))
 
-kept_later : (b : Bool) (t : List Seg → Bool) (path one : List Seg) (paths : List (List Seg)) → is_covered path (filter t paths) ≡ true → is_covered path (cond b (one ∷ filter t paths) (filter t paths)) ≡ true
-kept_later true t path one paths h = or_right (is_within one path) (is_covered path (filter t paths)) h
+kept_later : (b : Bool) (t : List Seg → Bool) (path one : List Seg) (paths : List (List Seg)) → has_root path (filter t paths) ≡ true → has_root path (cond b (one ∷ filter t paths) (filter t paths)) ≡ true
+kept_later true t path one paths h = or_right (is_within one path) (has_root path (filter t paths)) h
 kept_later false t path one paths h = h
 
-kept_covered : (t : List Seg → Bool) (path : List Seg) (paths : List (List Seg)) → is_listed path paths ≡ true → t path ≡ true → is_covered path (filter t paths) ≡ true
-kept_covered t path [] listed passes = absurd (true≢false (sym listed))
-kept_covered t path (one ∷ paths) listed passes =
-    elim (is_eq (path_cmp path one)) as (λ b. is_eq (path_cmp path one) ≡ b → (b || is_listed path paths) ≡ true → is_covered path (filter t (one ∷ paths)) ≡ true) [
+kept_rooted : (t : List Seg → Bool) (path : List Seg) (paths : List (List Seg)) → is_listed path paths ≡ true → t path ≡ true → has_root path (filter t paths) ≡ true
+kept_rooted t path [] listed passes = absurd (true≢false (sym listed))
+kept_rooted t path (one ∷ paths) listed passes =
+    elim (is_eq (path_cmp path one)) as (λ b. is_eq (path_cmp path one) ≡ b → (b || is_listed path paths) ≡ true → has_root path (filter t (one ∷ paths)) ≡ true) [
       | true ↦ λ e k. kept_at (t one) t path one paths refl (subst (λ (p : List Seg). is_within p path ≡ true) (are_one path one e) (within_self path)) (λ same. sym (ap t same) ∙ passes) e
-      | false ↦ λ e k. kept_later (t one) t path one paths (kept_covered t path paths k passes)
+      | false ↦ λ e k. kept_later (t one) t path one paths (kept_rooted t path paths k passes)
     ] refl listed
 
 longer_by : (above rest path : List Seg) → path ≡ above ++ rest → is_within path above ≡ false → length above < length path
@@ -77,21 +77,21 @@ above_shorter above path h =
     let found = front_rest above path parts.0 in
     longer_by above found.0 path found.1 (not_true (is_within path above) parts.1)
 
-covered_within : (n : ℕ) (paths : List (List Seg)) (path : List Seg) → length path < n → is_listed path paths ≡ true → is_covered path (roots_of paths) ≡ true
-covered_within zero paths path short listed = absurd (omega (arith, short))
-covered_within (suc n) paths path short listed =
-    elim (list_any (λ above. is_above above path) paths) as (λ b. list_any (λ above. is_above above path) paths ≡ b → is_covered path (roots_of paths) ≡ true) [
+rooted_within : (n : ℕ) (paths : List (List Seg)) (path : List Seg) → length path < n → is_listed path paths ≡ true → has_root path (roots_of paths) ≡ true
+rooted_within zero paths path short listed = absurd (omega (arith, short))
+rooted_within (suc n) paths path short listed =
+    elim (list_any (λ above. is_above above path) paths) as (λ b. list_any (λ above. is_above above path) paths ≡ b → has_root path (roots_of paths) ≡ true) [
       | true ↦ λ e.
           let one = found_one (λ above. is_above above path) paths e in
           let less = above_shorter one.0 path one.2 in
-          covered_on one.0 path (roots_of paths) (and_parts (is_within one.0 path) (not (is_within path one.0)) one.2).0
-          (covered_within n paths one.0 (omega (arith, less, short)) one.1)
-      | false ↦ λ e. kept_covered (λ path. not (list_any (λ above. is_above above path) paths)) path paths listed (ap not e)
+          rooted_on one.0 path (roots_of paths) (and_parts (is_within one.0 path) (not (is_within path one.0)) one.2).0
+          (rooted_within n paths one.0 (omega (arith, less, short)) one.1)
+      | false ↦ λ e. kept_rooted (λ path. not (list_any (λ above. is_above above path) paths)) path paths listed (ap not e)
     ] refl
 
 -- each of the paths is at or below a topmost one
-pub listed_covered : (paths : List (List Seg)) (path : List Seg) → is_listed path paths ≡ true → is_covered path (roots_of paths) ≡ true
-listed_covered paths path listed = covered_within (suc (length path)) paths path (omega arith) listed
+pub listed_rooted : (paths : List (List Seg)) (path : List Seg) → is_listed path paths ≡ true → has_root path (roots_of paths) ≡ true
+listed_rooted paths path listed = rooted_within (suc (length path)) paths path (omega arith) listed
 
 some_at : (b : Bool) (P : List Seg → Type 0) (path : List Seg) (paths : List (List Seg)) → P path → AllByRecursion P paths → AllByRecursion P (cond b (path ∷ paths) paths)
 some_at true P path paths here all = (here, all)
