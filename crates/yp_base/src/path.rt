@@ -58,7 +58,10 @@ impl Ord for Seg {
     ghost matches_eq = { λ x y. refl };
 
     fn cmp(&self, other: &Seg) -> Ordering {
-        self.node.cmp(&other.node).then(self.keys.cmp(&other.keys))
+        match self.node.cmp(&other.node) {
+            Ordering::Equal => self.keys.cmp(&other.keys),
+            unequal => unequal,
+        }
     }
 }
 

@@ -54,7 +54,7 @@ impl<T> Series<T> {
 
 impl<T: Duplicate + Drop> Duplicate for Series<T> {
     fn copy(&self, alloc: Global) -> Result<Series<T>, NoMemory> {
-        let mut copies = Vec::new(alloc);
+        let mut copies = Vec::with_capacity(alloc, self.kept.len())?;
         for item in self.kept.as_slice() {
             copies.push(item.copy(alloc)?)?;
         }
