@@ -1,58 +1,115 @@
 //! JSON values that are handed on.
-ghost use Rattle.std.specs.Prelude.{◌≡◌, IfOk};
-ghost use Rattle.serde_json.specs.View.{view as data_of};
+ghost use Rattle.std.specs.Prelude.{◌≡◌, IfOk, IfSome, string_bytes};
+ghost use Rattle.serde_json.specs.Data.{object, member, no_members};
+ghost use Rattle.serde_json.specs.View.{view as data_of, members_view};
+ghost use Rattle.yp_base.specs.Payloads.{kept_data, content_data};
 
 use crate::memory::{Duplicate, NoMemory};
-use serde_json::Value as Json;
+use serde_json::{Map, Value as Json};
 use std::alloc::Global;
 use std::marker::Model;
 
 /// A JSON value. Contracts see its data, so that copies are equal.
 #[derive(Drop)]
 pub struct Payload {
-    json: Json,
+    kept: Kept,
+}
+
+/// What a payload keeps: of an object of one member only the name and the value, since a map takes
+/// room for many.
+#[derive(Drop)]
+enum Kept {
+    One { name: String, json: Json },
+    All(Json),
+}
+
+/// What a payload holds, lent.
+#[derive(Drop, Clone, Copy)]
+pub enum Content<'a> {
+    /// an object of one member: its name and its value
+    One(&'a str, &'a Json),
+    /// any other value
+    All(&'a Json),
 }
 
 impl Model for Payload {
     ghost use Rattle.serde_json.specs.Data.{Data};
-    ghost use Rattle.serde_json.specs.View.{view as data_of};
+    ghost use Rattle.yp_base.specs.Payloads.{kept_data};
     ghost use Rattle.yp_base.specs.Coding.{coded_data};
 
     ghost Value = { Data };
 
     ghost coded = { coded_data };
 
-    ghost view = { λ p. data_of p.json };
+    ghost view = { λ p. kept_data p.kept };
 }
 
 impl Payload {
-    /// The payload of a JSON value. It takes no memory.
-    pub fn from_json(json: Json) -> Payload
-        ensures { result ≡ data_of json }
+    /// The payload of a JSON value. It copies what it keeps.
+    pub fn from_json(alloc: Global, json: &Json) -> Result<Payload, NoMemory>
+        ensures { IfOk result (λ payload. payload ≡ data_of json.now) }
     {
-        Payload { json }
+        let kept = match only_member(json) {
+            Some((name, value)) => kept_one(alloc, name.as_str(), value)?,
+            None => Kept::All(json.clone()?),
+        };
+        Ok(Payload { kept })
     }
 
-    /// The JSON value.
-    pub fn json(&self) -> &Json
-        ensures { data_of result.now ≡ self.now }
+    /// What it holds, lent.
+    pub fn content(&self) -> Content<'_>
+        ensures { content_data result ≡ self.now }
     {
-        &self.json
+        match &self.kept {
+            Kept::One { name, json } => Content::One(name.as_str(), json),
+            Kept::All(json) => Content::All(json),
+        }
     }
 
-    /// The JSON value, given back. It takes no memory.
-    pub fn into_json(self) -> Json
-        ensures { data_of result ≡ self }
+    /// The JSON value, made again.
+    pub fn json(&self, alloc: Global) -> Result<Json, NoMemory>
+        ensures { IfOk result (λ json. data_of json ≡ self.now) }
     {
-        let Payload { json } = self;
-        json
+        match &self.kept {
+            Kept::One { name, json } => {
+                let mut members = Map::new(alloc);
+                drop(members.insert(name.clone()?, json.clone()?)?);
+                Ok(Json::Object(members))
+            }
+            Kept::All(json) => Ok(json.clone()?),
+        }
     }
+}
+
+/// The one member of an object that has only one.
+fn only_member(json: &Json) -> Option<(&String, &Json)>
+    ensures { IfSome result (λ m. data_of json.now ≡ object (member (string_bytes m.0.now) (data_of m.1.now) no_members)) }
+{
+    match json {
+        Json::Object(members) if members.len() == 1 => members.iter().next(),
+        _ => None,
+    }
+}
+
+/// What is kept of an object of one member. A new text has no spare room.
+fn kept_one(alloc: Global, name: &str, json: &Json) -> Result<Kept, NoMemory>
+    ensures { IfOk result (λ kept. kept_data kept ≡ object (member name.now (data_of json.now) no_members)) }
+{
+    Ok(Kept::One {
+        name: String::from_str(alloc, name)?,
+        json: json.clone()?,
+    })
 }
 
 impl Duplicate for Payload {
     fn copy(&self, alloc: Global) -> Result<Payload, NoMemory> {
-        Ok(Payload {
-            json: self.json.clone()?,
-        })
+        let kept = match &self.kept {
+            Kept::One { name, json } => kept_one(alloc, name.as_str(), json)?,
+            Kept::All(json) => Kept::All(json.clone()?),
+        };
+        Ok(Payload { kept })
     }
 }
+
+#[cfg(test)]
+mod tests;
