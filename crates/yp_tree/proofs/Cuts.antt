@@ -1,6 +1,6 @@
 -- What is cut: the rows at or below a path, found one after another, and taken out one by one.
-use Rattle.std.proofs.Common.{◌≡◌, List, [], ◌∷◌, ◌++◌, map, refl, sym, ap, ◌∙◌, cond, Bool, true, false, not, Some, None, append_assoc}
-use Rattle.std.specs.Prelude.{unwrap_or}
+use Rattle.std.proofs.Common.{◌≡◌, List, [], ◌∷◌, ◌++◌, map, refl, sym, ap, ◌∙◌, cond, Bool, true, false, not, ◌||◌, Some, None, slice_get, append_assoc}
+use Rattle.std.specs.Prelude.{unwrap_or, is_some}
 use Rattle.std.specs.Ordering.{is_eq, is_gt}
 use Rattle.std.specs.List.{AllByRecursion}
 use Rattle.std.specs.List.Sorted.{IsStrictlySortedBy}
@@ -14,10 +14,10 @@ use Rattle.yp_base.specs.declared.row.Value.{Value}
 use Rattle.yp_base.specs.declared.row.Row.{Row}
 use Rattle.yp_base.specs.Order.{path_cmp, is_within}
 use Rattle.yp_base.specs.OrderLaws.{segments_total, paths_total}
-use Rattle.yp_base.specs.Rows.{path_of, value_at, rows_within, rows_without}
+use Rattle.yp_base.specs.Rows.{path_of, value_at, has_within, rows_within, rows_without}
 use Rattle.yp_base.proofs.Exact.{paths_exact}
 use Rattle.yp_base.proofs.Fronts.{fronts_together}
-use Rattle.yp_tree.proofs.Nexts.{less_not_greater, included_from, included_within}
+use Rattle.yp_tree.proofs.Nexts.{first_row, less_not_greater, included_from, included_within}
 use Rattle.yp_tree.specs.Listed.{row_of, rows_of, without_row}
 
 -- the first rows, as long as they are at or below a path
@@ -48,6 +48,26 @@ within_comes_first under (e ∷ es) s =
         | false ↦ λ k. within_comes_first under es s.1
       ] refl
     ] refl
+
+first_front : (under : List Seg) (found : List (List Seg × Value)) → first_row under found ≡ slice_get (rows_of (front_within under found)) 0
+first_front under [] = refl
+first_front under (e ∷ es) = elim (is_within under e.0) as (λ b. cond b (Some (row_of e)) None ≡ slice_get (rows_of (cond b (e ∷ front_within under es) [])) 0) [ true ↦ refl | false ↦ refl ]
+
+-- what `range` gives says which row is the first at or below the path
+pub first_from_range : (under : List Seg) (es found : List (List Seg × Value)) (rows : List Row) → IsStrictlySortedBy path_cmp (map path_of (rows_of es)) → rows_of es ≡ rows → found ≡ entries_between path_cmp (Included under) Unbounded es → first_row under found ≡ slice_get (rows_within under rows) 0
+first_from_range under es found rows order same range =
+    first_front under found
+    ∙ ap (λ found. slice_get (rows_of (front_within under found)) 0) range
+    ∙ ap (λ within. slice_get within 0) (within_comes_first under es order ∙ ap (rows_within under) same)
+
+-- there are rows at or below a path where there is a first one
+pub there_where_first : (under : List Seg) (rows : List Row) → is_some (slice_get (rows_within under rows) 0) ≡ has_within under rows
+there_where_first under [] = refl
+there_where_first under (row ∷ rows) =
+    elim (is_within under row.path) as (λ b. is_some (slice_get (cond b (row ∷ rows_within under rows) (rows_within under rows)) 0) ≡ (b || has_within under rows)) [
+      | true ↦ refl
+      | false ↦ there_where_first under rows
+    ]
 
 -- the first of the rows at or below a path is at or below it
 first_is_within : (under : List Seg) (rows : List Row) (path : List Seg) (rest : List (List Seg)) → map path_of (rows_within under rows) ≡ path ∷ rest → is_within under path ≡ true

@@ -2,8 +2,9 @@
 //! number.
 //!
 //! Contracts see a `Tree` as the list of its rows, in the order of their paths and with no path twice.
-//! It needn't hold the rows above a row. `get` and `next` read it and count one visit each, and there
-//! is no other way to read its rows; `put` and `cut` change it.
+//! It needn't hold the rows above a row. `get`, `next` and `first_within` read it and count one visit
+//! each, `within` and `rows_within` count one for each row that they give and one more, and there is no
+//! other way to read its rows; `put`, `cut` and `remove` change it.
 #![tactic(auto)]
 
 #[cfg(test)]

@@ -36,6 +36,33 @@ fn next_counted<'a, L: Ledger>(
     tree.next(after, under, &mut steps)
 }
 
+// Whether these and no others are the rows at or below a path, copied, lent, and the first alone.
+fn lists_counted<L: Ledger>(
+    tree: &Tree,
+    alloc: Global,
+    under: &Path,
+    wanted: &[Path],
+    blank: Blank,
+) -> Result<bool, NoMemory>
+    requires name { blank.name ≡ L.name }
+    requires parts { blank.parts ≡ L.parts }
+    requires some { 0 < L.parts }
+{
+    let mut steps = Steps::<L>::open(blank);
+    let copied = tree.rows_within(alloc, under, &mut steps)?;
+    let lent = tree.within(alloc, under, &mut steps)?;
+    let first = tree.first_within(under, &mut steps);
+    Ok(
+        are_at(copied.items(), wanted)
+            && are_lent(lent.as_slice(), wanted)
+            && is_first(&first, wanted),
+    )
+}
+
+fn lists(tree: &Tree, alloc: Global, under: &Path, wanted: &[Path]) -> Result<bool, NoMemory> {
+    lists_counted::<Brand>(tree, alloc, under, wanted, Blank::new(1))
+}
+
 fn found<'a>(tree: &'a Tree, path: &Path) -> Option<&'a Value> {
     get_counted::<Brand>(tree, path, Blank::new(1))
 }
@@ -148,6 +175,24 @@ fn are_at(rows: &[Row], paths: &[Path]) -> bool {
     rows.len() == paths.len()
 }
 
+// Whether these are the paths of the rows that are lent.
+fn are_lent(rows: &[(&Path, &Value)], paths: &[Path]) -> bool {
+    for (row, path) in rows.iter().zip(paths.iter()) {
+        if *row.0 != *path {
+            return false;
+        }
+    }
+    rows.len() == paths.len()
+}
+
+// Whether a row has the first of these paths, or there is neither.
+fn is_first(row: &Option<(&Path, &Value)>, paths: &[Path]) -> bool {
+    match row {
+        Some(row) => paths.first() == Some(row.0),
+        None => paths.is_empty(),
+    }
+}
+
 #[test]
 fn texts_come_by_their_bytes(rt: HostRuntime) -> Result<(), Fail> {
     let alloc = rt.alloc();
@@ -190,6 +235,24 @@ fn the_next_row_lies_within_and_past(rt: HostRuntime) -> Result<(), Fail> {
     );
     assert!(rt; following(&tree, &last, &last).is_none(), "and not past it");
     assert!(rt; following(&tree, &top(alloc), &entry(alloc, "b")?).is_none());
+    Ok(())
+}
+
+#[test]
+fn rows_are_listed_at_a_path_and_below(rt: HostRuntime) -> Result<(), Fail> {
+    let alloc = rt.alloc();
+    let tree = tree_of(
+        alloc,
+        entries_and_leaves(alloc, &["eth10", "eth1", "eth0"])?,
+    )?;
+    let both = entries_and_leaves(alloc, &["eth1"])?;
+    assert!(rt; lists(&tree, alloc, &entry(alloc, "eth1")?, both.as_slice())?);
+    assert!(rt;
+        lists(&tree, alloc, &entry(alloc, "eth2")?, &[])?,
+        "nothing is there"
+    );
+    let all = entries_and_leaves(alloc, &["eth0", "eth1", "eth10"])?;
+    assert!(rt; lists(&tree, alloc, &top(alloc), all.as_slice())?);
     Ok(())
 }
 

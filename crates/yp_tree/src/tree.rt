@@ -1,7 +1,7 @@
 //! Rows in an ordered map.
-ghost use Rattle.std.specs.Prelude.{◌≡◌, ◌+◌, ◌^◌, ◌<◌, [], None, length, map, option_map, option_copied, OnOk, OnErr, IfOk};
+ghost use Rattle.std.specs.Prelude.{◌≡◌, ◌+◌, ◌^◌, ◌<◌, ◌≤◌, [], None, is_some, length, slice_get, map, option_map, option_copied, OnOk, OnErr, IfOk};
 ghost use Rattle.std.specs.Bound.{bound_map};
-ghost use Rattle.yp_base.specs.Rows.{path_of, value_at, put_row, next_row, rows_within, rows_without, AreInOrder};
+ghost use Rattle.yp_base.specs.Rows.{path_of, value_at, put_row, next_row, has_within, rows_within, rows_without, AreInOrder};
 ghost use Rattle.yp_tree.specs.Begins.{Begins};
 ghost use Rattle.yp_tree.specs.Listed.{row_of, without_row};
 
@@ -78,6 +78,78 @@ impl Tree {
     {
         steps.tick();
         self.first_from(after, under)
+    }
+
+    /// The first row at or below a path, and `None` exactly where there is no such row. It counts one
+    /// visit.
+    pub fn first_within<L: Ledger>(
+        &self,
+        under: &Path,
+        steps: &mut Steps<L>,
+    ) -> Option<(&Path, &Value)>
+        ensures found { option_map (λ found. row_of (found.0.now, found.1.now)) result
+            ≡ slice_get (rows_within under.now self.now) 0 }
+        ensures there { is_some result ≡ has_within under.now self.now }
+        ensures visits { steps.new ≡ steps.old + 1 }
+    {
+        steps.tick();
+        let mut rows = self.kept.range((Bound::Included(under), Bound::Unbounded));
+        match rows.next() {
+            Some(row) => {
+                if is_prefix(under, row.0) {
+                    Some(row)
+                } else {
+                    None
+                }
+            }
+            None => None,
+        }
+    }
+
+    /// The rows at or below a path, in order. It counts a visit for each of them, and one more.
+    pub fn within<L: Ledger>(
+        &self,
+        alloc: Global,
+        under: &Path,
+        steps: &mut Steps<L>,
+    ) -> Result<Vec<(&Path, &Value)>, NoMemory>
+        ensures rows { IfOk result (λ found. map (λ each. row_of (each.0.now, each.1.now)) found.items
+            ≡ rows_within under.now self.now) }
+        ensures visits { IfOk result (λ found. steps.new ≤ steps.old + length found.items + 1) }
+    {
+        let mut found = Vec::new(alloc);
+        let mut rows = self.kept.range((Bound::Included(under), Bound::Unbounded));
+        while let Some(row) = rows.next() {
+            steps.tick();
+            if !is_prefix(under, row.0) {
+                break;
+            }
+            found.push(row)?;
+        }
+        Ok(found)
+    }
+
+    /// Copies of the rows at or below a path, in order. It counts a visit for each of them, and one
+    /// more.
+    pub fn rows_within<L: Ledger>(
+        &self,
+        alloc: Global,
+        under: &Path,
+        steps: &mut Steps<L>,
+    ) -> Result<Rows, NoMemory>
+        ensures rows { IfOk result (λ rows. rows ≡ rows_within under.now self.now) }
+        ensures visits { IfOk result (λ rows. steps.new ≤ steps.old + length rows + 1) }
+    {
+        let mut found = Vec::new(alloc);
+        let mut rows = self.kept.range((Bound::Included(under), Bound::Unbounded));
+        while let Some(row) = rows.next() {
+            steps.tick();
+            if !is_prefix(under, row.0) {
+                break;
+            }
+            found.push(row_copy(alloc, row.0, row.1)?)?;
+        }
+        Ok(Series::from_vec(found))
     }
 
     /// Adds the row, or gives its value to the row that has its path. After `NoMemory` the tree is as

@@ -1,0 +1,11 @@
+use Rattle.std.proofs.Common.{◌≡◌, ◌+◌, ◌++◌, length, map}
+use Rattle.yp_base.specs.Rows.{rows_within}
+use Rattle.yp_tree.proofs.Cuts.{front_within}
+use Rattle.yp_tree.specs.Listed.{row_of, rows_of}
+use Rattle.yp_tree.proofs.tree.Tree.within.Given as goal
+
+abbrev pub invariant-loop-row : goal.invariant-loop-row
+invariant-loop-row g l = record {
+  rows : map (λ each. row_of (each.0.now, each.1.now)) l.found.items ++ rows_of (front_within l.under l.rows) ≡ rows_within l.under l.self;
+  visits : l.steps ≡ l.fn.steps + length l.found.items;
+}
