@@ -84,11 +84,11 @@ fn read_place(members: &Map<String, Json>) -> Result<Option<Place>, PatchFault>
 }
 
 /// The value of an edit, where it has one.
-fn read_value(members: &Map<String, Json>) -> Result<Option<Payload>, NoMemory>
+fn read_value(alloc: Global, members: &Map<String, Json>) -> Result<Option<Payload>, NoMemory>
     ensures { IfOk result (λ value. value ≡ get_member (codes "value") (members_view members.now.entries)) }
 {
     match member_in(members, "value") {
-        Some(json) => Ok(Some(Payload::from_json(json.clone()?))),
+        Some(json) => Ok(Some(Payload::from_json(alloc, json)?)),
         None => Ok(None),
     }
 }
@@ -151,7 +151,7 @@ fn read_edit(alloc: Global, members: &Map<String, Json>) -> Result<Edit, PatchFa
     let target = read_text(alloc, members, "target")?;
     let point = read_some_text(alloc, members, "point")?;
     let place = read_place(members)?;
-    let value = read_value(members)?;
+    let value = read_value(alloc, members)?;
     whole_edit(
         count(members),
         Edit {

@@ -83,7 +83,7 @@ pub fn read_value(
     ensures { Says result (value_rows schema.now target.now value.now) }
 {
     match value {
-        Some(value) => match read_rows(alloc, schema, target, value.json()) {
+        Some(value) => match read_rows(alloc, schema, target, &value.json(alloc)?) {
             Ok(rows) => Ok(rows),
             Err(DataFault::UnknownElement) => Err(refused(Tag::UnknownElement)),
             Err(DataFault::InvalidValue) => Err(refused(Tag::InvalidValue)),

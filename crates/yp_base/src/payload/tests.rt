@@ -60,3 +60,17 @@ fn any_other_value_is_itself(rt: HostRuntime) -> Result<(), Fail> {
     shows(&rt, alloc, "0.5", "0.5")?;
     shows(&rt, alloc, "null", "null")
 }
+
+#[test]
+fn what_may_be_left_out_is_copied_where_it_is(rt: HostRuntime) -> Result<(), Fail> {
+    let alloc = rt.alloc();
+    let json = Json::from_str(alloc, r#"{"a":1}"#)?;
+    let some = Some(Payload::from_json(alloc, &json)?);
+    match some.copy(alloc)? {
+        Some(copy) => assert_eq!(rt; lent(alloc, &copy)?.as_str(), "a 1"),
+        None => assert!(rt; false, "no copy"),
+    }
+    let none: Option<Payload> = None;
+    assert!(rt; none.copy(alloc)?.is_none());
+    Ok(())
+}

@@ -128,7 +128,7 @@ fn a_patch_and_its_copy_hold_what_is_said(rt: HostRuntime) -> Result<(), Fail> {
             None => assert!(rt; false, "no point"),
         }
         match &edit.value {
-            Some(value) => assert!(rt; matches!(value.json(), Json::Null)),
+            Some(value) => assert!(rt; matches!(value.json(alloc)?, Json::Null)),
             None => assert!(rt; false, "no value"),
         }
     }
