@@ -1,3 +1,4 @@
+pub mod Bare
 pub mod Cuts
 pub mod Escapes
 pub mod Free

@@ -4,3 +4,4 @@ pub mod Names
 pub mod Results
 pub mod RulePaths
 pub mod Targets
+pub mod Texts

@@ -17,3 +17,4 @@ pub mod rule;
 pub mod target;
 #[cfg(test)]
 mod tests;
+mod texts;

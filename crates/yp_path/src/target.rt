@@ -1,19 +1,20 @@
 //! Targets: reading and writing.
-ghost use Rattle.std.specs.Prelude.{◌≡◌, ◌<◌, ◌++◌, length, All, IfOk, OnOk, IfSome, None, Ok, true, string_bytes};
+ghost use Rattle.std.specs.Prelude.{◌≡◌, ◌<◌, ◌++◌, ◌∷◌, [], length, All, IfOk, OnOk, IfSome, None, Ok, true, option_map, string_bytes};
 ghost use Rattle.yp_base.specs.Texts.{is_writable};
 ghost use Rattle.yp_path.specs.Cuts.{cut};
 ghost use Rattle.yp_schema.specs.Datastore.{is_path_of};
 ghost use Rattle.yp_schema.specs.Nodes.{node_at};
 ghost use Rattle.yp_path.specs.Results.{or_fault};
-ghost use Rattle.yp_path.specs.Targets.{Gives, value_of, values_read, with_values, asked, name_part, key_parts, segment_in, segments_in, target_in, keys_text, segment_text, target_text, are_texts};
+ghost use Rattle.yp_path.specs.Texts.{texts_of, parts_of};
+ghost use Rattle.yp_path.specs.Targets.{Gives, value_of, values_read, with_values, asked, name_part, key_parts, segment_in, segments_in, target_in, keys_text, segment_text, target_text, are_texts, keys_read};
 
-use crate::cut::{cut_all, cut_once};
-use crate::escape::{push_key, read_keys};
+use crate::cut::cut_once;
+use crate::escape::push_key;
 use crate::fault::PathFault;
 use crate::name::child_named;
+use crate::texts::{Texts, count, read_texts};
 use std::alloc::Global;
 use yp_base::atom::{Atom, Keys};
-use yp_base::leaf_type::Names;
 use yp_base::memory::NoMemory;
 use yp_base::path::{Path, Seg};
 use yp_base::series::Series;
@@ -74,22 +75,85 @@ fn read_values(
     Ok(Some(Series::from_vec(values)))
 }
 
+/// The values read earlier, and that of the last text.
+fn read_last(
+    alloc: Global,
+    schema: &Schema,
+    node: u32,
+    text: &str,
+    mut earlier: Vec<Atom>,
+) -> Result<Option<Keys>, NoMemory>
+    requires { node < length schema.now }
+    ensures { IfOk result (λ all. all ≡ option_map (λ value. earlier.items ++ value ∷ []) (value_of (node_at node schema.now).ty text.now)) }
+{
+    match read_value(alloc, schema, node, text)? {
+        Some(value) => {
+            earlier.push(value)?;
+            Ok(Some(Series::from_vec(earlier)))
+        }
+        None => Ok(None),
+    }
+}
+
+/// The values of keys that stand without escapes, each by the type of its node.
+fn read_bare_values(
+    alloc: Global,
+    schema: &Schema,
+    asked: &[u32],
+    keys: &str,
+) -> Result<Option<Keys>, NoMemory>
+    requires { All (λ node. node < length schema.now) asked.now }
+    ensures { IfOk result (λ values. values ≡ values_read schema.now asked.now (cut 44 keys.now)) }
+{
+    let mut values = Vec::with_capacity(alloc, asked.len())?;
+    let mut rest = keys;
+    for node in asked {
+        match cut_once(rest, ',') {
+            Some((text, more)) => match read_value(alloc, schema, *node, text)? {
+                Some(value) => {
+                    values.push(value)?;
+                    rest = more;
+                }
+                None => return Ok(None),
+            },
+            None => return read_last(alloc, schema, *node, rest, values),
+        }
+    }
+    Ok(Some(Series::from_vec(values)))
+}
+
+/// The values of the keys of a segment, each by the type of its node.
+fn read_all_values(
+    alloc: Global,
+    schema: &Schema,
+    asked: &[u32],
+    texts: &Texts,
+) -> Result<Option<Keys>, NoMemory>
+    requires { All (λ node. node < length schema.now) asked.now }
+    ensures { IfOk result (λ values. values ≡ values_read schema.now asked.now (texts_of texts.now)) }
+{
+    match texts {
+        Texts::Bare(keys) => read_bare_values(alloc, schema, asked, keys),
+        Texts::Read(texts) => read_values(alloc, schema, asked, texts.items()),
+    }
+}
+
 /// The segment at a node, by the nodes whose types its keys have.
 fn read_with_values(
     alloc: Global,
     schema: &Schema,
     node: u32,
     asked: &[u32],
-    texts: &Names,
+    texts: &Texts,
 ) -> Result<Seg, PathFault>
     requires { All (λ node. node < length schema.now) asked.now }
-    ensures read { Gives result (with_values schema.now node asked.now texts.now) }
+    ensures read { Gives result (with_values schema.now node asked.now (texts_of texts.now)) }
     ensures node { IfOk result (λ segment. segment.node ≡ node) }
 {
-    if asked.len() != texts.len() {
+    if asked.len() != count(texts) {
         return Err(PathFault::KeyCount);
     }
-    match read_values(alloc, schema, asked, texts.items())? {
+    match read_all_values(alloc, schema, asked, texts)? {
         Some(keys) => Ok(Seg { node, keys }),
         None => Err(PathFault::KeyValue),
     }
@@ -97,9 +161,9 @@ fn read_with_values(
 
 /// The segment at a node: a list has its keys, a leaf-list its value, any other node none.
 #[tactic(auto, using(crate::proofs::Types::keys_stand))]
-fn read_at_node(alloc: Global, schema: &Schema, node: u32, texts: &Names) -> Result<Seg, PathFault>
+fn read_at_node(alloc: Global, schema: &Schema, node: u32, texts: &Texts) -> Result<Seg, PathFault>
     requires { node < length schema.now }
-    ensures read { Gives result (with_values schema.now node (asked node schema.now) texts.now) }
+    ensures read { Gives result (with_values schema.now node (asked node schema.now) (texts_of texts.now)) }
     ensures node { IfOk result (λ segment. segment.node ≡ node) }
 {
     // What each schema keeps: the keys of its lists are nodes.
@@ -118,12 +182,23 @@ fn read_at_node(alloc: Global, schema: &Schema, node: u32, texts: &Names) -> Res
 }
 
 /// The name of a segment, and its keys as they stand in it.
-fn split_part<'a>(alloc: Global, part: &'a str) -> Result<(&'a str, Names), NoMemory>
-    ensures { IfOk result (λ x. (x.0.now ≡ name_part part.now) × (x.1 ≡ key_parts part.now)) }
+fn split_part(part: &str) -> (&str, Option<&str>)
+    ensures name { result.0.now ≡ name_part part.now }
+    ensures keys { parts_of result.1 ≡ key_parts part.now }
 {
     match cut_once(part, '=') {
-        Some((name, keys)) => Ok((name, cut_all(alloc, keys, ',')?)),
-        None => Ok((part, Series::from_vec(Vec::new(alloc)))),
+        Some((name, keys)) => (name, Some(keys)),
+        None => (part, None),
+    }
+}
+
+/// The texts that the keys of a segment stand for; none where one has none.
+fn texts_in(alloc: Global, keys: Option<&str>) -> Result<Option<Texts<'_>>, NoMemory>
+    ensures { IfOk result (λ texts. option_map texts_of texts ≡ keys_read (parts_of keys.entry)) }
+{
+    match keys {
+        Some(keys) => read_texts(alloc, keys),
+        None => Ok(Some(Texts::Read(Series::from_vec(Vec::new(alloc))))),
     }
 }
 
@@ -138,11 +213,11 @@ fn read_segment(
     ensures read { Gives result (segment_in schema.now parent part.now) }
     ensures node { IfOk result (λ segment. segment.node < length schema.now) }
 {
-    let (name, keys) = split_part(alloc, part)?;
+    let (name, keys) = split_part(part);
     if name.is_empty() {
         return Err(PathFault::Syntax);
     }
-    match read_keys(alloc, &keys)? {
+    match texts_in(alloc, keys)? {
         Some(texts) => match child_named(schema, parent, name) {
             Some(node) => read_at_node(alloc, schema, node, &texts),
             None => Err(PathFault::UnknownNode),
