@@ -108,13 +108,22 @@ stops_line old mid line d form h settled stands is =
     (standing_fault line h (taken (progress_of mid) d form) is))
 
 -- the fault of a line that may not stand
-pub misplaced_line : (progress : Progress) (line : ℕ) (d : Data) (form : Form) (h : Halt) → may_stand progress.stage form ≡ false → Halts h (taken progress d form) → IsFault (fault_of line false h) (at_line line (placed progress d (Some form)))
+misplaced_line : (progress : Progress) (line : ℕ) (d : Data) (form : Form) (h : Halt) → may_stand progress.stage form ≡ false → Halts h (taken progress d form) → IsFault (fault_of line false h) (at_line line (placed progress d (Some form)))
 misplaced_line progress line d form h stands is =
     fault_along (fault_of line false h) (at_line line (placed progress d (Some form))) (at_line line (holding kinds.Order false (taken progress d form))) (ap (at_line line) (placed_elsewhere progress d form stands))
     (misplaced_fault line h (taken progress d form) is)
 
-pub misplaced_whole : (progress : Progress) (line : ℕ) (d : Data) (form : Form) → may_stand progress.stage form ≡ false → is_ok (taken progress d form) ≡ true → at_line line (placed progress d (Some form)) ≡ Err (At line kinds.Order)
+misplaced_whole : (progress : Progress) (line : ℕ) (d : Data) (form : Form) → may_stand progress.stage form ≡ false → is_ok (taken progress d form) ≡ true → at_line line (placed progress d (Some form)) ≡ Err (At line kinds.Order)
 misplaced_whole progress line d form stands is = ap (at_line line) (placed_elsewhere progress d form stands) ∙ misplaced_order line (taken progress d form) is
+
+-- it stops the script, and so does its place where it has no fault of its own
+pub stops_misplaced : (old mid : Reader) (line : ℕ) (d : Data) (form : Form) (h : Halt) → Settled old mid → may_stand mid.stage form ≡ false → Halts h (taken (progress_of mid) d form) → Stops (fault_of line false h) old line (λ progress. placed progress d (Some form))
+stops_misplaced old mid line d form h settled stands is =
+    stops_settled (fault_of line false h) old mid line (λ progress. placed progress d (Some form)) settled (misplaced_line (progress_of mid) line d form h stands is)
+
+pub stops_in_order : (old mid : Reader) (line : ℕ) (d : Data) (form : Form) → Settled old mid → may_stand mid.stage form ≡ false → is_ok (taken (progress_of mid) d form) ≡ true → Stops (At line kinds.Order) old line (λ progress. placed progress d (Some form))
+stops_in_order old mid line d form settled stands is =
+    stops_settled (At line kinds.Order) old mid line (λ progress. placed progress d (Some form)) settled (misplaced_whole (progress_of mid) line d form stands is)
 
 -- ---- lines
 

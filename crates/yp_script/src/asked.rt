@@ -67,10 +67,11 @@ fn is_of_everything(members: &Map<String, Json>) -> bool
         && is_bare_object(member_in(members, "on-change"))
 }
 
-/// The subscription that an object asks for.
-fn everything_of(receivers: &Receivers, members: &Map<String, Json>) -> Result<Command, ScriptKind>
-    ensures { result ≡ everything_in receivers.now (members_view members.now.entries) }
+/// The subscription to every change of everything that a line asks for.
+fn read_everything(receivers: &Receivers, json: &Json) -> Result<Command, ScriptKind>
+    ensures { result ≡ everything_said receivers.now (view json.now) }
 {
+    let members = object_by(json, "establish")?;
     if !is_of_everything(members) {
         return Err(ScriptKind::Member);
     }
@@ -80,16 +81,6 @@ fn everything_of(receivers: &Receivers, members: &Map<String, Json>) -> Result<C
             None => Err(ScriptKind::Member),
         },
         None => Err(ScriptKind::Member),
-    }
-}
-
-/// The subscription that a line asks for.
-fn read_everything(receivers: &Receivers, json: &Json) -> Result<Command, ScriptKind>
-    ensures { result ≡ everything_said receivers.now (view json.now) }
-{
-    match object_by(json, "establish") {
-        Ok(members) => everything_of(receivers, members),
-        Err(kind) => Err(kind),
     }
 }
 

@@ -39,13 +39,6 @@ pub enum Form {
     Join,
 }
 
-/// Whether a receiver waits for commands to take its packets.
-fn waits(members: &Map<String, Json>) -> bool
-    ensures { result ≡ waits (members_view members.now.entries) }
-{
-    has_text(members, "take", "command")
-}
-
 /// Whether a member names a datastore other than the operational one.
 fn has_other_store(members: &Map<String, Json>) -> bool
     ensures { result ≡ is_other_store (text_at (codes "datastore") (members_view members.now.entries)) }
@@ -87,7 +80,7 @@ fn declares_receiver(json: &Json) -> bool
 {
     match only(json, "receiver") {
         Some(value) => match value.as_object() {
-            Some(members) => !waits(members),
+            Some(members) => !has_text(members, "take", "command"),
             None => true,
         },
         None => false,
@@ -125,19 +118,6 @@ pub fn done_in_lane(json: &Json) -> Option<&Json>
     }
 }
 
-/// The form of a lane line.
-fn lane_form(json: &Json) -> Option<Form>
-    ensures { result ≡ lane_form (view json.now) }
-{
-    match done_in_lane(json) {
-        Some(done) => match asked_of(done) {
-            Some(asked) => Some(Form::Lane(asked)),
-            None => None,
-        },
-        None => None,
-    }
-}
-
 /// The form of a line, where it has one that is read.
 pub fn form_of(json: &Json) -> Option<Form>
     ensures { result ≡ form_of (view json.now) }
@@ -155,7 +135,7 @@ pub fn form_of(json: &Json) -> Option<Form>
     } else {
         match asked_of(json) {
             Some(asked) => Some(Form::Command(asked)),
-            None => lane_form(json),
+            None => Some(Form::Lane(asked_of(done_in_lane(json)?)?)),
         }
     }
 }

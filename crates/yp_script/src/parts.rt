@@ -24,16 +24,6 @@ pub fn read_part(json: &Json) -> Result<Json, Halt>
     }
 }
 
-/// The number of a part's line.
-fn number_of(numbers: &[u32], part: usize) -> u32
-    ensures { result ≡ get_or numbers.now part 0 }
-{
-    match numbers.get(part) {
-        Some(number) => *number,
-        None => 0,
-    }
-}
-
 /// The parts of a schema so far, each with the number of its line.
 #[derive(Drop)]
 pub struct Parts {
@@ -77,7 +67,10 @@ impl Parts {
             Ok(schema) => Ok(schema),
             Err(fault) => match fault {
                 SchemaFault::At { part, .. } => Err(ScriptFault::At {
-                    line: number_of(self.numbers.as_slice(), part),
+                    line: match self.numbers.get(part) {
+                        Some(number) => *number,
+                        None => 0,
+                    },
                     kind: ScriptKind::Schema,
                 }),
                 SchemaFault::Memory => Err(ScriptFault::Memory),

@@ -250,16 +250,6 @@ impl Reader {
         }
     }
 
-    /// Whether a command outside the lanes has a fault.
-    fn judge_command(&self, alloc: Global, asked: Asked, json: &Json) -> Result<(), Halt>
-        ensures { Judges result (taken (progress_of self.now) (view json.now) (Form.Command asked)) }
-    {
-        match read_command(alloc, &self.receivers, self.established, asked, json) {
-            Ok(_) => Ok(()),
-            Err(halt) => Err(halt),
-        }
-    }
-
     /// Whether a command of a lane has a fault.
     fn judge_lane(&self, alloc: Global, asked: Asked, json: &Json) -> Result<(), Halt>
         ensures { Judges result (taken (progress_of self.now) (view json.now) (Form.Lane asked)) }
@@ -292,7 +282,12 @@ impl Reader {
                 Ok(_) => Ok(()),
                 Err(halt) => Err(halt),
             },
-            Form::Command(asked) => self.judge_command(alloc, asked, json),
+            Form::Command(asked) => {
+                match read_command(alloc, &self.receivers, self.established, asked, json) {
+                    Ok(_) => Ok(()),
+                    Err(halt) => Err(halt),
+                }
+            }
             Form::Lanes => match read_lanes(json) {
                 Ok(_) => Ok(()),
                 Err(kind) => Err(Halt::Fault(kind)),
@@ -305,21 +300,6 @@ impl Reader {
                     Err(Halt::Fault(ScriptKind::Member))
                 }
             }
-        }
-    }
-
-    /// The fault of a line of a form at a place where it may not stand.
-    fn misplaced(&mut self, alloc: Global, line: u32, form: Form, json: &Json) -> ScriptFault
-        requires settled { self.old.settled ≡ true }
-        requires misplaced { may_stand self.old.stage form ≡ false }
-        ensures { IsFault result (at_line line (placed (progress_of self.old) (view json.now) (Some form))) }
-    {
-        match self.judge(alloc, line, form, json) {
-            Ok(()) => ScriptFault::At {
-                line,
-                kind: ScriptKind::Order,
-            },
-            Err(halt) => fault_at(line, false, halt),
         }
     }
 
@@ -388,7 +368,13 @@ impl Reader {
         ensures { Stops result self.old line (λ progress. placed progress (view json.now) (Some form)) }
     {
         match self.settle(alloc) {
-            Ok(()) => self.misplaced(alloc, line, form, json),
+            Ok(()) => match self.judge(alloc, line, form, json) {
+                Ok(()) => ScriptFault::At {
+                    line,
+                    kind: ScriptKind::Order,
+                },
+                Err(halt) => fault_at(line, false, halt),
+            },
             Err(fault) => fault,
         }
     }

@@ -20,39 +20,19 @@ use yp_journal::receiver::ReceiverInfo;
 /// The most receivers of a script.
 const MOST_RECEIVERS: usize = 16;
 
-/// Whether each byte may stand in a receiver's name.
-fn has_name_bytes(text: &[u8]) -> bool
-    ensures { result ≡ are_name_bytes text.now }
+/// Whether a text is a receiver's name.
+fn is_name(text: &str) -> bool
+    ensures { result ≡ is_receiver_name text.now }
 {
-    for byte in text {
+    if text.is_empty() || text.len() > 32 {
+        return false;
+    }
+    for byte in text.as_bytes() {
         if !byte.is_ascii_alphanumeric() && *byte != b'_' && *byte != b'-' && *byte != b'.' {
             return false;
         }
     }
     true
-}
-
-/// Whether a text is a receiver's name.
-fn is_name(text: &str) -> bool
-    ensures { result ≡ is_receiver_name text.now }
-{
-    if 1 <= text.len() && text.len() <= 32 {
-        has_name_bytes(text.as_bytes())
-    } else {
-        false
-    }
-}
-
-/// Whether a text is the name of a receiver that isn't declared yet.
-fn is_new(receivers: &Receivers, text: &str) -> bool
-    ensures new { OnTrue result (number_of receivers.now text.now ≡ None) }
-    ensures value { result ≡ is_new_name receivers.now text.now }
-{
-    if is_name(text) {
-        receivers.number_of(text).is_none()
-    } else {
-        false
-    }
 }
 
 /// A member that is the name of a receiver that isn't declared yet.
@@ -62,7 +42,7 @@ fn new_name<'a>(receivers: &Receivers, members: &'a Map<String, Json>) -> Option
 {
     match text_in(members, "name") {
         Some(text) => {
-            if is_new(receivers, text) {
+            if is_name(text) && receivers.number_of(text).is_none() {
                 Some(text)
             } else {
                 None
@@ -88,13 +68,6 @@ fn user_name(members: &Map<String, Json>) -> Option<&str>
     }
 }
 
-/// Whether an object has as many members as a receiver's, which takes its packets by itself.
-fn has_form(members: &Map<String, Json>) -> bool
-    ensures { result ≡ has_receiver_form (members_view members.now.entries) }
-{
-    count(members) == 4 && has_text(members, "take", "auto")
-}
-
 /// How many packets the queue of one receiver more holds, where there is room for it.
 fn places_of(receivers: &Receivers, members: &Map<String, Json>) -> Result<u64, ScriptKind>
     ensures read { result ≡ places_said receivers.now (members_view members.now.entries) }
@@ -109,18 +82,13 @@ fn places_of(receivers: &Receivers, members: &Map<String, Json>) -> Result<u64, 
                 Ok(places)
             }
         }
-        Err(kind) => Err(overfull(receivers, kind)),
-    }
-}
-
-/// The fault of a queue, beside that of one receiver too many.
-fn overfull(receivers: &Receivers, kind: ScriptKind) -> ScriptKind
-    ensures { result ≡ (if nat_le (length receivers.now + 1) 16 then kind else least ScriptKind.Limit kind) }
-{
-    if receivers.len() >= MOST_RECEIVERS {
-        least(ScriptKind::Limit, kind)
-    } else {
-        kind
+        Err(kind) => {
+            if receivers.len() < MOST_RECEIVERS {
+                Err(kind)
+            } else {
+                Err(least(ScriptKind::Limit, kind))
+            }
+        }
     }
 }
 
@@ -141,7 +109,7 @@ fn receiver_of(
     ensures new { IfOk result (λ receiver. number_of receivers.now receiver.name ≡ None) }
     ensures room { OnOk result (length receivers.now < 16) }
 {
-    if !has_form(members) {
+    if count(members) != 4 || !has_text(members, "take", "auto") {
         return Err(Halt::Fault(ScriptKind::Member));
     }
     match new_name(receivers, members) {

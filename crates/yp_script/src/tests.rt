@@ -1,7 +1,9 @@
 mod limits;
+mod lines;
 
 use crate::fault::{ScriptFault, ScriptKind};
 use crate::reading::read_script;
+use crate::receivers::Receivers;
 use std::alloc::Global;
 use std::test::Fail;
 use yp_base::memory::NoMemory;
@@ -64,37 +66,31 @@ fn are_faults(alloc: Global, lines: &[&str], kind: ScriptKind) -> Result<bool, N
     Ok(true)
 }
 
+// Whether the second receiver is that of `OTHER`.
+fn has_other(receivers: &Receivers) -> bool {
+    match receivers.get(1) {
+        Some(other) => other.user.as_str() == "bob" && other.places == 32 && other.auto,
+        None => false,
+    }
+}
+
+const LANES: &str =
+    "{\"lanes\":2}\n{\"lane\":2,\"do\":{\"tick\":7}}\n{\"lane\":2,\"do\":{\"tick\":6}}\n{\"join\":true}\n";
+
 #[test]
 fn commands_stand_before_in_and_after_the_lanes(rt: HostRuntime) -> Result<(), Fail> {
     let alloc = rt.alloc();
     let text = text_of(
         alloc,
         &[
-            START,
-            "\t \r\n",
-            SCHEMA,
-            RECEIVER,
-            OTHER,
-            TICK,
-            ESTABLISH,
-            "{\"lanes\":2}\n",
-            "{\"lane\":2,\"do\":{\"tick\":7}}\n",
-            "{\"lane\":2,\"do\":{\"tick\":6}}\n",
-            "{\"join\":true}\n",
-            PATCH,
+            START, "\t \r\n", SCHEMA, RECEIVER, OTHER, TICK, ESTABLISH, LANES, PATCH,
         ],
     )?;
     match read_script(alloc, text.as_bytes()) {
         Ok(script) => {
             assert!(rt; script.receivers.len() == 2);
             assert!(rt; script.receivers.number_of("r2") == Some(1));
-            match script.receivers.get(1) {
-                Some(receiver) => {
-                    assert!(rt; receiver.user.as_str() == "bob");
-                    assert!(rt; receiver.places == 32 && receiver.auto);
-                }
-                None => assert!(rt; false),
-            }
+            assert!(rt; has_other(&script.receivers));
             assert!(rt; script.schema.count() == 1);
             assert!(rt; script.start.second() == 1_767_225_600);
             assert!(rt;

@@ -10,7 +10,7 @@ const EVERYTHING: &str =
     "{\"establish\":{\"by\":\"r1\",\"datastore\":\"ietf-datastores:operational\",\"on-change\":{}}}\n";
 
 // A text so many times.
-fn repeated(alloc: Global, text: &str, count: u32) -> Result<String, NoMemory> {
+pub(crate) fn repeated(alloc: Global, text: &str, count: u32) -> Result<String, NoMemory> {
     let mut all = String::new(alloc);
     for _ in 0..count {
         all.push_str(text)?;
@@ -62,6 +62,40 @@ fn a_name_has_1_to_32_bytes(rt: HostRuntime) -> Result<(), Fail> {
     assert!(rt; is_receiver(alloc, 1, 1)?);
     assert!(rt; is_receiver(alloc, 32, 1)?);
     assert!(rt; is_wrong_receiver(alloc, 33, 1)?);
+    Ok(())
+}
+
+// The line of a receiver of this name, in JSON.
+fn receiver_of(alloc: Global, name: &str) -> Result<String, NoMemory> {
+    let mut line = String::new(alloc);
+    line.push_str("{\"receiver\":{\"name\":\"")?;
+    line.push_str(name)?;
+    line.push_str("\",\"user\":\"ann\",\"queue\":4,\"take\":\"auto\"}}\n")?;
+    Ok(line)
+}
+
+#[test]
+fn a_name_has_letters_digits_and_three_signs(rt: HostRuntime) -> Result<(), Fail> {
+    let alloc = rt.alloc();
+    let names = ["a", "z", "A", "Z", "0", "9", "_", "-", ".", "Az-0_9.x"];
+    for name in &names {
+        let line = receiver_of(alloc, name)?;
+        assert!(rt; is_read(alloc, &[START, SCHEMA, line.as_str()])?);
+    }
+    let others = [
+        " ", ",", "/", ":", "@", "[", "^", "`", "{", "~", "a b", "\\u0000", "\\n", "\u{e9}",
+    ];
+    for name in &others {
+        let line = receiver_of(alloc, name)?;
+        assert!(rt;
+            is_fault(
+                alloc,
+                &[START, SCHEMA, line.as_str()],
+                3,
+                ScriptKind::Member
+            )?
+        );
+    }
     Ok(())
 }
 
@@ -124,6 +158,12 @@ fn numbers_at_the_ends_of_their_ranges_are_read(rt: HostRuntime) -> Result<(), F
             ]
         )?
     );
+    Ok(())
+}
+
+#[test]
+fn lanes_are_numbered_from_1_to_64(rt: HostRuntime) -> Result<(), Fail> {
+    let alloc = rt.alloc();
     let first = "{\"lane\":1,\"do\":{\"tick\":1}}\n";
     let last = "{\"lane\":64,\"do\":{\"tick\":1}}\n";
     let join = "{\"join\":true}\n";
