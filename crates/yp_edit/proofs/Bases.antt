@@ -1,21 +1,20 @@
 -- What touching paths does to the rows that are left.
-use Rattle.std.proofs.Common.{◌≡◌, ℕ, ◌≤◌, ◌<◌, ◌-◌, suc, List, [], ◌∷◌, length, refl, sym, ap, ◌∙◌, cond, Bool, true, false, not, ◌||◌, Option, Some, None, Bor, arith}
+use Rattle.std.proofs.Common.{◌≡◌, ℕ, ◌≤◌, ◌-◌, suc, List, [], ◌∷◌, length, refl, sym, ap, ◌∙◌, cond, Bool, true, false, not, ◌||◌, Option, Some, None, Bor, arith}
 use Rattle.std.specs.Prelude.{filter, is_some, option_copied}
 use Rattle.std.specs.Ordering.{is_eq}
 use Rattle.yp_base.specs.declared.path.Seg.{Seg}
 use Rattle.yp_base.specs.declared.row.Value.{Value}
 use Rattle.yp_base.specs.declared.row.Row.{Row}
 use Rattle.yp_base.specs.Order.{path_cmp}
-use Rattle.yp_base.specs.Rows.{value_at, next_row, has_within, rows_without, AreInOrder}
+use Rattle.yp_base.specs.Rows.{value_at, has_within, AreInOrder}
 use Rattle.yp_base.proofs.RowLaws.{some_keep_order}
 use Rattle.yp_tree.specs.Listed.{without_row}
 use Rattle.yp_edit.specs.Bases.{Touched, is_listed, left, untouched, IsBase, Touches, TouchesWithin}
-use Rattle.yp_edit.proofs.Alike.{are_one, tie_turned, ties_itself, same_rows}
-use Rattle.yp_edit.proofs.Taking.{without_row_order, value_at_without_row, one_taken, none_taken, still_none, all_left, others_same}
-use Rattle.yp_edit.proofs.Walking.{Clearing, one_cleared, next_there, within_itself}
+use Rattle.yp_edit.proofs.Alike.{are_one, tie_turned, same_rows}
+use Rattle.yp_edit.proofs.Taking.{without_row_order, value_at_without_row, one_taken, none_taken, still_none, all_left}
 
 -- the value at a path, of rows that are picked by their paths
-value_at_picked : (p : List Seg → Bool) (q : List Seg) (rows : List Row) → value_at q (filter (λ row. p row.path) rows) ≡ cond (p q) (value_at q rows) None
+pub value_at_picked : (p : List Seg → Bool) (q : List Seg) (rows : List Row) → value_at q (filter (λ row. p row.path) rows) ≡ cond (p q) (value_at q rows) None
 value_at_picked p q [] = elim (p q) as (λ b. value_at q [] ≡ cond b (value_at q []) None) [ true ↦ refl | false ↦ refl ]
 value_at_picked p q (row ∷ rows) =
     let some = filter (λ (r : Row). p r.path) rows in
@@ -122,33 +121,12 @@ more_bare path rows paths bare more count base grown none = record {
 pub touches_left : (path : List Seg) (old new : Touched) → AreInOrder old.rows → Touches path old new → untouched new ≡ without_row path (untouched old)
 touches_left path old new order touches = ap (left new.paths) touches.rows ∙ touched_left path old.paths new.paths old.rows order touches.paths
 
-pub now_listed : (path : List Seg) (old new : Touched) → Touches path old new → is_listed path new.paths ≡ true
-now_listed path old new touches = touches.paths path ∙ ap (λ b. b || is_listed path old.paths) (ties_itself path)
-
 stays : (here listed : Bool) → listed ≡ true → (here || listed) ≡ true
 stays true listed h = refl
 stays false listed h = h
 
 pub still_listed : (path : List Seg) (old new : Touched) → Touches path old new → (q : List Seg) → is_listed q old.paths ≡ true → is_listed q new.paths ≡ true
 still_listed path old new touches q h = touches.paths q ∙ stays (is_eq (path_cmp path q)) (is_listed q old.paths) h
-
--- one more of the rows at or below a target is touched
-pub touch_clears : (target last : List Seg) (first old new : Touched) (row : Row) → AreInOrder old.rows → Clearing target last (untouched first) (untouched old) → next_row last target (untouched old) ≡ Some row → Touches row.path old new
-    → Clearing target row.path (untouched first) (untouched new)
-touch_clears target last first old new row order so_far next touches =
-    one_cleared target last (untouched first) (untouched old) (untouched new) row (left_order old.paths old.rows order) so_far next (touches_left row.path old new order touches)
-
-pub touch_shrinks : (target last : List Seg) (old new : Touched) (row : Row) → AreInOrder old.rows → next_row last target (untouched old) ≡ Some row → Touches row.path old new → length (untouched new) < length (untouched old)
-touch_shrinks target last old new row order next touches =
-    let one = one_taken row.path (untouched old) (next_there last target (untouched old) row next) in
-    omega (arith, one, ap length (touches_left row.path old new order touches))
-
--- where a target is touched and then what is below it, the rows at or below it are
-pub touch_both : (target : List Seg) (old new newer : Touched) → AreInOrder old.rows → Touches target old new → TouchesWithin target new newer → TouchesWithin target old newer
-touch_both target old new newer order touches within = record {
-  rows = within.rows ∙ touches.rows;
-  others = within.others ∙ ap (rows_without target) (touches_left target old new order touches) ∙ others_same target target (untouched old) (within_itself target);
-}
 
 -- below a bare path nothing is left to touch
 pub none_to_touch : (target : List Seg) (rows : List Row) (paths bare : List (List Seg)) (count : ℕ) → IsBase rows paths bare count → is_listed target bare ≡ true → TouchesWithin target (record { rows = rows; paths = paths }) (record { rows = rows; paths = paths })

@@ -10,4 +10,5 @@ pub mod Items
 pub mod Keeping
 pub mod Refusals
 pub mod Taking
+pub mod Touching
 pub mod Walking

@@ -99,12 +99,3 @@ all_left target [] none = refl
 all_left target (row ∷ rows) none =
     let parts = neither (is_within target row.path) (has_within target rows) none in
     ap (λ w. cond (not w) (row ∷ rows_without target rows) (rows_without target rows)) parts.0 ∙ ap (λ (more : List Row). row ∷ more) (all_left target rows parts.1)
-
--- without a row at or below a target, the others are the same
-pub others_same : (target path : List Seg) (rows : List Row) → is_within target path ≡ true → rows_without target (without_row path rows) ≡ rows_without target rows
-others_same target path [] within = refl
-others_same target path (row ∷ rows) within =
-    elim (is_eq (path_cmp path row.path)) as (λ b. is_eq (path_cmp path row.path) ≡ b → rows_without target (cond b rows (row ∷ without_row path rows)) ≡ rows_without target (row ∷ rows)) [
-      | true ↦ λ here. ap (λ w. cond (not w) (row ∷ rows_without target rows) (rows_without target rows)) (sym (ap (is_within target) (sym (are_one path row.path here)) ∙ within))
-      | false ↦ λ here. (λ i. cond (not (is_within target row.path)) (row ∷ others_same target path rows within i) (others_same target path rows within i))
-    ] refl

@@ -1,12 +1,14 @@
 -- The tree that a patch is applied to, with the paths that its edits touch.
-use Rattle.std.specs.Prelude.{◌≡◌, ℕ, List, length, Bool, true, false, not, ◌||◌, filter}
-use Rattle.std.specs.List.{list_any}
+use Rattle.std.specs.Prelude.{◌≡◌, ℕ, List, length, Bool, true, false, not, ◌||◌, filter, Option, option_copied}
+use Rattle.std.specs.Borrow.{Bor}
+use Rattle.std.specs.List.{list_any, AllByRecursion}
 use Rattle.std.specs.Ordering.{is_eq}
 use Rattle.std.specs.BTreeMap.{is_at}
 use Rattle.yp_base.specs.declared.path.Seg.{Seg}
+use Rattle.yp_base.specs.declared.row.Value.{Value}
 use Rattle.yp_base.specs.declared.row.Row.{Row}
 use Rattle.yp_base.specs.Order.{path_cmp}
-use Rattle.yp_base.specs.Rows.{has_within, rows_without, AreInOrder}
+use Rattle.yp_base.specs.Rows.{value_at, has_within, rows_without, AreInOrder}
 
 -- the rows of a tree, and the paths that are touched
 pub record Touched : Type 0 where
@@ -30,6 +32,10 @@ pub record IsBase (rows : List Row) (paths bare : List (List Seg)) (count : ℕ)
   pub in_order : AreInOrder rows
   pub counted : count ≡ length (left paths rows)
   pub none_below : (path : List Seg) → is_listed path bare ≡ true → has_within path (left paths rows) ≡ false
+
+-- the values that are kept at paths are those of the rows
+abbrev pub KeepsValues : List Row → List (List Seg × Option (Bor Value)) → Type 0
+KeepsValues rows kept = AllByRecursion (λ entry. option_copied entry.1 ≡ value_at entry.0 rows) kept
 
 -- one more path is touched
 pub record Touches (path : List Seg) (old new : Touched) : Type 0 where

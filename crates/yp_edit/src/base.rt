@@ -1,16 +1,16 @@
 //! The tree that a patch is applied to, and what its edits touch.
-ghost use Rattle.std.specs.Prelude.{◌≡◌, ◌<◌, ◌^◌, [], None, length, is_some, option_map, IfOk, OnOk, OnErr};
+ghost use Rattle.std.specs.Prelude.{◌≡◌, ◌<◌, ◌^◌, [], None, Some, false, length, map, slice_get, is_some, option_map, option_copied, IfOk, OnOk, OnErr};
 ghost use Rattle.std.specs.List.{filter_map};
 ghost use Rattle.std.specs.List.Sorted.{IsStrictlySortedBy};
 ghost use Rattle.yp_base.specs.Order.{path_cmp};
-ghost use Rattle.yp_base.specs.Rows.{value_at, next_row, has_within, AreInOrder};
+ghost use Rattle.yp_base.specs.Rows.{path_of, value_at, next_row, has_within, rows_within, AreInOrder};
 ghost use Rattle.yp_tree.specs.Listed.{row_of};
 ghost use Rattle.yp_edit.specs.Changes.{change_at};
-ghost use Rattle.yp_edit.specs.Bases.{untouched, Touches, TouchesWithin, StaysTouched};
+ghost use Rattle.yp_edit.specs.Bases.{is_listed, untouched, Touches, TouchesWithin, StaysTouched};
 
 use crate::changed::{Changed, change_of};
 use std::alloc::Global;
-use std::collections::BTreeSet;
+use std::collections::{BTreeMap, BTreeSet};
 use std::marker::Model;
 use std::sync::ledger::Ledger;
 use yp_base::memory::{Duplicate, NoMemory};
@@ -20,24 +20,26 @@ use yp_base::series::Series;
 use yp_base::steps::Steps;
 use yp_tree::tree::Tree;
 
-/// A tree, which stays as it is, with the paths that edits touch: a row of the tree whose path is touched
-/// counts no more. At or below a bare path each row is touched, so that no edit walks over them again.
+/// A tree, which stays as it is, with the paths that edits touch and the value that the tree has at each
+/// of them: a row of the tree whose path is touched counts no more. At or below a bare path each row is
+/// touched, so that no edit walks over them again.
 #[derive(Drop)]
 pub struct Base<'a> {
     tree: &'a Tree,
-    touched: BTreeSet<Path>,
+    touched: BTreeMap<Path, Option<&'a Value>>,
     bare: BTreeSet<Path>,
     count: usize,
 }
 
 impl<'a> Model for Base<'a> {
-    ghost use Rattle.yp_edit.specs.Bases.{Touched, IsBase};
+    ghost use Rattle.std.specs.Map.{keys_of};
+    ghost use Rattle.yp_edit.specs.Bases.{Touched, IsBase, KeepsValues};
 
     ghost Value = { Touched };
 
-    ghost view = { λ b. record { rows = b.tree.now; paths = b.touched.keys } };
+    ghost view = { λ b. record { rows = b.tree.now; paths = keys_of b.touched.entries } };
 
-    ghost invariant = { λ b. IsBase b.tree.now b.touched.keys b.bare.keys b.count };
+    ghost invariant = { λ b. IsBase b.tree.now (keys_of b.touched.entries) b.bare.keys b.count × KeepsValues b.tree.now b.touched.entries };
 }
 
 impl<'a> Base<'a> {
@@ -47,7 +49,7 @@ impl<'a> Base<'a> {
     {
         Base {
             tree,
-            touched: BTreeSet::new(alloc),
+            touched: BTreeMap::new(alloc),
             bare: BTreeSet::new(alloc),
             count: tree.len(),
         }
@@ -69,7 +71,7 @@ impl<'a> Base<'a> {
     pub fn has<L: Ledger>(&self, path: &Path, steps: &mut Steps<L>) -> bool
         ensures { result ≡ is_some (value_at path.now (untouched self.now)) }
     {
-        if self.touched.contains(path) {
+        if self.touched.contains_key(path) {
             return false;
         }
         self.tree.get(path, steps).is_some()
@@ -86,7 +88,7 @@ impl<'a> Base<'a> {
     {
         let mut last = after;
         while let Some((path, value)) = self.tree.next(last, under, steps) {
-            if !self.touched.contains(path) {
+            if !self.touched.contains_key(path) {
                 return Some((path, value));
             }
             last = path;
@@ -94,14 +96,19 @@ impl<'a> Base<'a> {
         None
     }
 
-    /// Whether an untouched row is found at or below a target.
-    fn finds_within<L: Ledger>(&self, target: &Path, steps: &mut Steps<L>) -> bool
+    /// Whether an untouched row is found at or below a target, whose first row in the tree has this path.
+    fn finds_from<L: Ledger>(&self, first: &Path, target: &Path, steps: &mut Steps<L>) -> bool
+        requires { option_map path_of (slice_get (rows_within target.now self.now.rows) 0) ≡ Some first.now }
         ensures { result ≡ has_within target.now (untouched self.now) }
     {
-        self.has(target, steps) || self.next(target, target, steps).is_some()
+        if !self.touched.contains_key(first) {
+            return true;
+        }
+        self.next(first, target, steps).is_some()
     }
 
-    /// Whether there are untouched rows at or below a target. Where there are none, its path is bare.
+    /// Whether there are untouched rows at or below a target. Where the tree's rows there are all touched,
+    /// its path is bare.
     pub fn has_within<L: Ledger>(
         &mut self,
         alloc: Global,
@@ -114,47 +121,81 @@ impl<'a> Base<'a> {
         if self.bare.contains(target) {
             return Ok(false);
         }
-        if self.finds_within(target, steps) {
-            return Ok(true);
+        match self.tree.first_within(target, steps) {
+            Some((first, _value)) => {
+                if self.finds_from(first, target, steps) {
+                    return Ok(true);
+                }
+                self.bare.insert(target.copy(alloc)?)?;
+                Ok(false)
+            }
+            None => Ok(false),
         }
-        self.bare.insert(target.copy(alloc)?)?;
-        Ok(false)
     }
 
-    /// Touches a path.
-    pub fn touch<L: Ledger>(&mut self, path: Path, steps: &mut Steps<L>) -> Result<(), NoMemory>
-        ensures touched { OnOk result (Touches path self.old self.new) }
+    /// Touches a path that isn't touched, and keeps the value that the tree has there.
+    fn keep(&mut self, alloc: Global, path: &Path, old: Option<&'a Value>) -> Result<(), NoMemory>
+        requires untouched { is_listed path.now self.old.paths ≡ false }
+        requires old { option_copied old ≡ value_at path.now self.old.rows }
+        ensures touched { OnOk result (Touches path.now self.old self.new) }
         ensures unchanged { OnErr result (self.new ≡ self.old) }
     {
-        let there = self.has(&path, steps);
-        self.touched.insert(path)?;
+        let there = old.is_some();
+        self.touched.insert(path.copy(alloc)?, old)?;
         if there {
             self.count -= 1;
         }
         Ok(())
     }
 
-    /// Touches the rows below a target.
-    fn touch_below<L: Ledger>(
+    /// Touches a path.
+    pub fn touch<L: Ledger>(
+        &mut self,
+        alloc: Global,
+        path: &Path,
+        steps: &mut Steps<L>,
+    ) -> Result<(), NoMemory>
+        ensures touched { OnOk result (Touches path.now self.old self.new) }
+        ensures unchanged { OnErr result (self.new ≡ self.old) }
+    {
+        if self.touched.contains_key(path) {
+            return Ok(());
+        }
+        let old = self.tree.get(path, steps);
+        self.keep(alloc, path, old)
+    }
+
+    /// Touches the path of a row of the tree.
+    fn touch_row(&mut self, alloc: Global, path: &Path, value: &'a Value) -> Result<(), NoMemory>
+        requires { value_at path.now self.old.rows ≡ Some value.now }
+        ensures touched { OnOk result (Touches path.now self.old self.new) }
+        ensures unchanged { OnErr result (self.new ≡ self.old) }
+    {
+        if self.touched.contains_key(path) {
+            return Ok(());
+        }
+        self.keep(alloc, path, Some(value))
+    }
+
+    /// Touches the paths of the tree's rows at or below a target.
+    fn touch_rows(
         &mut self,
         alloc: Global,
         target: &Path,
-        steps: &mut Steps<L>,
+        rows: Vec<(&'a Path, &'a Value)>,
     ) -> Result<(), NoMemory>
-        requires { value_at target.now (untouched self.old) ≡ None }
+        requires { map (λ each. row_of (each.0.now, each.1.now)) rows.items ≡ rows_within target.now self.old.rows }
         ensures touched { OnOk result (TouchesWithin target.now self.old self.new) }
         ensures stay { StaysTouched self.old self.new }
     {
-        let _rows = &self.tree;
-        let mut last = target;
-        while let Some((path, _value)) = self.next(last, target, steps) {
-            self.touch(path.copy(alloc)?, steps)?;
-            last = path;
+        let _rows = self.tree.len();
+        for row in rows {
+            self.touch_row(alloc, row.0, row.1)?;
         }
         Ok(())
     }
 
-    /// Touches the rows at or below a target, whose path is then bare.
+    /// Touches the rows at or below a target. Where there are several, its path is then bare.
     pub fn touch_within<L: Ledger>(
         &mut self,
         alloc: Global,
@@ -167,9 +208,12 @@ impl<'a> Base<'a> {
         if self.bare.contains(target) {
             return Ok(());
         }
-        self.touch(target.copy(alloc)?, steps)?;
-        self.touch_below(alloc, target, steps)?;
-        self.bare.insert(target.copy(alloc)?)?;
+        let rows = self.tree.within(alloc, target, steps)?;
+        let several = 1 < rows.len();
+        self.touch_rows(alloc, target, rows)?;
+        if several {
+            self.bare.insert(target.copy(alloc)?)?;
+        }
         Ok(())
     }
 
@@ -183,10 +227,9 @@ impl<'a> Base<'a> {
         ensures { IfOk result (λ changed. changed ≡ filter_map (change_at self.now.rows put.now) self.now.paths) }
     {
         let mut changed = Vec::new(alloc);
-        let mut paths = self.touched.iter();
-        while let Some(path) = paths.next() {
-            let old = self.tree.get(path, steps);
-            match change_of(alloc, path, old, put.get(path, steps))? {
+        let mut kept = self.touched.iter();
+        while let Some((path, old)) = kept.next() {
+            match change_of(alloc, path, *old, put.get(path, steps))? {
                 Some(change) => changed.push(change)?,
                 None => {}
             }

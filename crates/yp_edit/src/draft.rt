@@ -1,5 +1,5 @@
 //! Rows under change, over a tree that isn't changed yet.
-ghost use Rattle.std.specs.Prelude.{◌≡◌, length, is_some, IfOk, OnOk};
+ghost use Rattle.std.specs.Prelude.{◌≡◌, length, is_some, IfOk, OnOk, OnErr};
 ghost use Rattle.yp_base.specs.Rows.{value_at, put_row, has_within, rows_without};
 ghost use Rattle.yp_edit.specs.Changes.{changed_rows};
 
@@ -8,7 +8,7 @@ use crate::changed::Changed;
 use std::alloc::Global;
 use std::marker::Model;
 use std::sync::ledger::Ledger;
-use yp_base::memory::{Duplicate, NoMemory};
+use yp_base::memory::NoMemory;
 use yp_base::path::Path;
 use yp_base::row::Row;
 use yp_base::steps::Steps;
@@ -31,11 +31,16 @@ impl<'a> Model for Draft<'a> {
     ghost invariant = { λ d. IsDraft d.base d.put };
 }
 
-/// Whether a tree has rows at or below a target.
-fn has_rows<L: Ledger>(tree: &Tree, target: &Path, steps: &mut Steps<L>) -> bool
-    ensures { result ≡ has_within target.now tree.now }
+/// Takes the rows at or below a target out of a tree, which mostly has none at all.
+fn cut_within(alloc: Global, tree: &mut Tree, target: &Path) -> Result<(), NoMemory>
+    ensures rest { OnOk result (tree.new ≡ rows_without target.now tree.old) }
+    ensures unchanged { OnErr result (tree.new ≡ tree.old) }
 {
-    tree.get(target, steps).is_some() || tree.next(target, target, steps).is_some()
+    if tree.len() == 0 {
+        return Ok(());
+    }
+    let _cut = tree.cut(alloc, target)?;
+    Ok(())
 }
 
 impl<'a> Draft<'a> {
@@ -74,8 +79,7 @@ impl<'a> Draft<'a> {
         ensures { OnOk result (self.new ≡ record self.old { after = put_row row self.old.after }) }
     {
         let _rows = (self.put.len(), self.base.len());
-        let path = row.path.copy(alloc)?;
-        self.base.touch(path, steps)?;
+        self.base.touch(alloc, &row.path, steps)?;
         self.put.put(alloc, row)?;
         Ok(())
     }
@@ -90,7 +94,7 @@ impl<'a> Draft<'a> {
         ensures found { IfOk result (λ found. found ≡ has_within target.now self.old.after) }
         ensures same { self.new ≡ self.old }
     {
-        if has_rows(&self.put, target, steps) {
+        if self.put.first_within(target, steps).is_some() {
             return Ok(true);
         }
         self.base.has_within(alloc, target, steps)
@@ -107,7 +111,7 @@ impl<'a> Draft<'a> {
     {
         let _rows = (self.put.len(), self.base.len());
         self.base.touch_within(alloc, target, steps)?;
-        let _cut = self.put.cut(alloc, target)?;
+        cut_within(alloc, &mut self.put, target)?;
         Ok(())
     }
 

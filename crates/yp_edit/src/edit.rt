@@ -62,7 +62,7 @@ fn stands_above<L: Ledger>(
     requires { is_path_of schema.now target.now ≡ true }
     ensures { IfOk result (λ stands. stands ≡ stand_above schema.now target.now draft.now.after) }
 {
-    let mut front = Series::from_vec(Vec::new(alloc));
+    let mut front = Series::from_vec(Vec::with_capacity(alloc, target.len())?);
     let mut rest = target.items();
     while let Some((segment, more)) = rest.split_first() {
         if more.is_empty() {

@@ -1,7 +1,12 @@
 use Rattle.std.proofs.Common.{◌≡◌, ◌++◌}
 use Rattle.std.specs.List.{filter_map}
+use Rattle.std.specs.Map.{keys_of}
+use Rattle.yp_edit.specs.Bases.{KeepsValues}
 use Rattle.yp_edit.specs.Changes.{change_at}
 use Rattle.yp_edit.proofs.base.Base.changes.Given as goal
 
 abbrev pub invariant-loop-path : goal.invariant-loop-path
-invariant-loop-path g l = l.changed.items ++ filter_map (change_at l.self-inside.tree.now l.put) l.paths ≡ filter_map (change_at l.self.rows l.put) l.self.paths
+invariant-loop-path g l = record {
+  kept : KeepsValues l.self.rows l.kept;
+  so_far : l.changed.items ++ filter_map (change_at l.self.rows l.put) (keys_of l.kept) ≡ filter_map (change_at l.self.rows l.put) l.self.paths;
+}

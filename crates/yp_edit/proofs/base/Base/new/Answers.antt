@@ -1,11 +1,15 @@
-use Rattle.std.proofs.Common.{ap, sym, ◌∙◌, length, true≢false}
-use Rattle.yp_edit.specs.Bases.{is_listed, left}
+use Rattle.std.proofs.Common.{ap, sym, subst, ◌∙◌, length, true≢false}
+use Rattle.std.specs.Map.{keys_of}
+use Rattle.yp_edit.specs.Bases.{KeepsValues, is_listed, left}
 use Rattle.yp_edit.proofs.Bases.{none_listed}
 use Rattle.yp_edit.proofs.base.Base.new.Goals as goal
 
 pub invariant_of-result : goal.invariant_of-result
-invariant_of-result c = record {
-  in_order = c.len.ensures.order;
-  counted = c.len.ensures.count ∙ ap length (sym (none_listed c.args.tree.now) ∙ ap (λ paths. left paths c.args.tree.now) (sym c.new.ensures.empty));
-  none_below = λ path h. absurd (true≢false (sym h ∙ ap (is_listed path) c.new-2.ensures.empty));
-}
+invariant_of-result c = (
+  record {
+    in_order = c.len.ensures.order;
+    counted = c.len.ensures.count ∙ ap length (sym (none_listed c.args.tree.now) ∙ ap (λ es. left (keys_of es) c.args.tree.now) (sym c.new.ensures.empty));
+    none_below = λ path h. absurd (true≢false (sym h ∙ ap (is_listed path) c.new-2.ensures.empty));
+  },
+  subst (KeepsValues c.args.tree.now) (sym c.new.ensures.empty) tt,
+)

@@ -4,12 +4,14 @@ use Rattle.yp_base.specs.Rows.{next_row}
 use Rattle.yp_tree.specs.Listed.{row_of}
 use Rattle.yp_edit.specs.Bases.{Touched, is_listed, untouched}
 use Rattle.yp_edit.proofs.Walking.{next_first, next_picked, next_skipped, none_picked, fewer_left}
+use Rattle.yp_edit.proofs.Touching.{listed_keys}
+use Rattle.std.specs.Map.{keys_of}
 use Rattle.yp_edit.proofs.base.Base.next.Goals as goal
 
-pub returns-then-not-contains : goal.returns-then-not-contains
-returns-then-not-contains g c =
+pub returns-then-not-contains_key : goal.returns-then-not-contains_key
+returns-then-not-contains_key g c =
     let row : Row = row_of (c.in-Some.path.now, c.in-Some.value.now) in
-    sym (next_picked (λ path. not (is_listed path c.self.inside.touched.keys)) c.loop-path.last.now c.args.under.now c.self.inside.tree.now row (sym c.in-Some.ensures.found) (ap not (sym c.contains.ensures ∙ c.if-not-contains.true)))
+    sym (next_picked (λ path. not (is_listed path (keys_of c.self.inside.touched.entries))) c.loop-path.last.now c.args.under.now c.self.inside.tree.now row (sym c.in-Some.ensures.found) (ap not (sym (c.contains_key.ensures ∙ listed_keys c.in-Some.path.now c.self.inside.touched.entries) ∙ c.if-not-contains_key.true)))
     ∙ c.loop-path.invariant.so_far
     ∙ ap (λ (b : Touched). next_row c.args.after.now c.args.under.now (untouched b)) c.self.view_is
 
@@ -24,12 +26,12 @@ loop-path-preserved g c =
     record {
       order = c.loop-path.invariant.order;
       so_far =
-          next_skipped (λ path. not (is_listed path c.self.inside.touched.keys)) c.loop-path.last.now c.args.under.now c.self.inside.tree.now row c.loop-path.invariant.order (sym c.in-Some.ensures.found) (ap not (sym c.contains.ensures ∙ c.if-not-contains.false))
+          next_skipped (λ path. not (is_listed path (keys_of c.self.inside.touched.entries))) c.loop-path.last.now c.args.under.now c.self.inside.tree.now row c.loop-path.invariant.order (sym c.in-Some.ensures.found) (ap not (sym (c.contains_key.ensures ∙ listed_keys c.in-Some.path.now c.self.inside.touched.entries) ∙ c.if-not-contains_key.false))
           ∙ c.loop-path.invariant.so_far;
     }
 
 pub returns : goal.returns
 returns g c =
-    sym (none_picked (λ path. not (is_listed path c.self.inside.touched.keys)) c.loop-path.last.now c.args.under.now c.self.inside.tree.now (sym c.in_default.ensures.found))
+    sym (none_picked (λ path. not (is_listed path (keys_of c.self.inside.touched.entries))) c.loop-path.last.now c.args.under.now c.self.inside.tree.now (sym c.in_default.ensures.found))
     ∙ c.loop-path.invariant.so_far
     ∙ ap (λ (b : Touched). next_row c.args.after.now c.args.under.now (untouched b)) c.self.view_is

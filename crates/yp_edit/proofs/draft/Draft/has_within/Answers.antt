@@ -5,9 +5,9 @@ use Rattle.yp_edit.specs.Drafts.{Drafted, IsDraft}
 use Rattle.yp_edit.proofs.Drafts.{within_first, within_else}
 use Rattle.yp_edit.proofs.draft.Draft.has_within.Goals as goal
 
-pub returns-then-has_rows-clause-found : goal.returns-then-has_rows-clause-found
-returns-then-has_rows-clause-found g c =
-    within_first c.args.target.now c.self.inside.put (untouched c.self.inside.base) (sym c.has_rows.ensures ∙ c.if-has_rows.true)
+pub returns-then-is_some-clause-found : goal.returns-then-is_some-clause-found
+returns-then-is_some-clause-found g c =
+    within_first c.args.target.now c.self.inside.put (untouched c.self.inside.base) (sym (c.is_some.ensures ∙ c.first_within.ensures.there) ∙ c.if-is_some.true)
     ∙ ap (λ (d : Drafted). has_within c.args.target.now d.after) c.self.view_is
 
 pub invariant_of-self : goal.invariant_of-self
@@ -15,4 +15,4 @@ invariant_of-self g c = subst (λ (b : Touched). IsDraft b c.self.inside.put) (s
 
 pub returns-clause-found : goal.returns-clause-found
 returns-clause-found g c =
-    within_else c.args.target.now c.self.inside.put (untouched c.self.inside.base) c.args.self.now.after c.has_within.result (sym c.has_rows.ensures ∙ c.if-has_rows.false) (ap (λ (d : Drafted). d.after) c.self.view_is) c.has_within.ensures.found
+    within_else c.args.target.now c.self.inside.put (untouched c.self.inside.base) c.args.self.now.after c.has_within.result (sym (c.is_some.ensures ∙ c.first_within.ensures.there) ∙ c.if-is_some.false) (ap (λ (d : Drafted). d.after) c.self.view_is) c.has_within.ensures.found

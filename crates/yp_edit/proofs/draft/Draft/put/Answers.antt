@@ -1,6 +1,6 @@
 use Rattle.std.proofs.Common.{ap, sym, subst, ◌∙◌}
 use Rattle.yp_base.specs.Rows.{put_row}
-use Rattle.yp_edit.specs.Bases.{Touched, Touches}
+use Rattle.yp_edit.specs.Bases.{Touched}
 use Rattle.yp_edit.specs.Drafts.{Drafted, drafted, IsDraft}
 use Rattle.yp_edit.proofs.Drafts.{put_draft, put_drafted}
 use Rattle.yp_edit.proofs.draft.Draft.put.Goals as goal
@@ -11,11 +11,11 @@ invariant_of-self g c = subst (λ (b : Touched). IsDraft b c.self.inside.put) (s
 pub invariant_of-self-2 : goal.invariant_of-self-2
 invariant_of-self-2 g c =
     subst (IsDraft c.touch.new.self) (sym c.in_ok-put.ensures.rows)
-    (put_draft c.args.row c.self.inside.base c.touch.new.self c.self.inside.put c.self.invariant (subst (λ path. Touches path c.self.inside.base c.touch.new.self) c.in_ok-path.ensures c.in_ok-touch.ensures.touched))
+    (put_draft c.args.row c.self.inside.base c.touch.new.self c.self.inside.put c.self.invariant c.in_ok-touch.ensures.touched)
 
 pub returns : goal.returns
 returns g c =
     let step : Drafted → Drafted = λ d. record { before = d.before; after = put_row c.args.row d.after } in
     ap (drafted c.touch.new.self) c.in_ok-put.ensures.rows
-    ∙ put_drafted c.args.row c.self.inside.base c.touch.new.self c.self.inside.put c.len.ensures.order c.len-2.ensures.order (subst (λ path. Touches path c.self.inside.base c.touch.new.self) c.in_ok-path.ensures c.in_ok-touch.ensures.touched)
+    ∙ put_drafted c.args.row c.self.inside.base c.touch.new.self c.self.inside.put c.len.ensures.order c.len-2.ensures.order c.in_ok-touch.ensures.touched
     ∙ ap step c.self.view_is

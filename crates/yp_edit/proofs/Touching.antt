@@ -1,0 +1,253 @@
+-- Rows of a tree that are touched one after another.
+use Rattle.std.proofs.Common.{◌≡◌, ◌≤◌, ℕ, List, [], ◌∷◌, length, map, refl, sym, ap, subst, ◌∙◌, cond, Bool, true, false, not, ◌&&◌, ◌||◌, Option, Some, None, Bor, slice_get, arith}
+use Rattle.std.specs.Prelude.{filter, is_some, option_copied, option_map}
+use Rattle.std.specs.BTreeMap.{insert_entry, is_at}
+use Rattle.std.specs.Map.{keys_of, lookup}
+use Rattle.std.specs.List.{AllByRecursion}
+use Rattle.std.specs.List.Sorted.{IsStrictlySortedBy}
+use Rattle.std.specs.Ordering.{is_eq, is_lt, match_ordering}
+use Rattle.std.specs.declared.cmp.Ordering.TheVariants.{Less, Equal, Greater}
+use Rattle.yp_base.specs.declared.path.Seg.{Seg}
+use Rattle.yp_base.specs.declared.row.Value.{Value}
+use Rattle.yp_base.specs.declared.row.Row.{Row}
+use Rattle.yp_base.specs.Order.{path_cmp, is_within}
+use Rattle.yp_base.specs.Rows.{path_of, value_at, next_row, has_within, rows_within, rows_without, AreInOrder}
+use Rattle.yp_base.proofs.Exact.{paths_exact}
+use Rattle.yp_base.proofs.RowLaws.{value_at_without, without_keeps_order}
+use Rattle.yp_tree.specs.Listed.{row_of}
+use Rattle.yp_edit.specs.Bases.{Touched, KeepsValues, is_listed, left, untouched, Touches, StaysTouched, TouchesWithin}
+use Rattle.yp_edit.proofs.Alike.{IsBefore, are_one, tie_turned, ties_itself, same_rows}
+use Rattle.yp_edit.proofs.Taking.{one_taken}
+use Rattle.yp_edit.proofs.Walking.{before_picked}
+use Rattle.yp_edit.proofs.Bases.{value_at_picked, value_at_left, left_order, other_there, is_some_copied, still_listed}
+
+-- ---- paths with the values that are kept there
+
+-- a path is among the keys where something is kept there
+pub listed_keys : {X : Type 0} → (q : List Seg) (es : List (List Seg × X)) → is_some (lookup (is_at (path_cmp q)) es) ≡ is_listed q (keys_of es)
+listed_keys q [] = refl
+listed_keys q (e ∷ es) =
+    elim (is_eq (path_cmp q e.0)) as (λ b. is_some (cond b (Some e.1) (lookup (is_at (path_cmp q)) es)) ≡ (b || is_listed q (keys_of es))) [
+      | true ↦ refl
+      | false ↦ listed_keys q es
+    ]
+
+some_or : {X : Type 0} → (b : Bool) (x : X) (other : Option X) → is_some (cond b (Some x) other) ≡ (b || is_some other)
+some_or true x other = refl
+some_or false x other = refl
+
+-- with something at one more path, that path is one more
+pub one_more_key : {X : Type 0} → (path : List Seg) (x : X) (old new : List (List Seg × X)) → ((q : List Seg) → lookup (is_at (path_cmp q)) new ≡ cond (is_eq (path_cmp path q)) (Some x) (lookup (is_at (path_cmp q)) old)) → (q : List Seg)
+    → is_listed q (keys_of new) ≡ (is_eq (path_cmp path q) || is_listed q (keys_of old))
+one_more_key path x old new updates q =
+    sym (listed_keys q new) ∙ ap is_some (updates q) ∙ some_or (is_eq (path_cmp path q)) x (lookup (is_at (path_cmp q)) old) ∙ ap (λ b. is_eq (path_cmp path q) || b) (listed_keys q old)
+
+pub one_more_value : (rows : List Row) (path : List Seg) (old : Option (Bor Value)) (es : List (List Seg × Option (Bor Value))) → option_copied old ≡ value_at path rows → KeepsValues rows es → KeepsValues rows (insert_entry path_cmp es path old)
+one_more_value rows path old [] is kept = (is, tt)
+one_more_value rows path old (e ∷ es) is kept =
+    elim (path_cmp path e.0) as (λ o. path_cmp path e.0 ≡ o → KeepsValues rows (match_ordering o ((path, old) ∷ e ∷ es) ((e.0, old) ∷ es) (e ∷ insert_entry path_cmp es path old))) [
+      | Less ↦ λ h. (is, kept)
+      | Equal ↦ λ h. (is ∙ ap (λ p. value_at p rows) (paths_exact path e.0 h), kept.1)
+      | Greater ↦ λ h. (kept.0, one_more_value rows path old es is kept.1)
+    ] refl
+
+-- whether an untouched row is there, told by the value that is kept
+pub kept_there : (path key : List Seg) (rows : List Row) (paths : List (List Seg)) (old : Option (Bor Value)) (base : Touched) → record { rows = rows; paths = paths } ≡ base → key ≡ path → is_listed path base.paths ≡ false → option_copied old ≡ value_at path base.rows
+    → is_some (value_at key (left paths rows)) ≡ is_some old
+kept_there path key rows paths old base is same unlisted kept =
+    (λ i. is_some (value_at (same i) (untouched (is i))))
+    ∙ ap is_some (other_there path base.paths base.rows unlisted)
+    ∙ ap is_some (sym kept)
+    ∙ is_some_copied old
+
+-- where a row is there, it is counted
+pub one_counted : (path : List Seg) (rows : List Row) (count : ℕ) → count ≡ length rows → is_some (value_at path rows) ≡ true → 1 ≤ count
+one_counted path rows count counted there = let taken = one_taken path rows there in omega (arith, counted, taken)
+
+-- a touched path that is touched again
+pub touched_already : (path : List Seg) (base : Touched) → is_listed path base.paths ≡ true → Touches path base base
+touched_already path base listed = record {
+  rows = refl;
+  paths = λ q. elim (is_eq (path_cmp path q)) as (λ b. is_eq (path_cmp path q) ≡ b → is_listed q base.paths ≡ (b || is_listed q base.paths)) [
+    | true ↦ λ here. ap (λ p. is_listed p base.paths) (sym (are_one path q here)) ∙ listed
+    | false ↦ λ here. refl
+  ] refl;
+}
+
+-- ---- the first row at or below a target
+
+pub none_left : (target : List Seg) (paths : List (List Seg)) (rows : List Row) → has_within target rows ≡ false → has_within target (left paths rows) ≡ false
+none_left target paths [] none = refl
+none_left target paths (row ∷ rows) none =
+    let parts = neither (is_within target row.path) (has_within target rows) none in
+    elim (not (is_listed row.path paths)) as (λ b. has_within target (cond b (row ∷ left paths rows) (left paths rows)) ≡ false) [
+      | true ↦ ap (λ w. w || has_within target (left paths rows)) parts.0 ∙ none_left target paths rows parts.1
+      | false ↦ none_left target paths rows parts.1
+    ]
+  where
+    neither : (a b : Bool) → (a || b) ≡ false → (a ≡ false) × (b ≡ false)
+    neither true b h = cc
+    neither false b h = (refl, h)
+
+or_true : (b : Bool) → (b || true) ≡ true
+or_true true = refl
+or_true false = refl
+
+-- where it isn't touched, there are untouched rows
+pub first_left : (target path : List Seg) (paths : List (List Seg)) (rows : List Row) → option_map path_of (slice_get (rows_within target rows) 0) ≡ Some path → is_listed path paths ≡ false → has_within target (left paths rows) ≡ true
+first_left target path paths [] first unlisted = cc
+first_left target path paths (row ∷ rows) first unlisted =
+    elim (is_within target row.path) as (λ w. is_within target row.path ≡ w → option_map path_of (slice_get (cond w (row ∷ rows_within target rows) (rows_within target rows)) 0) ≡ Some path → has_within target (left paths (row ∷ rows)) ≡ true) [
+      | true ↦ λ within h.
+          let same : row.path ≡ path = cc in
+          let kept : is_listed row.path paths ≡ false = ap (λ p. is_listed p paths) same ∙ unlisted in
+          ap (λ b. has_within target (cond (not b) (row ∷ left paths rows) (left paths rows))) kept ∙ ap (λ w. w || has_within target (left paths rows)) within
+      | false ↦ λ within h. elim (not (is_listed row.path paths)) as (λ b. has_within target (cond b (row ∷ left paths rows) (left paths rows)) ≡ true) [
+        | true ↦ ap (λ b. is_within target row.path || b) (first_left target path paths rows h unlisted) ∙ or_true (is_within target row.path)
+        | false ↦ first_left target path paths rows h unlisted
+      ]
+    ] refl first
+
+all_past : (target path : List Seg) (rows : List Row) → IsBefore path (map path_of rows) → has_within target rows ≡ is_some (next_row path target rows)
+all_past target path [] all = refl
+all_past target path (row ∷ rows) all =
+    elim (is_within target row.path) as (λ w. (w || has_within target rows) ≡ is_some (cond (true && w) (Some row) (next_row path target rows))) [
+      | true ↦ refl
+      | false ↦ all_past target path rows all.1
+    ]
+    ∙ ap (λ o. is_some (cond (is_lt o && is_within target row.path) (Some row) (next_row path target rows))) (sym all.0)
+
+and_false : (b : Bool) → (b && false) ≡ false
+and_false true = refl
+and_false false = refl
+
+-- where it is, they come past it
+pub first_gone : (target path : List Seg) (paths : List (List Seg)) (rows : List Row) → AreInOrder rows → option_map path_of (slice_get (rows_within target rows) 0) ≡ Some path → is_listed path paths ≡ true → has_within target (left paths rows) ≡ is_some (next_row path target (left paths rows))
+unfolding IsStrictlySortedBy
+first_gone target path paths [] order first listed = cc
+first_gone target path paths (row ∷ rows) order first listed =
+    elim (is_within target row.path) as (λ w. is_within target row.path ≡ w → option_map path_of (slice_get (cond w (row ∷ rows_within target rows) (rows_within target rows)) 0) ≡ Some path → has_within target (left paths (row ∷ rows)) ≡ is_some (next_row path target (left paths (row ∷ rows)))) [
+      | true ↦ λ within h.
+          let same : row.path ≡ path = cc in
+          let gone : left paths (row ∷ rows) ≡ left paths rows = ap (λ b. cond (not b) (row ∷ left paths rows) (left paths rows)) (ap (λ p. is_listed p paths) same ∙ listed) in
+          ap (has_within target) gone
+          ∙ all_past target path (left paths rows) (before_picked (λ p. not (is_listed p paths)) path rows (subst (λ (p : List Seg). IsBefore p (map path_of rows)) same order.0))
+          ∙ ap (λ some. is_some (next_row path target some)) (sym gone)
+      | false ↦ λ within h.
+          let more = first_gone target path paths rows order.1 h listed in
+          elim (not (is_listed row.path paths)) as (λ b. has_within target (cond b (row ∷ left paths rows) (left paths rows)) ≡ is_some (next_row path target (cond b (row ∷ left paths rows) (left paths rows)))) [
+            | true ↦
+                ap (λ w. w || has_within target (left paths rows)) within
+                ∙ more
+                ∙ ap (λ b. is_some (cond b (Some row) (next_row path target (left paths rows)))) (sym (ap (λ w. is_lt (path_cmp path row.path) && w) within ∙ and_false (is_lt (path_cmp path row.path))))
+            | false ↦ more
+          ]
+    ] refl first
+
+-- ---- rows that are lent
+
+abbrev pub Lent : Type 0
+Lent = Bor (List Seg) × Bor Value
+
+abbrev pub lent_path : Lent → List Seg
+lent_path e = e.0.now
+
+abbrev pub lent_row : Lent → Row
+lent_row e = row_of (e.0.now, e.1.now)
+
+abbrev pub HasValue : List Row → Row → Type 0
+HasValue rows row = value_at row.path rows ≡ Some row.value
+
+first_same : (first : Row) (all rows : List Row) → IsBefore first.path (map path_of rows) → AllByRecursion (HasValue all) rows → AllByRecursion (HasValue (first ∷ all)) rows
+first_same first all [] before each = tt
+first_same first all (row ∷ rows) before each =
+    (ap (λ b. cond b (Some first.value) (value_at row.path all)) (tie_turned row.path first.path ∙ ap is_eq before.0) ∙ each.0, first_same first all rows before.1 each.1)
+
+each_value : (rows : List Row) → AreInOrder rows → AllByRecursion (HasValue rows) rows
+unfolding IsStrictlySortedBy
+each_value [] order = tt
+each_value (row ∷ rows) order = (ap (λ b. cond b (Some row.value) (value_at row.path rows)) (ties_itself row.path), first_same row rows rows order.0 (each_value rows order.1))
+
+some_have : (P : Row → Type 0) (p : List Seg → Bool) (rows : List Row) → AllByRecursion P rows → AllByRecursion P (filter (λ (row : Row). p row.path) rows)
+some_have P p [] each = tt
+some_have P p (row ∷ rows) each =
+    elim (p row.path) as (λ b. AllByRecursion P (cond b (row ∷ filter (λ (r : Row). p r.path) rows) (filter (λ (r : Row). p r.path) rows))) [
+      | true ↦ (each.0, some_have P p rows each.1)
+      | false ↦ some_have P p rows each.1
+    ]
+
+lent_have : (rows : List Row) (lent : List Lent) → AllByRecursion (HasValue rows) (map lent_row lent) → AllByRecursion (λ e. HasValue rows (lent_row e)) lent
+lent_have rows [] each = tt
+lent_have rows (e ∷ lent) each = (each.0, lent_have rows lent each.1)
+
+lent_paths : (lent : List Lent) → map lent_path lent ≡ map path_of (map lent_row lent)
+lent_paths [] = refl
+lent_paths (e ∷ lent) = ap (λ (paths : List (List Seg)). e.0.now ∷ paths) (lent_paths lent)
+
+-- of some lent rows, all but the rest were touched
+pub record Touching (first now : Touched) (all rest : List Lent) : Type 0 where
+  pub rows : now.rows ≡ first.rows
+  pub there : AllByRecursion (λ e. HasValue first.rows (lent_row e)) rest
+  pub stay : StaysTouched first now
+  pub so_far : (q : List Seg) → (is_listed q now.paths || is_listed q (map lent_path rest)) ≡ (is_listed q first.paths || is_listed q (map lent_path all))
+
+pub none_touched : (target : List Seg) (first : Touched) (all : List Lent) → AreInOrder first.rows → map lent_row all ≡ rows_within target first.rows → Touching first first all all
+none_touched target first all order is = record {
+  rows = refl;
+  there = lent_have first.rows all (subst (AllByRecursion (HasValue first.rows)) (sym is) (some_have (HasValue first.rows) (is_within target) first.rows (each_value first.rows order)));
+  stay = λ q h. h;
+  so_far = λ q. refl;
+}
+
+moved : (a b c : Bool) → ((a || b) || c) ≡ (b || (a || c))
+moved true true c = refl
+moved true false c = refl
+moved false b c = refl
+
+pub one_touched : (first now new : Touched) (all : List Lent) (e : Lent) (rest : List Lent) → Touching first now all (e ∷ rest) → Touches e.0.now now new → Touching first new all rest
+one_touched first now new all e rest touching touches = record {
+  rows = touches.rows ∙ touching.rows;
+  there = touching.there.1;
+  stay = λ q h. still_listed e.0.now now new touches q (touching.stay q h);
+  so_far = λ q.
+      ap (λ b. b || is_listed q (map lent_path rest)) (touches.paths q ∙ ap (λ b. b || is_listed q now.paths) (tie_turned e.0.now q))
+      ∙ moved (is_eq (path_cmp q e.0.now)) (is_listed q now.paths) (is_listed q (map lent_path rest))
+      ∙ touching.so_far q;
+}
+
+listed_there : (q : List Seg) (rows : List Row) → is_listed q (map path_of rows) ≡ is_some (value_at q rows)
+listed_there q [] = refl
+listed_there q (row ∷ rows) =
+    elim (is_eq (path_cmp q row.path)) as (λ b. (b || is_listed q (map path_of rows)) ≡ is_some (cond b (Some row.value) (value_at q rows))) [
+      | true ↦ refl
+      | false ↦ listed_there q rows
+    ]
+
+either_gone : (listed within : Bool) (value : Option Value) → cond (not (listed || is_some (cond within value None))) value None ≡ cond within None (cond (not listed) value None)
+either_gone true true value = refl
+either_gone true false value = refl
+either_gone false true None = refl
+either_gone false true (Some value) = refl
+either_gone false false value = refl
+
+or_nothing : (b : Bool) → (b || false) ≡ b
+or_nothing true = refl
+or_nothing false = refl
+
+-- when all are, the rows at or below the target are touched
+pub all_touched : (target : List Seg) (first now : Touched) (all : List Lent) → AreInOrder first.rows → map lent_row all ≡ rows_within target first.rows → Touching first now all [] → TouchesWithin target first now
+all_touched target first now all order is touching =
+    let rows = first.rows in
+    let listed : (q : List Seg) → is_listed q now.paths ≡ (is_listed q first.paths || is_some (cond (is_within target q) (value_at q rows) None)) = λ q.
+    sym (or_nothing (is_listed q now.paths))
+    ∙ touching.so_far q
+    ∙ ap (λ b. is_listed q first.paths || b) (ap (is_listed q) (lent_paths all ∙ ap (map path_of) is) ∙ listed_there q (rows_within target rows) ∙ ap is_some (value_at_picked (is_within target) q rows)) in
+    record {
+      rows = touching.rows;
+      others = ap (left now.paths) touching.rows ∙ same_rows (left now.paths rows) (rows_without target (left first.paths rows)) (left_order now.paths rows order) (without_keeps_order target (left first.paths rows) (left_order first.paths rows order)) (λ q.
+          value_at_left q now.paths rows
+          ∙ ap (λ b. cond (not b) (value_at q rows) None) (listed q)
+          ∙ either_gone (is_listed q first.paths) (is_within target q) (value_at q rows)
+          ∙ ap (cond (is_within target q) None) (sym (value_at_left q first.paths rows))
+          ∙ sym (value_at_without q target (left first.paths rows)));
+    }
