@@ -17,6 +17,7 @@ pub mod LastRows
 pub mod Laying
 pub mod Members
 pub mod Names
+pub mod OneMember
 pub mod Parts
 pub mod Places
 pub mod PutRows

@@ -14,7 +14,7 @@ use Rattle.yp_schema.specs.Nodes.{node_at, qualified_name}
 use Rattle.serde_json.specs.Data.{Data, null, boolean, number, string, array, object, Items, no_items, item, Members, no_members, member}
 use Rattle.yp_data_json.specs.declared.fault.DataFault.{DataFault}
 use Rattle.yp_data_json.specs.declared.fault.DataFault.TheVariants.{UnknownElement, InvalidValue}
-use Rattle.yp_data_json.specs.Reading.{◌>>=◌, typed_atom, keys_in, below, entered, members_read, node_read, datastore_read}
+use Rattle.yp_data_json.specs.Reading.{◌>>=◌, typed_value, typed_atom, row_at, keys_in, below, entered, members_read, node_read, datastore_read}
 
 -- whether keys are those of the path
 abbrev pub are_keys : List Atom → List Atom → Bool
@@ -59,6 +59,10 @@ by_kind Presence list leaf_list other = other
 by_kind Listing list leaf_list other = list
 by_kind Leaf list leaf_list other = other
 by_kind LeafList list leaf_list other = leaf_list
+
+-- the rows of a leaf: one, of its path
+abbrev pub leaf_row : List SchemaNode → ℕ → List Seg → Data → Result (List Row) DataFault
+leaf_row nodes n at d = typed_value (node_at n nodes).ty d >>= λ value. Ok (row_at at value ∷ [])
 
 -- with those of the node that a path names
 abbrev pub named_read : List SchemaNode → ℕ → List Seg → List Atom → Data → List Row → Result (List Row) DataFault

@@ -1,23 +1,26 @@
 //! Data at a path: what stands at one node, in an object with the node's qualified name.
-ghost use Rattle.std.specs.Prelude.{◌≡◌, ◌<◌, ◌∷◌, ◌++◌, [], true, length, IfOk, Ok};
+ghost use Rattle.std.specs.Cmp.Lexicographic.{pointwise};
+ghost use Rattle.std.specs.Prelude.{◌≡◌, ◌<◌, ◌∷◌, ◌++◌, [], true, length, nat_eq, IfOk, IfSome, Ok};
 ghost use Rattle.std.specs.String.{string_bytes};
+ghost use Rattle.serde_json.specs.Data.{object, member, no_members};
 ghost use Rattle.serde_json.specs.View.{view, members_view, items_view};
 ghost use Rattle.yp_schema.specs.Datastore.{is_place, AreWhole};
 ghost use Rattle.yp_schema.specs.Nodes.{node_at, qualified_name};
 ghost use Rattle.yp_schema.specs.WellFormed.{IsSchema};
 ghost use Rattle.yp_data_json.specs.Reading.{Gives, Leaves};
-ghost use Rattle.yp_data_json.specs.AtPath.{named_entry, named_value, array_of_one, one_of, named_read, outer_read, is_bare, object_read, rows_read};
+ghost use Rattle.yp_data_json.specs.AtPath.{leaf_row, named_entry, named_value, array_of_one, one_of, named_read, outer_read, is_bare, object_read, rows_read};
 
 use crate::fault::DataFault;
 use crate::gathered::Gathered;
-use crate::keys::{read_atom, read_keys};
+use crate::keys::{read_atom, read_keys, read_value};
 use crate::reading::{enter, only_key, path_below, read_datastore, read_members, read_node};
 use serde_json::{Map, Value as Json};
 use std::alloc::Global;
 use yp_base::atom::Keys;
 use yp_base::memory::{Duplicate, NoMemory};
 use yp_base::path::{Path, Seg};
-use yp_base::row::{Rows, Value};
+use yp_base::payload::{Content, Payload};
+use yp_base::row::{Row, Rows, Value};
 use yp_base::series::Series;
 use yp_schema::schema::{Kind, Schema};
 
@@ -236,6 +239,125 @@ fn path_of(alloc: Global, segments: &[Seg]) -> Result<Path, NoMemory>
     Ok(Series::from_vec(copies))
 }
 
+/// Whether a text is a colon and a name.
+fn is_colon_and(text: &[u8], name: &str) -> bool
+    ensures { result ≡ pointwise nat_eq text.now (58 ∷ name.now) }
+{
+    match text.split_first() {
+        Some((mark, rest)) => *mark == b':' && rest == name.as_bytes(),
+        None => false,
+    }
+}
+
+/// Whether a name is that of a node with its module's, `module:name`.
+fn is_qualified(schema: &Schema, node: u32, name: &str) -> bool
+    requires { node < length schema.now }
+    ensures { result ≡ pointwise nat_eq name.now (qualified_name (node_at node schema.now)) }
+{
+    match name.as_bytes().strip_prefix(schema.module(node).as_bytes()) {
+        Some(rest) => is_colon_and(rest, schema.name(node)),
+        None => false,
+    }
+}
+
+/// The row of the leaf at a path.
+fn read_leaf_row(
+    alloc: Global,
+    schema: &Schema,
+    node: u32,
+    at: &Path,
+    json: &Json,
+) -> Result<Rows, DataFault>
+    requires stands { IsSchema schema.now }
+    requires within { node < length schema.now }
+    ensures { Gives result (leaf_row schema.now node at.now (view json.now)) }
+{
+    let value = read_value(alloc, schema, node, json)?;
+    let mut rows = Vec::with_capacity(alloc, 1)?;
+    rows.push(Row {
+        path: at.copy(alloc)?,
+        value,
+    })?;
+    Ok(Series::from_vec(rows))
+}
+
+/// The rows of the node that a path names, by the path's last segment and those above it.
+fn read_node_rows(
+    alloc: Global,
+    schema: &Schema,
+    last: &Seg,
+    above: &[Seg],
+    json: &Json,
+) -> Result<Rows, DataFault>
+    requires stands { IsSchema schema.now }
+    requires within { last.now.node < length schema.now }
+    ensures { Gives result (named_read schema.now last.now.node above.now last.now.keys (view json.now) []) }
+{
+    let above = path_of(alloc, above)?;
+    let mut rows = Gathered::new(alloc);
+    read_named(
+        alloc, schema, last.node, &above, &last.keys, json, &mut rows,
+    )?;
+    Ok(rows.into_rows(alloc)?)
+}
+
+/// The rows of an object of one member at a path, which ends in a segment below others.
+fn read_member(
+    alloc: Global,
+    schema: &Schema,
+    at: &Path,
+    last: &Seg,
+    above: &[Seg],
+    name: &str,
+    json: &Json,
+) -> Result<Rows, DataFault>
+    requires stands { IsSchema schema.now }
+    requires place { is_place schema.now at.now ≡ true }
+    requires parts { at.now ≡ above.now ++ last.now ∷ [] }
+    ensures { Gives result (rows_read schema.now at.now (object (member name.now (view json.now) no_members))) }
+{
+    if !is_qualified(schema, last.node, name) {
+        return Err(DataFault::UnknownElement);
+    }
+    match schema.kind(last.node) {
+        Kind::Leaf => read_leaf_row(alloc, schema, last.node, at, json),
+        _ => read_node_rows(alloc, schema, last, above, json),
+    }
+}
+
+/// The member of an object that has only one.
+fn only_member(json: &Json) -> Option<(&String, &Json)>
+    ensures { IfSome result (λ m. view json.now ≡ object (member (string_bytes m.0.now) (view m.1.now) no_members)) }
+{
+    match json {
+        Json::Object(members) if members.len() == 1 => members.iter().next(),
+        _ => None,
+    }
+}
+
+/// The rows at a path that ends in a segment below others.
+fn read_below(
+    alloc: Global,
+    schema: &Schema,
+    at: &Path,
+    last: &Seg,
+    above: &[Seg],
+    json: &Json,
+) -> Result<Rows, DataFault>
+    requires stands { IsSchema schema.now }
+    requires place { is_place schema.now at.now ≡ true }
+    requires parts { at.now ≡ above.now ++ last.now ∷ [] }
+    ensures { Gives result (rows_read schema.now at.now (view json.now)) }
+{
+    match only_member(json) {
+        Some((name, value)) => read_member(alloc, schema, at, last, above, name.as_str(), value),
+        None => {
+            let above = path_of(alloc, above)?;
+            read_object(alloc, schema, last.node, &above, &last.keys, json)
+        }
+    }
+}
+
 /// The rows at a path, or of a whole datastore.
 fn read_place(alloc: Global, schema: &Schema, at: &Path, json: &Json) -> Result<Rows, DataFault>
     requires stands { IsSchema schema.now }
@@ -243,10 +365,7 @@ fn read_place(alloc: Global, schema: &Schema, at: &Path, json: &Json) -> Result<
     ensures { Gives result (rows_read schema.now at.now (view json.now)) }
 {
     match at.items().split_last() {
-        Some((last, above)) => {
-            let above = path_of(alloc, above)?;
-            read_object(alloc, schema, last.node, &above, &last.keys, json)
-        }
+        Some((last, above)) => read_below(alloc, schema, at, last, above, json),
         None => read_datastore(alloc, schema, json),
     }
 }
@@ -267,6 +386,47 @@ pub fn read_rows(alloc: Global, schema: &Schema, at: &Path, json: &Json) -> Resu
     // what each schema keeps is known from its count
     let _ = schema.count();
     let rows = read_place(alloc, schema, at, json)?;
+    Ok(rows)
+}
+
+/// The rows at a path of what a payload holds.
+fn read_content(
+    alloc: Global,
+    schema: &Schema,
+    at: &Path,
+    payload: &Payload,
+) -> Result<Rows, DataFault>
+    requires stands { IsSchema schema.now }
+    requires place { is_place schema.now at.now ≡ true }
+    ensures { Gives result (rows_read schema.now at.now payload.now) }
+{
+    match payload.content() {
+        Content::One(name, value) => match at.items().split_last() {
+            Some((last, above)) => read_member(alloc, schema, at, last, above, name, value),
+            None => {
+                let json = payload.json(alloc)?;
+                let rows = read_place(alloc, schema, at, &json)?;
+                Ok(rows)
+            }
+        },
+        Content::All(json) => read_place(alloc, schema, at, json),
+    }
+}
+
+/// The rows that the data of a payload at a path hold, as `read_rows` gives them of its JSON value.
+pub fn read_payload(
+    alloc: Global,
+    schema: &Schema,
+    at: &Path,
+    payload: &Payload,
+) -> Result<Rows, DataFault>
+    requires { is_place schema.now at.now ≡ true }
+    ensures read { Gives result (rows_read schema.now at.now payload.now) }
+    ensures rows { IfOk result (λ rows. AreWhole schema.now at.now rows) }
+{
+    // what each schema keeps is known from its count
+    let _ = schema.count();
+    let rows = read_content(alloc, schema, at, payload)?;
     Ok(rows)
 }
 
