@@ -35,3 +35,6 @@ impl<T: Duplicate + Drop> Duplicate for Option<T> {
         }
     }
 }
+
+#[cfg(test)]
+mod tests;
