@@ -2,7 +2,7 @@
 ghost use Rattle.std.specs.Prelude.{◌≡◌, ◌≤◌, true, length, map, IfOk, OnOk};
 ghost use Rattle.serde_json.specs.View.{view, members_view};
 ghost use Rattle.yp_script.specs.Commands.{HasFewEdits};
-ghost use Rattle.yp_script.specs.Forms.{tick_said, patch_said, is_of_everything, everything_in, everything_said, is_read, said_of_some, done_in_lane, command_said, lanes_said, lane_number, lane_said, is_join};
+ghost use Rattle.yp_script.specs.Forms.{tick_said, patch_said, is_of_everything, everything_said, is_read, said_of_some, done_in_lane, command_said, lanes_said, lane_number, lane_said, is_join};
 ghost use Rattle.yp_script.specs.Readings.{Tells, beside};
 ghost use Rattle.yp_script.specs.Script.{established_by};
 ghost use Rattle.yp_script.specs.Words.{members_if};

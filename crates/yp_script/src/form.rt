@@ -1,7 +1,7 @@
 //! The forms of a script's lines.
 ghost use Rattle.std.specs.Prelude.{◌≡◌, option_map, codes};
 ghost use Rattle.serde_json.specs.View.{view, members_view};
-ghost use Rattle.yp_script.specs.Forms.{waits, is_other_store, is_without, asks_more, asked_of, done_in_lane, lane_form, form_of};
+ghost use Rattle.yp_script.specs.Forms.{waits, is_other_store, is_without, asks_more, asked_of, done_in_lane, form_of};
 ghost use Rattle.yp_script.specs.Words.{text_at, sole};
 
 use crate::members::{

@@ -1,5 +1,5 @@
 //! Parts of a schema that a reader gathers.
-ghost use Rattle.std.specs.Prelude.{◌≡◌, ◌++◌, ◌∷◌, [], map, get_or, OnOk, vec_len};
+ghost use Rattle.std.specs.Prelude.{◌≡◌, ◌++◌, ◌∷◌, [], map, OnOk, vec_len};
 ghost use Rattle.serde_json.specs.View.{view};
 ghost use Rattle.yp_schema.specs.Reading.{schema_of};
 ghost use Rattle.yp_script.specs.Forms.{part_said};

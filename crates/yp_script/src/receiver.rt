@@ -1,9 +1,7 @@
 //! Receiver lines.
-ghost use Rattle.std.specs.Prelude.{◌≡◌, ◌+◌, ◌<◌, ◌≤◌, None, IfOk, OnOk, IfSome, length, nat_le, if◌then◌else◌, option_map, codes};
-ghost use Rattle.std.specs.Bool.{OnTrue};
+ghost use Rattle.std.specs.Prelude.{◌≡◌, ◌<◌, ◌≤◌, None, IfOk, OnOk, IfSome, length, option_map, codes};
 ghost use Rattle.serde_json.specs.View.{view, members_view};
-ghost use Rattle.yp_script.specs.Faults.{least};
-ghost use Rattle.yp_script.specs.Forms.{are_name_bytes, is_receiver_name, is_user_name, is_new_name, number_of, has_receiver_form, places_said, receiver_in, receiver_said};
+ghost use Rattle.yp_script.specs.Forms.{is_receiver_name, is_user_name, is_new_name, number_of, places_said, receiver_in, receiver_said};
 ghost use Rattle.yp_script.specs.Readings.{Tells};
 ghost use Rattle.yp_script.specs.Words.{text_at, where_true};
 
