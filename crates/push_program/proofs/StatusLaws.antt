@@ -7,7 +7,9 @@ use Rattle.yp_script.specs.declared.fault.ScriptKind.{ScriptKind}
 use Rattle.yp_script.specs.declared.script.Script.{Script}
 use Rattle.push_program.specs.declared.top.Status.{Status}
 use Rattle.push_program.specs.declared.top.Status.TheVariants.{Done, BadWords, BadScript, ReadFault, WriteFault, NoMemory}
-use Rattle.push_program.specs.Answers.{Streams, Answers, CanRun, is_run, tells_good_words, IsTold, Reports, ReportsFront, tells_whole_reading, TellsReading, TellsWriting, tells_no_writing, FitsScript, IsComplete}
+use Rattle.push_program.specs.Answers.{Streams, Answers, CanRun, is_run, tells_good_words, Reports, ReportsFront, IsKept, HasLegalJournal, tells_whole_reading, TellsReading, TellsWriting, tells_no_writing, FitsScript, IsComplete}
+use Rattle.push_program.specs.Concealed.{Conceals, Rises}
+use Rattle.push_program.specs.Received.{Mirrors}
 use Rattle.push_program.specs.Report.{report_text}
 use Rattle.yp_script.specs.Script.{script_in}
 use Rattle.yp_script.proofs.Limits.{nothing_behind}
@@ -31,18 +33,9 @@ unread_told words s ReadFault h is = cc
 unread_told words s WriteFault h is = cc
 unread_told words s NoMemory h is = cc
 
--- what holds of each script that can be run
-all_told : (script : Script) → CanRun script → IsTold script
-all_told script can = record {
-  mirrored = mirrors script can.schema;
-  rising = rises script can.schema;
-  concealed = conceals script;
-  legal = legal script can.commands;
-}
-
 reported : (left before after : Option (List ℕ)) → IfSome left (λ bytes. (script : Script) × (script_in bytes ≡ Ok script) × CanRun script × IfSome before (λ front. after ≡ Some (front ++ report_text script))) → Reports left before after
 reported None before after h = h
-reported (Some bytes) before after h = (h.0, h.1, h.3, all_told h.0 h.2)
+reported (Some bytes) before after h = (h.0, h.1, h.3)
 
 pub done_told : (words : List (List ℕ)) (s : Streams) (status : Status) → Answers words s status → status ≡ Done → Reports s.left_before s.written_before s.written_after
 done_told words s Done h is = reported s.left_before s.written_before s.written_after h.2
@@ -51,6 +44,32 @@ done_told words s (BadScript line kind) h is = absurd cc
 done_told words s ReadFault h is = absurd cc
 done_told words s WriteFault h is = absurd cc
 done_told words s NoMemory h is = absurd cc
+
+-- what each script keeps that can be run is kept of the script that was run
+module _ (Promise : Script → Type 0) (keeps : (script : Script) → CanRun script → Promise script) where
+  kept : (left before after : Option (List ℕ)) → IfSome left (λ bytes. (script : Script) × (script_in bytes ≡ Ok script) × CanRun script × IfSome before (λ front. after ≡ Some (front ++ report_text script))) → IsKept Promise left
+  kept None before after h = h
+  kept (Some bytes) before after h = λ script is. let same : h.0 ≡ script = cc in subst Promise same (keeps h.0 h.2)
+
+  promise_told : (words : List (List ℕ)) (s : Streams) (status : Status) → Answers words s status → status ≡ Done → IsKept Promise s.left_before
+  promise_told words s Done h is = kept s.left_before s.written_before s.written_after h.2
+  promise_told words s BadWords h is = absurd cc
+  promise_told words s (BadScript line kind) h is = absurd cc
+  promise_told words s ReadFault h is = absurd cc
+  promise_told words s WriteFault h is = absurd cc
+  promise_told words s NoMemory h is = absurd cc
+
+pub mirrored_told : (words : List (List ℕ)) (s : Streams) (status : Status) → Answers words s status → status ≡ Done → IsKept Mirrors s.left_before
+mirrored_told = promise_told Mirrors (λ script can. mirrors script can.schema)
+
+pub rising_told : (words : List (List ℕ)) (s : Streams) (status : Status) → Answers words s status → status ≡ Done → IsKept Rises s.left_before
+rising_told = promise_told Rises (λ script can. rises script can.schema)
+
+pub concealed_told : (words : List (List ℕ)) (s : Streams) (status : Status) → Answers words s status → status ≡ Done → IsKept Conceals s.left_before
+concealed_told = promise_told Conceals (λ script can. conceals script)
+
+pub legal_told : (words : List (List ℕ)) (s : Streams) (status : Status) → Answers words s status → status ≡ Done → IsKept HasLegalJournal s.left_before
+legal_told = promise_told HasLegalJournal (λ script can. legal script can.commands)
 
 ended : (left before after written : Option (List ℕ)) → IfSome left (λ bytes. after ≡ Some (drop 67108865 bytes))
     → IfSome left (λ bytes. (script : Script) × (script_in bytes ≡ Ok script) × CanRun script × IfSome before (λ front. written ≡ Some (front ++ report_text script)))

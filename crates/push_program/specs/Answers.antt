@@ -8,8 +8,6 @@ use Rattle.yp_script.specs.declared.fault.ScriptFault.TheVariants.{At, Memory}
 use Rattle.yp_script.specs.declared.script.Script.{Script}
 use Rattle.push_program.specs.declared.top.Status.{Status}
 use Rattle.push_program.specs.declared.top.Status.TheVariants.{Done, BadWords, BadScript, ReadFault, WriteFault, NoMemory}
-use Rattle.push_program.specs.Concealed.{Conceals, Rises}
-use Rattle.push_program.specs.Received.{Mirrors}
 use Rattle.yp_journal.specs.History.{IsLegal, first_state}
 use Rattle.yp_schema.specs.WellFormed.{IsSchema}
 use Rattle.yp_script.specs.Script.{MayRun, script_in}
@@ -80,17 +78,18 @@ tells_good_words ReadFault = true
 tells_good_words WriteFault = true
 tells_good_words NoMemory = true
 
--- what holds of a script whose report is told: after each update the receiver's rows are fresh selection at the update's position, positions rise, no update names what may not be read, and the journal that is replied is legal
-pub record IsTold (script : Script) : Type 0 where
-  pub mirrored : Mirrors script
-  pub rising : Rises script
-  pub concealed : Conceals script
-  pub legal : IsLegal script.schema (first_state script.receivers) (journal_of script)
-
 -- of the bytes that were left, all of which are a script, the report was written, whole
 abbrev pub Reports : Option (List ℕ) → Option (List ℕ) → Option (List ℕ) → Type 0
 Reports left before after = IfSome left (λ bytes.
-    (script : Script) × (script_in bytes ≡ Ok script) × IfSome before (λ front. after ≡ Some (front ++ report_text script)) × IsTold script)
+    (script : Script) × (script_in bytes ≡ Ok script) × IfSome before (λ front. after ≡ Some (front ++ report_text script)))
+
+-- what is promised of the script that the bytes were
+abbrev pub IsKept : (Script → Type 0) → Option (List ℕ) → Type 0
+IsKept Promise left = IfSome left (λ bytes. (script : Script) → script_in bytes ≡ Ok script → Promise script)
+
+-- the journal that is replied is legal
+abbrev pub HasLegalJournal : Script → Type 0
+HasLegalJournal script = IsLegal script.schema (first_state script.receivers) (journal_of script)
 
 -- a front of it was written
 abbrev pub ReportsFront : Option (List ℕ) → Option (List ℕ) → Option (List ℕ) → Type 0

@@ -4,7 +4,9 @@ ghost use Rattle.yp_script.specs.declared.fault.ScriptFault.TheVariants.{At};
 ghost use Rattle.yp_script.specs.declared.fault.ScriptKind.{ScriptKind as Kind};
 ghost use Rattle.yp_script.specs.declared.script.Script.{Script as ReadScript};
 ghost use Rattle.push_program.specs.declared.top.Status.TheVariants.{Done, BadWords, BadScript, WriteFault};
-ghost use Rattle.push_program.specs.Answers.{Answers, CanRun, Fails, is_run, tells_good_words, tells_whole_reading, tells_no_writing, Reports, ReportsFront, TellsReading, TellsWriting, IsComplete};
+ghost use Rattle.push_program.specs.Answers.{Answers, CanRun, Fails, is_run, tells_good_words, tells_whole_reading, tells_no_writing, Reports, ReportsFront, IsKept, HasLegalJournal, TellsReading, TellsWriting, IsComplete};
+ghost use Rattle.push_program.specs.Concealed.{Conceals, Rises};
+ghost use Rattle.push_program.specs.Received.{Mirrors};
 ghost use Rattle.push_program.specs.Report.{report_text};
 ghost use Rattle.yp_script.specs.Script.{script_in};
 
@@ -112,6 +114,10 @@ pub fn push_main<S: Source, K: Sink>(
     ensures words { tells_good_words result ≡ is_run words.now }
     ensures unread { result ≡ BadWords → S.left source.new ≡ S.left source.old }
     ensures done { result ≡ Done → Reports (S.left source.old) (K.written sink.old) (K.written sink.new) }
+    ensures mirrored { result ≡ Done → IsKept Mirrors (S.left source.old) }
+    ensures rising { result ≡ Done → IsKept Rises (S.left source.old) }
+    ensures concealed { result ≡ Done → IsKept Conceals (S.left source.old) }
+    ensures legal { result ≡ Done → IsKept HasLegalJournal (S.left source.old) }
     ensures end { result ≡ Done → IfSome (S.left source.old) (λ bytes. S.left source.new ≡ Some []) }
     ensures read { tells_whole_reading result ≡ true → IfSome (S.left source.old) (λ bytes. S.left source.new ≡ Some (drop 67108865 bytes)) }
     ensures script { (line : ℕ) (kind : Kind) → result ≡ BadScript line kind → IfSome (S.left source.old) (λ bytes. script_in bytes ≡ Err (At line kind)) }
