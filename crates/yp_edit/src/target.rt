@@ -11,7 +11,7 @@ use yp_base::path::Path;
 use yp_base::payload::Payload;
 use yp_base::row::Rows;
 use yp_base::txt::Txt;
-use yp_data_json::at_path::read_rows;
+use yp_data_json::at_path::read_payload;
 use yp_data_json::fault::DataFault;
 use yp_path::fault::PathFault;
 use yp_path::target::{read_target, write_target};
@@ -83,7 +83,7 @@ pub fn read_value(
     ensures { Says result (value_rows schema.now target.now value.now) }
 {
     match value {
-        Some(value) => match read_rows(alloc, schema, target, &value.json(alloc)?) {
+        Some(value) => match read_payload(alloc, schema, target, value) {
             Ok(rows) => Ok(rows),
             Err(DataFault::UnknownElement) => Err(refused(Tag::UnknownElement)),
             Err(DataFault::InvalidValue) => Err(refused(Tag::InvalidValue)),
