@@ -1,5 +1,5 @@
 -- What a turn adds, by its command.
-use Rattle.std.proofs.Common.{◌≡◌, ℕ, suc, ◌+◌, List, [], ◌∷◌, ◌++◌, map, length, refl, sym, ap, ◌∙◌, subst, Vec, length-append, string_bytes}
+use Rattle.std.proofs.Common.{◌≡◌, ℕ, suc, ◌+◌, List, [], ◌∷◌, ◌++◌, map, length, refl, sym, ap, ◌∙◌, subst, Vec, length-append, string_bytes, arith}
 use Rattle.std.specs.Prelude.{Result, Ok, Err, OnOk}
 use Rattle.std.specs.Vec.{with_items}
 use Rattle.std.proofs.lemmas.List.{with_items_is}
@@ -11,12 +11,13 @@ use Rattle.yp_edit.specs.declared.patch.Patch.{Patch}
 use Rattle.yp_journal.specs.declared.command.Command.{Command}
 use Rattle.yp_journal.specs.declared.command.Command.TheVariants as commands
 use Rattle.yp_journal.specs.declared.reply.Reply.{Reply}
+use Rattle.yp_journal.specs.declared.subscription.Subscription.{Subscription}
 use Rattle.yp_journal.specs.History.{JournalState, next_id, next_state, reply_to, with_subscription}
 use Rattle.yp_script.specs.declared.script.Script.{Script}
 use Rattle.push_program.specs.declared.progress.Progress.{Progress}
 use Rattle.push_program.specs.Desks.{Sending, with_lines, told_changes, notice_for, id_in}
 use Rattle.push_program.specs.Notices.{selection, made_at}
-use Rattle.push_program.specs.Progress.{AllMirror, Fits, Ready, Advances}
+use Rattle.push_program.specs.Progress.{AllMirror, Fits, Ready, TellsEdit, Advances}
 use Rattle.push_program.specs.Received.{changed_by}
 use Rattle.push_program.specs.Records.{change_record}
 use Rattle.push_program.specs.Report.{reply_line}
@@ -134,15 +135,28 @@ tick_turn script lane index command tick before after is ready taken desks mirro
     subst (λ (c : Command). Advances script (record { lane = lane; index = index; command = c }) before after) (sym is)
     (tick_advances script lane index tick before after ready (subst (λ (c : Command). Taken script (record { lane = lane; index = index; command = c }) before after) is taken) desks mirrors)
 
-pub edit_turn : (script : Script) (lane index : ℕ) (command : Command) (patch : Patch) (before after : Progress) (changes : List Change) → command ≡ commands.Edit patch → Ready script before
-    → Taken script (record { lane = lane; index = index; command = command }) before after
-    → changes ≡ change_record (selection script.schema before.state.rows) (selection script.schema after.state.rows)
-    → after.desks.items ≡ map (λ (desk : Sending). with_lines script.schema script.start (told_changes desk.number after.state.position after.state.stamp changes after.state.subscriptions) desk) before.desks.items
-    → after.mirrors.items ≡ map (changed_by changes) before.mirrors.items
+-- an edit gives and takes no subscription
+pub edit_keeps : (nodes : List SchemaNode) (state next : JournalState) (command : Command) (patch : Patch) → command ≡ commands.Edit patch → next ≡ next_state nodes state command → next.subscriptions ≡ state.subscriptions
+edit_keeps nodes state next command patch is taken = ap (λ (s : JournalState). s.subscriptions) taken ∙ ap (λ (c : Command). (next_state nodes state c).subscriptions) is
+
+-- what an edit tells behind what the journal took of it
+pub edit_turn : (script : Script) (lane index : ℕ) (command : Command) (patch : Patch) (before middle after : Progress) → command ≡ commands.Edit patch → Ready script before
+    → Taken script (record { lane = lane; index = index; command = command }) before middle → middle.desks.items ≡ before.desks.items → middle.mirrors.items ≡ before.mirrors.items
+    → TellsEdit script before.state.rows middle after
     → Advances script (record { lane = lane; index = index; command = command }) before after
-edit_turn script lane index command patch before after changes is ready taken record_is desks mirrors =
+edit_turn script lane index command patch before middle after is ready taken desks mirrors told =
+    let told_in : JournalState → List Sending → List Sending = λ state.
+    map (λ (desk : Sending). with_lines script.schema script.start (told_changes desk.number state.position state.stamp (change_record (selection script.schema before.state.rows) (selection script.schema state.rows)) state.subscriptions) desk) in
+    let heard_in : JournalState → List (List Row) → List (List Row) = λ state. map (changed_by (change_record (selection script.schema before.state.rows) (selection script.schema state.rows))) in
+    let all : Taken script (record { lane = lane; index = index; command = command }) before after = record {
+      state = told.state ∙ taken.state;
+      replies = told.replies ∙ taken.replies ∙ ap (λ (state : JournalState). string_bytes before.replies ++ reply_line state.position lane index (reply_to script.schema before.state command)) (sym told.state);
+    } in
     subst (λ (c : Command). Advances script (record { lane = lane; index = index; command = c }) before after) (sym is)
-    (edit_advances script lane index patch before after changes ready (subst (λ (c : Command). Taken script (record { lane = lane; index = index; command = c }) before after) is taken) record_is desks mirrors)
+    (edit_advances script lane index patch before after (change_record (selection script.schema before.state.rows) (selection script.schema after.state.rows)) ready
+    (subst (λ (c : Command). Taken script (record { lane = lane; index = index; command = c }) before after) is all) refl
+    (told.desks ∙ (λ i. told_in (sym told.state i) (desks i)))
+    (told.mirrors ∙ (λ i. heard_in (sym told.state i) (mirrors i))))
 
 pub full_turn : (script : Script) (lane index : ℕ) (command : Command) (by id : ℕ) (reply : Reply) (before after : Progress) → command ≡ commands.Everything by → Ready script before
     → Taken script (record { lane = lane; index = index; command = command }) before after → reply ≡ reply_to script.schema before.state command → id ≡ id_in reply
@@ -153,6 +167,49 @@ full_turn script lane index command by id reply before after is ready taken repl
     subst (λ (c : Command). Advances script (record { lane = lane; index = index; command = c }) before after) (sym is)
     (full_advances script lane index by id before after ready (subst (λ (c : Command). Taken script (record { lane = lane; index = index; command = c }) before after) is taken)
     (given ∙ ap id_in (replied ∙ ap (reply_to script.schema before.state) is)) desks mirrors)
+
+-- where nobody has subscribed, nothing is told
+told_none : (receiver n stamp : ℕ) (changes : List Change) → told_changes receiver n stamp changes [] ≡ []
+told_none receiver n stamp [] = refl
+told_none receiver n stamp (change ∷ changes) = refl
+
+heard_none : (f : List Row → List Row) (mirrors : List (List Row)) (count : ℕ) → length mirrors ≡ count → count ≡ 0 → mirrors ≡ map f mirrors
+heard_none f [] count each none = refl
+heard_none f (held ∷ mirrors) count each none = absurd (omega arith)
+
+none_given : (subscriptions : List Subscription) → length subscriptions ≡ 0 → subscriptions ≡ []
+none_given [] none = refl
+none_given (subscription ∷ subscriptions) none = absurd (omega arith)
+
+pub tells_none : (script : Script) (rows : List Row) (run : Progress) → length run.state.subscriptions ≡ 0 → length run.mirrors.items ≡ length run.state.subscriptions → TellsEdit script rows run run
+tells_none script rows run none each =
+    let changes = change_record (selection script.schema rows) (selection script.schema run.state.rows) in
+    record {
+      state = refl;
+      replies = refl;
+      desks = sym (map_itself (λ (desk : Sending). with_lines script.schema script.start (told_changes desk.number run.state.position run.state.stamp changes run.state.subscriptions) desk)
+          (λ desk. ap (λ made. with_lines script.schema script.start made desk)
+          (ap (told_changes desk.number run.state.position run.state.stamp changes) (none_given run.state.subscriptions none) ∙ told_none desk.number run.state.position run.state.stamp changes)
+          ∙ none_more script.schema script.start desk) run.desks.items);
+      mirrors = heard_none (changed_by changes) run.mirrors.items (length run.state.subscriptions) each none;
+    }
+
+-- what is told of edits that are the record
+pub tells_edits : (script : Script) (rows : List Row) (before after : Progress) (changes : List Change) → changes ≡ change_record (selection script.schema rows) (selection script.schema before.state.rows)
+    → after.state ≡ before.state → string_bytes after.replies ≡ string_bytes before.replies
+    → after.desks.items ≡ map (λ (desk : Sending). with_lines script.schema script.start (told_changes desk.number before.state.position before.state.stamp changes before.state.subscriptions) desk) before.desks.items
+    → after.mirrors.items ≡ map (changed_by changes) before.mirrors.items
+    → TellsEdit script rows before after
+tells_edits script rows before after changes is state replies desks mirrors = record {
+  state = state;
+  replies = replies;
+  desks = desks ∙ ap (λ (cs : List Change). map (λ (desk : Sending). with_lines script.schema script.start (told_changes desk.number before.state.position before.state.stamp cs before.state.subscriptions) desk) before.desks.items) is;
+  mirrors = mirrors ∙ ap (λ (cs : List Change). map (changed_by cs) before.mirrors.items) is;
+}
+
+pub when_ok : {X E : Type 0} {A C : Type 0} (r : Result X E) → OnOk r A → (A → C) → OnOk r C
+when_ok (Ok x) a f = f a
+when_ok (Err e) a f = tt
 
 pub when_both : {X E : Type 0} {A B C : Type 0} (r : Result X E) → OnOk r A → OnOk r B → (A → B → C) → OnOk r C
 when_both (Ok x) a b f = f a b

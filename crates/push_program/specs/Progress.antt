@@ -9,8 +9,10 @@ use Rattle.yp_journal.specs.declared.subscription.Subscription.{Subscription}
 use Rattle.yp_journal.specs.History.{JournalState, first_state, next_id, next_state, reply_to, state_of}
 use Rattle.yp_script.specs.declared.script.Script.{Script}
 use Rattle.push_program.specs.declared.progress.Progress.{Progress}
-use Rattle.push_program.specs.Desks.{Sending, with_lines, desks_for}
+use Rattle.push_program.specs.Desks.{Sending, with_lines, told_changes, desks_for}
 use Rattle.push_program.specs.Notices.{selection, made_at, made_from, made_by}
+use Rattle.push_program.specs.Received.{changed_by}
+use Rattle.push_program.specs.Records.{change_record}
 use Rattle.push_program.specs.Report.{reply_line, reply_lines, tree_line}
 use Rattle.push_program.specs.Turns.{Turn, entries_from, journal_of}
 
@@ -35,6 +37,13 @@ pub record Ready (script : Script) (run : Progress) : Type 0 where
   pub receivers : run.state.receivers ≡ script.receivers
   pub mirrors : AllMirror script.schema run.state.rows run.mirrors.items
   pub each : length run.mirrors.items ≡ length run.state.subscriptions
+
+-- what a step tells that changed nothing but rows, which were these before: the record of what may be read goes to each subscription, and what is held hears it
+pub record TellsEdit (script : Script) (rows : List Row) (before after : Progress) : Type 0 where
+  pub state : after.state ≡ before.state
+  pub replies : string_bytes after.replies ≡ string_bytes before.replies
+  pub desks : after.desks.items ≡ map (λ desk. with_lines script.schema script.start (told_changes desk.number before.state.position before.state.stamp (change_record (selection script.schema rows) (selection script.schema before.state.rows)) before.state.subscriptions) desk) before.desks.items
+  pub mirrors : after.mirrors.items ≡ map (changed_by (change_record (selection script.schema rows) (selection script.schema before.state.rows))) before.mirrors.items
 
 -- what a turn adds
 pub record Advances (script : Script) (turn : Turn) (before after : Progress) : Type 0 where

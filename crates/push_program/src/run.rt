@@ -2,13 +2,15 @@
 ghost use Rattle.std.specs.Prelude.{◌≡◌, ◌≤◌, ◌<◌, ◌+◌, ◌++◌, ◌∷◌, ◌^◌, [], All, List, length, map, sum_by, IfOk, OnOk};
 ghost use Rattle.std.specs.List.{AllByRecursion};
 ghost use Rattle.yp_base.specs.declared.notice.Notice.TheVariants.{Full};
-ghost use Rattle.yp_schema.specs.Datastore.{IsRowOf};
+ghost use Rattle.yp_base.specs.declared.row.Row.{Row};
+ghost use Rattle.yp_schema.specs.Datastore.{IsRowOf, IsDatastore};
+ghost use Rattle.yp_edit.specs.Changes.{changed_rows};
 ghost use Rattle.yp_encode.specs.Sendable.{IsSendableChange};
 ghost use Rattle.yp_journal.specs.History.{MayCome};
 ghost use Rattle.yp_script.specs.Script.{MayRun, count_commands};
 ghost use Rattle.push_program.specs.Desks.{with_lines, told_changes, notice_for, bare_desks, id_in};
 ghost use Rattle.push_program.specs.Notices.{selection};
-ghost use Rattle.push_program.specs.Progress.{Ready, Advances, Goes};
+ghost use Rattle.push_program.specs.Progress.{Ready, TellsEdit, Advances, Goes};
 ghost use Rattle.push_program.specs.Received.{changed_by};
 ghost use Rattle.push_program.specs.Turns.{Turn, turns_of, lane_turns, turns_in};
 
@@ -23,6 +25,7 @@ use std::sync::ledger::Ledger;
 use yp_base::memory::NoMemory;
 use yp_base::notice::{Changes, Notice};
 use yp_base::steps::Steps;
+use yp_edit::changed::ChangedRow;
 use yp_journal::command::Command;
 use yp_journal::receiver::ReceiverInfo;
 use yp_journal::reply::Reply;
@@ -57,6 +60,36 @@ fn tell_changes(
         desks,
     )?;
     all_hear(alloc, changes.items(), mirrors)
+}
+
+/// Tells all receivers what an edit changed of what they may read, from the rows that it changed, and
+/// what is held hears it. Where nobody has subscribed, nothing is looked up.
+fn tell_edit<L: Ledger>(
+    alloc: Global,
+    script: &Script,
+    changed: &[ChangedRow],
+    run: &mut Progress,
+    steps: &mut Steps<L>,
+) -> Result<(), NoMemory>
+    requires datastore { IsDatastore script.now.schema run.old.state.rows }
+    requires changed { (before : List Row) × IsDatastore script.now.schema before × (changed.now ≡ changed_rows before run.old.state.rows) }
+    requires each { length run.old.mirrors.items ≡ length run.old.state.subscriptions }
+    ensures { OnOk result ((before : List Row) → IsDatastore script.now.schema before → changed.now ≡ changed_rows before run.old.state.rows
+        → TellsEdit script.now before run.old run.new) }
+{
+    if run.state.subscriptions().is_empty() {
+        return Ok(());
+    }
+    let rows = run.state.tree();
+    let changes = record_of(alloc, &script.schema, changed, rows, steps)?;
+    tell_changes(
+        alloc,
+        script,
+        &run.state,
+        changes,
+        run.desks.as_mut_slice(),
+        run.mirrors.as_mut_slice(),
+    )
 }
 
 /// Tells the receiver of this number all that it may read, for a new subscription.
@@ -126,19 +159,7 @@ fn run_turn<L: Ledger>(
     )?;
     match command {
         Command::Tick(_) => Ok(()),
-        Command::Edit(_) => {
-            let rows = run.state.tree();
-            let changed = outcome.changed.items();
-            let changes = record_of(alloc, &script.schema, changed, rows, steps)?;
-            tell_changes(
-                alloc,
-                script,
-                &run.state,
-                changes,
-                run.desks.as_mut_slice(),
-                run.mirrors.as_mut_slice(),
-            )
-        }
+        Command::Edit(_) => tell_edit(alloc, script, outcome.changed.items(), run, steps),
         Command::Everything { by } => tell_full(
             alloc,
             script,
