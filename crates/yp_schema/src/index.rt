@@ -23,19 +23,12 @@ pub fn slot_of(parent: Option<u32>) -> usize
     }
 }
 
-/// The number of a child.
-fn find(children: &Children, name: &str) -> Option<u32>
-    ensures { result ≡ get_by_text children.now name.now }
-{
-    children.get(name).copied()
-}
-
 /// The number of a child in a slot.
 pub fn look_up(index: &[Children], slot: usize, name: &str) -> Option<u32>
     ensures { result ≡ indexed_at slot name.now index.now }
 {
     match index.get(slot) {
-        Some(children) => find(children, name),
+        Some(children) => children.get(name).copied(),
         None => None,
     }
 }

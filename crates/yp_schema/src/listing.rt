@@ -51,39 +51,6 @@ impl Listing {
         self.kept.get(path)
     }
 
-    fn put(&mut self, path: Names, node: Listed) -> Result<(), NoMemory>
-        ensures ok { OnOk result (self.new ≡ insert_entry names_cmp self.old path node) }
-        ensures err { OnErr result (self.new ≡ self.old) }
-    {
-        self.kept.insert(path, node)?;
-        Ok(())
-    }
-
-    fn len(&self) -> usize
-        ensures { result ≡ length self.now }
-    {
-        self.kept.len()
-    }
-
-    fn is_listed(&self, path: &Names) -> bool
-        ensures { result ≡ is_some (listed_at path.now self.now) }
-    {
-        match self.get(path) {
-            Some(_) => true,
-            None => false,
-        }
-    }
-
-    /// Whether a leaf that may be a key is listed.
-    fn may_be_key(&self, path: &Names) -> bool
-        ensures { result ≡ may_be_key (listed_at path.now self.now) }
-    {
-        match self.get(path) {
-            Some(node) => is_key_type(node.body.kind, &node.body.ty),
-            None => false,
-        }
-    }
-
     /// The module of a parent: the top, which has none, or a listed container or list. `None` where there
     /// is no such parent.
     fn parent_module(&self, path: &Names) -> Option<Option<&Txt>>
@@ -209,7 +176,7 @@ fn place_node(
 ) -> Result<(), SchemaFault>
     ensures { Leaves result nodes.new (at_place part place (placed path node nodes.old)) }
 {
-    if nodes.is_listed(&path) {
+    if nodes.get(&path).is_some() {
         return Err(SchemaFault::At {
             part,
             place,
@@ -230,14 +197,14 @@ fn place_node(
             kind: SchemaKind::TooDeep,
         });
     }
-    if nodes.len() >= 4096 {
+    if nodes.kept.len() >= 4096 {
         return Err(SchemaFault::At {
             part,
             place,
             kind: SchemaKind::TooMany,
         });
     }
-    nodes.put(path, node)?;
+    nodes.kept.insert(path, node)?;
     Ok(())
 }
 
@@ -308,14 +275,17 @@ fn is_key_listed(alloc: Global, path: &Names, key: &Txt, nodes: &Listing) -> Res
     ensures { IfOk result (λ there. there ≡ is_some (listed_at (path.now ++ key.now ∷ []) nodes.now)) }
 {
     let names = with_name(alloc, path, key)?;
-    Ok(nodes.is_listed(&names))
+    Ok(nodes.get(&names).is_some())
 }
 
 fn is_key_fit(alloc: Global, path: &Names, key: &Txt, nodes: &Listing) -> Result<bool, NoMemory>
     ensures { IfOk result (λ fit. fit ≡ may_be_key (listed_at (path.now ++ key.now ∷ []) nodes.now)) }
 {
     let names = with_name(alloc, path, key)?;
-    Ok(nodes.may_be_key(&names))
+    match nodes.get(&names) {
+        Some(node) => Ok(is_key_type(node.body.kind, &node.body.ty)),
+        None => Ok(false),
+    }
 }
 
 /// Whether each key names a child.

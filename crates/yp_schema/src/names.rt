@@ -19,42 +19,21 @@ pub fn text_of(alloc: Global, text: &str) -> Result<Txt, NoMemory>
     Ok(Txt::from_string(String::from_str(alloc, text)?))
 }
 
-fn is_letter(b: u8) -> bool
-    ensures { result ≡ is_letter b }
-{
-    (97 <= b && b <= 122) || (65 <= b && b <= 90)
-}
-
 fn begins_name(b: u8) -> bool
     ensures { result ≡ begins_name b }
 {
-    is_letter(b) || b == 95
-}
-
-fn goes_on_name(b: u8) -> bool
-    ensures { result ≡ goes_on_name b }
-{
-    begins_name(b) || (48 <= b && b <= 57) || b == 45 || b == 46
+    (97 <= b && b <= 122) || (65 <= b && b <= 90) || b == 95
 }
 
 fn go_on_name(bytes: &[u8]) -> bool
     ensures { result ≡ go_on_name bytes.now }
 {
     for b in bytes {
-        if !goes_on_name(*b) {
+        if !begins_name(*b) && !b.is_ascii_digit() && *b != b'-' && *b != b'.' {
             return false;
         }
     }
     true
-}
-
-fn is_identifier(bytes: &[u8]) -> bool
-    ensures { result ≡ is_identifier bytes.now }
-{
-    match bytes.split_first() {
-        Some((first, rest)) => begins_name(*first) && go_on_name(rest),
-        None => false,
-    }
 }
 
 /// Whether a text is the name of a module or node: an identifier (RFC 7950 section 6.2) of at most 64
@@ -62,7 +41,10 @@ fn is_identifier(bytes: &[u8]) -> bool
 pub fn is_name(text: &str) -> bool
     ensures { result ≡ is_name text.now }
 {
-    is_identifier(text.as_bytes()) && text.len() <= 64
+    match text.as_bytes().split_first() {
+        Some((first, rest)) => begins_name(*first) && go_on_name(rest) && text.len() <= 64,
+        None => false,
+    }
 }
 
 /// What stands before the first `/`, and what stands behind it.

@@ -92,13 +92,6 @@ fn take_last(alloc: Global, path: Names) -> Txt
     }
 }
 
-fn parent_of(alloc: Global, path: &Names, numbers: &Numbers) -> Result<Option<u32>, NoMemory>
-    ensures { IfOk result (λ parent. parent ≡ number_of (front path.now) numbers.now) }
-{
-    let above = front_of(alloc, path)?;
-    Ok(numbers.get(&above))
-}
-
 /// A listed node with the numbers of its parent and keys.
 fn number_node(
     alloc: Global,
@@ -109,7 +102,8 @@ fn number_node(
     ensures { IfOk result (λ made. made ≡ numbered_node numbers.now (path, node)) }
 {
     let Listed { home, name, body } = node;
-    let parent = parent_of(alloc, &path, numbers)?;
+    let above = front_of(alloc, &path)?;
+    let parent = numbers.get(&above);
     let keys = key_numbers(alloc, &path, &body.keys, numbers)?;
     let member = take_last(alloc, path);
     Ok(SchemaNode {

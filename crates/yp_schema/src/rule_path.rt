@@ -47,20 +47,11 @@ impl RuleKeys {
     }
 }
 
-fn copy_key(alloc: Global, key: &Option<Atom>) -> Result<Option<Atom>, NoMemory>
-    ensures { IfOk result (λ copy. copy ≡ key.now) }
-{
-    match key {
-        Some(atom) => Ok(Some(atom.copy(alloc)?)),
-        None => Ok(None),
-    }
-}
-
 impl Duplicate for RuleKeys {
     fn copy(&self, alloc: Global) -> Result<RuleKeys, NoMemory> {
         let mut copies = Vec::new(alloc);
         for key in self.kept.as_slice() {
-            copies.push(copy_key(alloc, key)?)?;
+            copies.push(key.copy(alloc)?)?;
         }
         Ok(RuleKeys { kept: copies })
     }

@@ -168,18 +168,12 @@ impl Schema {
         }
     }
 
-    fn find(&self, parent: Option<u32>, member: &str) -> Option<u32>
-        ensures { result ≡ child_of parent member.now self.now }
-    {
-        look_up(self.index.as_slice(), slot_of(parent), member)
-    }
-
     /// The child of a node, or of the top, that has this member form.
     pub fn child(&self, parent: Option<u32>, member: &str) -> Option<u32>
         ensures found { result ≡ child_of parent member.now self.now }
         ensures within { IfSome result (λ node. node < length self.now) }
     {
-        self.find(parent, member)
+        look_up(self.index.as_slice(), slot_of(parent), member)
     }
 }
 

@@ -225,16 +225,6 @@ fn are_identifiers(names: &[Txt]) -> bool
     true
 }
 
-fn container_kind(presence: bool) -> Kind
-    ensures { result ≡ container_kind presence }
-{
-    if presence {
-        Kind::Presence
-    } else {
-        Kind::Container
-    }
-}
-
 fn read_container(alloc: Global, members: &Map<String, Json>) -> Option<Body>
     ensures { result ≡ container_in (members_view members.now.entries) }
 {
@@ -244,7 +234,11 @@ fn read_container(alloc: Global, members: &Map<String, Json>) -> Option<Body>
     match flag_in(members, "deny-all") {
         Some(deny_all) => match flag_in(members, "presence") {
             Some(presence) => Some(Body {
-                kind: container_kind(presence),
+                kind: if presence {
+                    Kind::Presence
+                } else {
+                    Kind::Container
+                },
                 keys: Series::from_vec(Vec::new(alloc)),
                 ty: None,
                 deny_all,
@@ -402,13 +396,12 @@ fn read_leaf(
     }
 }
 
-fn read_kind(
-    alloc: Global,
-    word: &str,
-    members: &Map<String, Json>,
-) -> Result<Option<Body>, NoMemory>
-    ensures { IfOk result (λ node. node ≡ of_kind word.now (members_view members.now.entries)) }
+fn read_body(alloc: Global, members: &Map<String, Json>) -> Result<Option<Body>, NoMemory>
+    ensures { IfOk result (λ node. node ≡ body_in (members_view members.now.entries)) }
 {
+    let Some(word) = text_in(members, "kind") else {
+        return Ok(None);
+    };
     if word == "container" {
         Ok(read_container(alloc, members))
     } else if word == "list" {
@@ -419,15 +412,6 @@ fn read_kind(
         read_leaf(alloc, Kind::LeafList, members)
     } else {
         Ok(None)
-    }
-}
-
-fn read_body(alloc: Global, members: &Map<String, Json>) -> Result<Option<Body>, NoMemory>
-    ensures { IfOk result (λ node. node ≡ body_in (members_view members.now.entries)) }
-{
-    match text_in(members, "kind") {
-        Some(word) => read_kind(alloc, word, members),
-        None => Ok(None),
     }
 }
 
