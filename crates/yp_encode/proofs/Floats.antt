@@ -143,34 +143,3 @@ rows_none nodes (seg ∷ rest) rows =
     none (has_float (data_at nodes last (seg ∷ rest) rows)) false
     (place_none nodes (node_at last.node nodes).kind (node_at last.node nodes) last (value_at (seg ∷ rest) rows) (members_in nodes (forest_at (length (seg ∷ rest)) rows)) (members_none nodes (forest_at (length (seg ∷ rest)) rows)))
     refl
-
-value_member_none : (b : Bool) (d : Data) → has_float d ≡ false → members_have_float (value_member b d) ≡ false
-value_member_none true d one = none (has_float d) false one refl
-value_member_none false d one = refl
-
-edits_none : (nodes : List SchemaNode) (n : ℕ) (changes : List Change) → items_have_float (edits_from nodes n changes) ≡ false
-edits_none nodes n [] = refl
-edits_none nodes n (change ∷ changes) =
-    none (has_float (edit_data nodes n change)) (items_have_float (edits_from nodes (n + 1) changes))
-    (value_member_none (carries_value change.kind) (rows_json nodes change.target change.rows) (rows_none nodes change.target change.rows)) (edits_none nodes (n + 1) changes)
-
-mark_none : (b : Bool) → members_have_float (mark b) ≡ false
-mark_none true = refl
-mark_none false = refl
-
-patch_none : (nodes : List SchemaNode) (id : ℕ) (changes : List Change) → has_float (patch_data nodes id changes) ≡ false
-patch_none nodes id changes = none (items_have_float (edits_from nodes 1 changes) || false) false (none (items_have_float (edits_from nodes 1 changes)) false (edits_none nodes 1 changes) refl) refl
-
-body_none : (nodes : List SchemaNode) (notice : Notice) → members_have_float (body_of nodes notice) ≡ false
-body_none nodes (Full id rows) = none (has_float (rows_json nodes [] rows)) false (rows_none nodes [] rows) refl
-body_none nodes (Changes id patch_id changes incomplete) = none (has_float (patch_data nodes patch_id changes)) (members_have_float (mark incomplete)) (patch_none nodes patch_id changes) (mark_none incomplete)
-body_none nodes (Started id) = refl
-body_none nodes (Modified id) = refl
-body_none nodes (Suspended id) = refl
-body_none nodes (Resumed id) = refl
-body_none nodes (Terminated id) = refl
-
--- the JSON of a notification has none
-pub notification_none : (nodes : List SchemaNode) (start tick : ℕ) (notice : Notice) → has_float (notification_data nodes start tick notice) ≡ false
-notification_none nodes start tick notice =
-    none (members_have_float (body_of nodes notice) || false) false (none (members_have_float (body_of nodes notice)) false (body_none nodes notice) refl) refl

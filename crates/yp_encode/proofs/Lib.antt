@@ -1,5 +1,5 @@
 pub mod Edits
 pub mod Floats
-pub mod Names
 pub mod Places
-pub mod Values
+pub mod Plain
+pub mod Told

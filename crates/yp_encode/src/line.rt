@@ -1,19 +1,21 @@
 //! The line of a notification.
-ghost use Rattle.std.specs.List.{AllByRecursion};
-ghost use Rattle.std.specs.Prelude.{◌≡◌, ◌<◌, ◌≤◌, ◌^◌, length, IfOk, codes, false};
-ghost use Rattle.std.specs.Cmp.Lexicographic.{slice_cmp};
-ghost use Rattle.std.specs.Ordering.{nat_cmp};
-ghost use Rattle.std.specs.declared.cmp.Ordering.TheVariants.{Greater};
-ghost use Rattle.serde_json.specs.Data.{object, string, array, no_members, member};
-ghost use Rattle.serde_json.specs.View.{view, items_view};
-ghost use Rattle.serde_json.specs.Written.{has_float, compact_text};
-ghost use Rattle.yp_encode.specs.Lines.{operation_word, carries_value, edit_data, edits_from, mark, patch_data, name_of, body_of, id_member, reason_member, notification_data, line_of};
+ghost use Rattle.std.specs.List.{AllByRecursion, list_all};
+ghost use Rattle.std.specs.Prelude.{◌≡◌, ◌<◌, ◌≤◌, ◌^◌, ◌++◌, [], length, IfOk, OnOk, codes, decimal, false, true, string_bytes};
+ghost use Rattle.json.specs.Print.{quoted};
+ghost use Rattle.serde_json.specs.Data.{no_members, member};
+ghost use Rattle.serde_json.specs.View.{view};
+ghost use Rattle.serde_json.specs.Written.{has_float, compact_text, comma_if, items_text, members_text};
+ghost use Rattle.yp_data_json.specs.Writing.{rows_json};
+ghost use Rattle.yp_schema.specs.Datastore.{is_path_of, AreWritable};
+ghost use Rattle.yp_encode.specs.Lines.{operation_word, carries_value, edit_data, edits_from, mark, patch_data, name_of, body_of, id_member, reason_member, line_of};
+ghost use Rattle.yp_encode.specs.Texts.{stands_for_itself, head_text};
 ghost use Rattle.yp_encode.specs.Sendable.{IsSendable, IsSendableChange};
 
-use serde_json::{Map, Value as Json, json, put};
+use serde_json::Value as Json;
 use std::alloc::{AllocError, Global};
 use yp_base::memory::NoMemory;
 use yp_base::notice::{Change, ChangeKind, Changes, Notice};
+use yp_base::row::Rows;
 use yp_base::series::Series;
 use yp_base::txt::Txt;
 use yp_data_json::writing::write_rows;
@@ -35,26 +37,66 @@ fn operation(kind: ChangeKind) -> &'static str
     }
 }
 
-/// An edit with a value.
-fn edit_with_value(
-    alloc: Global,
-    id: &str,
-    word: &str,
-    target: &str,
-    value: Json,
-) -> Result<Json, AllocError>
-    ensures { IfOk result (λ json. view json ≡ object (member (codes "edit-id") (string id.now) (member (codes "operation") (string word.now)
-        (member (codes "target") (string target.now) (member (codes "value") (view value) no_members))))) }
+/// Whether each byte of a text stands for itself in a JSON string.
+fn is_plain(text: &[u8]) -> bool
+    ensures { result ≡ list_all stands_for_itself text.now }
 {
-    json!(in alloc; {"edit-id": id, "operation": word, "target": target, "value": value})
+    text.iter().all(|b| *b >= 32 && *b != b'"' && *b != b'\\')
 }
 
-/// An edit without a value.
-fn edit_without_value(alloc: Global, id: &str, word: &str, target: &str) -> Result<Json, AllocError>
-    ensures { IfOk result (λ json. view json ≡ object (member (codes "edit-id") (string id.now) (member (codes "operation") (string word.now)
-        (member (codes "target") (string target.now) no_members)))) }
+/// Adds a text that has escapes as a JSON string.
+fn push_escaped(alloc: Global, text: &mut String, value: &str) -> Result<(), AllocError>
+    ensures { OnOk result (string_bytes text.new ≡ string_bytes text.old ++ quoted value.now) }
 {
-    json!(in alloc; {"edit-id": id, "operation": word, "target": target})
+    let json = Json::try_from_str(alloc, value)?;
+    let json = json.to_string(alloc)?;
+    text.push_str(json.as_str())
+}
+
+/// Adds a text as a JSON string.
+fn push_string(alloc: Global, text: &mut String, value: &str) -> Result<(), AllocError>
+    ensures { OnOk result (string_bytes text.new ≡ string_bytes text.old ++ quoted value.now) }
+{
+    if !is_plain(value.as_bytes()) {
+        return push_escaped(alloc, text, value);
+    }
+    text.push_str("\"")?;
+    text.push_str(value)?;
+    text.push_str("\"")?;
+    Ok(())
+}
+
+/// Adds what leads to a member's value, and a text as a JSON string.
+fn push_member(alloc: Global, text: &mut String, lead: &str, value: &str) -> Result<(), AllocError>
+    ensures { OnOk result (string_bytes text.new ≡ string_bytes text.old ++ (lead.now ++ quoted value.now)) }
+{
+    text.push_str(lead)?;
+    push_string(alloc, text, value)
+}
+
+/// Adds what leads to a member's value, and JSON without white space.
+fn push_json(alloc: Global, text: &mut String, lead: &str, json: &Json) -> Result<(), AllocError>
+    requires { has_float (view json.now) ≡ false }
+    ensures { OnOk result (string_bytes text.new ≡ string_bytes text.old ++ (lead.now ++ compact_text (view json.now))) }
+{
+    text.push_str(lead)?;
+    let json = json.to_string(alloc)?;
+    text.push_str(json.as_str())
+}
+
+/// Adds what leads to a member's value, and a number.
+fn push_number(text: &mut String, lead: &str, number: u32) -> Result<(), AllocError>
+    ensures { OnOk result (string_bytes text.new ≡ string_bytes text.old ++ (lead.now ++ decimal number)) }
+{
+    write!(text, "{lead}{number}")
+}
+
+/// Adds what leads to a member's value, and a number as a JSON string.
+fn push_counted(alloc: Global, text: &mut String, lead: &str, number: u64) -> Result<(), AllocError>
+    ensures { OnOk result (string_bytes text.new ≡ string_bytes text.old ++ (lead.now ++ quoted (decimal number))) }
+{
+    let number = number.to_string(alloc)?;
+    push_member(alloc, text, lead, number.as_str())
 }
 
 /// Whether an edit of this kind has a value.
@@ -64,76 +106,88 @@ fn has_value(kind: ChangeKind) -> bool
     matches!(kind, ChangeKind::Create | ChangeKind::Replace)
 }
 
-/// The edit of a change.
-#[tactic(auto, using(crate::proofs::Values::with_value, crate::proofs::Values::without_value, crate::proofs::Values::has_rows))]
-fn edit(alloc: Global, schema: &Schema, number: u64, change: &Change) -> Result<Json, NoMemory>
-    requires { IsSendableChange schema.now change.now }
-    ensures { IfOk result (λ json. view json ≡ edit_data schema.now number change.now) }
+/// Adds what an edit has before its value.
+fn push_head(
+    alloc: Global,
+    schema: &Schema,
+    text: &mut String,
+    number: u64,
+    change: &Change,
+) -> Result<(), NoMemory>
+    requires { is_path_of schema.now change.now.target ≡ true }
+    ensures { OnOk result (string_bytes text.new ≡ string_bytes text.old ++ head_text schema.now number change.now) }
 {
-    let id = number.to_string(alloc)?;
-    let word = operation(change.kind);
+    push_counted(alloc, text, "{\"edit-id\":", number)?;
+    push_member(alloc, text, ",\"operation\":", operation(change.kind))?;
     let target = write_target(alloc, schema, &change.target)?;
-    if has_value(change.kind) {
-        let value = write_rows(alloc, schema, &change.target, &change.rows)?;
-        Ok(edit_with_value(alloc, id.as_str(), word, target.as_str(), value)?)
-    } else {
-        Ok(edit_without_value(alloc, id.as_str(), word, target.as_str())?)
-    }
+    push_member(alloc, text, ",\"target\":", target.as_str())?;
+    Ok(())
 }
 
-/// The edits of changes, counted from 1.
-fn edits(alloc: Global, schema: &Schema, changes: &[Change]) -> Result<Vec<Json>, NoMemory>
+/// Adds the value of an edit that has one.
+fn push_value(
+    alloc: Global,
+    schema: &Schema,
+    text: &mut String,
+    change: &Change,
+) -> Result<(), NoMemory>
+    requires { AreWritable schema.now change.now.target change.now.rows }
+    ensures { OnOk result (string_bytes text.new ≡ string_bytes text.old ++ (codes ",\"value\":" ++ compact_text (rows_json schema.now change.now.target change.now.rows))) }
+{
+    let json = write_rows(alloc, schema, &change.target, &change.rows)?;
+    push_json(alloc, text, ",\"value\":", &json)?;
+    Ok(())
+}
+
+/// Adds the edit of a change.
+fn push_edit(
+    alloc: Global,
+    schema: &Schema,
+    text: &mut String,
+    number: u64,
+    change: &Change,
+) -> Result<(), NoMemory>
+    requires { IsSendableChange schema.now change.now }
+    ensures { OnOk result (string_bytes text.new ≡ string_bytes text.old ++ compact_text (edit_data schema.now number change.now)) }
+{
+    push_head(alloc, schema, text, number, change)?;
+    if has_value(change.kind) {
+        push_value(alloc, schema, text, change)?;
+        text.push_str("}")?;
+    } else {
+        text.push_str("}")?;
+    }
+    Ok(())
+}
+
+/// Adds a comma, where something stands before.
+fn push_comma(text: &mut String, later: bool) -> Result<(), AllocError>
+    ensures { OnOk result (string_bytes text.new ≡ string_bytes text.old ++ comma_if later) }
+{
+    text.push_str(if later { "," } else { "" })
+}
+
+/// Adds the edits of changes, counted from 1, and the bracket behind them.
+fn push_edits(
+    alloc: Global,
+    schema: &Schema,
+    text: &mut String,
+    changes: &[Change],
+) -> Result<(), NoMemory>
     requires few { length changes.now < 2 ^ 63 }
     requires sendable { AllByRecursion (IsSendableChange schema.now) changes.now }
-    ensures { IfOk result (λ edits. items_view edits.items ≡ edits_from schema.now 1 changes.now) }
+    ensures { OnOk result (string_bytes text.new ≡ string_bytes text.old ++ items_text false (edits_from schema.now 1 changes.now)) }
 {
-    let mut edits = Vec::new(alloc);
     let mut number = 1u64;
+    let mut later = false;
     for change in changes {
-        edits.push(edit(alloc, schema, number, change)?)?;
+        push_comma(text, later)?;
+        push_edit(alloc, schema, text, number, change)?;
         number += 1;
+        later = true;
     }
-    Ok(edits)
-}
-
-/// The patch of a change update.
-fn patch_json(alloc: Global, patch_id: &str, edits: Vec<Json>) -> Result<Json, AllocError>
-    ensures { IfOk result (λ json. view json ≡ object (member (codes "yang-patch") (object
-        (member (codes "edit") (array (items_view edits.items)) (member (codes "patch-id") (string patch_id.now) no_members))) no_members)) }
-{
-    json!(in alloc; {"yang-patch": {"edit": Json::Array(edits), "patch-id": patch_id}})
-}
-
-/// The body of a full update.
-fn full_body(alloc: Global, id: u32, contents: Json) -> Result<Json, AllocError>
-    ensures { IfOk result (λ json. view json ≡ object (member (codes "datastore-contents") (view contents) (id_member id no_members))) }
-{
-    json!(in alloc; {"datastore-contents": contents, "id": id})
-}
-
-/// The body of a change update, or of one that lacks some changes.
-fn changes_body(alloc: Global, id: u32, patch: Json, incomplete: bool) -> Result<Json, AllocError>
-    ensures { IfOk result (λ json. view json ≡ object (member (codes "datastore-changes") (view patch) (id_member id (mark incomplete)))) }
-{
-    if incomplete {
-        json!(in alloc; {"datastore-changes": patch, "id": id, "incomplete-update": [null]})
-    } else {
-        json!(in alloc; {"datastore-changes": patch, "id": id})
-    }
-}
-
-/// A body of an id alone.
-fn id_body(alloc: Global, id: u32) -> Result<Json, AllocError>
-    ensures { IfOk result (λ json. view json ≡ object (id_member id no_members)) }
-{
-    json!(in alloc; {"id": id})
-}
-
-/// A body of an id and a reason.
-fn reason_body(alloc: Global, id: u32, reason: &str) -> Result<Json, AllocError>
-    ensures { IfOk result (λ json. view json ≡ object (id_member id (reason_member reason.now))) }
-{
-    json!(in alloc; {"id": id, "reason": reason})
+    text.push_str("]")?;
+    Ok(())
 }
 
 /// The name of a notification (RFC 8641 section 5, RFC 8639 section 4).
@@ -151,100 +205,155 @@ fn name(notice: &Notice) -> &'static str
     }
 }
 
-/// What a notification holds: its event time, and its body under its name, which comes later.
-fn contents(alloc: Global, time: &str, name: &str, body: Json) -> Result<Json, AllocError>
-    requires { slice_cmp nat_cmp name.now (codes "eventTime") ≡ Greater }
-    ensures { IfOk result (λ json. view json ≡ object (member (codes "eventTime") (string time.now) (member name.now (view body) no_members))) }
+/// What ends a body behind its id: a mark where changes are missing, and the brace.
+#[tactic(auto, using(crate::proofs::Told::marked, crate::proofs::Told::unmarked))]
+fn end_of_changes(incomplete: bool) -> &'static str
+    ensures { result.now ≡ members_text true (mark incomplete) }
 {
-    let mut members = Map::new(alloc);
-    put(
-        &mut members,
-        alloc,
-        "eventTime",
-        Json::try_from_str(alloc, time)?,
-    )?;
-    put(&mut members, alloc, name, body)?;
-    Ok(Json::Object(members))
+    if incomplete {
+        ",\"incomplete-update\":[null]}"
+    } else {
+        "}"
+    }
 }
 
-/// A notification of contents.
-fn notification(alloc: Global, contents: Json) -> Result<Json, AllocError>
-    ensures { IfOk result (λ json. view json ≡ object (member (codes "ietf-restconf:notification") (view contents) no_members)) }
+/// Adds the members of a body that are an id and a reason, and the brace behind them.
+fn push_reason(alloc: Global, text: &mut String, id: u32, reason: &str) -> Result<(), NoMemory>
+    ensures { OnOk result (string_bytes text.new ≡ string_bytes text.old ++ members_text false (id_member id (reason_member reason.now))) }
 {
-    json!(in alloc; {"ietf-restconf:notification": contents})
+    push_number(text, "\"id\":", id)?;
+    push_member(alloc, text, ",\"reason\":", reason)?;
+    text.push_str("}")?;
+    Ok(())
 }
 
-/// The body of a notice.
-fn body(alloc: Global, schema: &Schema, notice: &Notice) -> Result<Json, NoMemory>
+/// Adds the member of a body that is an id alone, and the brace behind it.
+fn push_id(text: &mut String, id: u32) -> Result<(), NoMemory>
+    ensures { OnOk result (string_bytes text.new ≡ string_bytes text.old ++ members_text false (id_member id no_members)) }
+{
+    push_number(text, "\"id\":", id)?;
+    text.push_str("}")?;
+    Ok(())
+}
+
+/// Adds the members of a full update, and the brace behind them.
+fn push_full(
+    alloc: Global,
+    schema: &Schema,
+    text: &mut String,
+    id: u32,
+    rows: &Rows,
+) -> Result<(), NoMemory>
+    requires { AreWritable schema.now [] rows.now }
+    ensures { OnOk result (string_bytes text.new ≡ string_bytes text.old ++ members_text false (member (codes "datastore-contents") (rows_json schema.now [] rows.now) (id_member id no_members))) }
+{
+    let top = Series::from_vec(Vec::new(alloc));
+    let json = write_rows(alloc, schema, &top, rows)?;
+    push_json(alloc, text, "\"datastore-contents\":", &json)?;
+    push_number(text, ",\"id\":", id)?;
+    text.push_str("}")?;
+    Ok(())
+}
+
+/// Adds the patch of changes.
+fn push_patch(
+    alloc: Global,
+    schema: &Schema,
+    text: &mut String,
+    patch_id: u64,
+    changes: &Changes,
+) -> Result<(), NoMemory>
+    requires { AllByRecursion (IsSendableChange schema.now) changes.now }
+    ensures { OnOk result (string_bytes text.new ≡ string_bytes text.old ++ compact_text (patch_data schema.now patch_id changes.now)) }
+{
+    text.push_str("{\"yang-patch\":{\"edit\":[")?;
+    push_edits(alloc, schema, text, changes.items())?;
+    push_counted(alloc, text, ",\"patch-id\":", patch_id)?;
+    text.push_str("}}")?;
+    Ok(())
+}
+
+/// Adds the members of a change update, and the brace behind them.
+fn push_changes(
+    alloc: Global,
+    schema: &Schema,
+    text: &mut String,
+    id: u32,
+    patch_id: u64,
+    changes: &Changes,
+    incomplete: bool,
+) -> Result<(), NoMemory>
+    requires { AllByRecursion (IsSendableChange schema.now) changes.now }
+    ensures { OnOk result (string_bytes text.new ≡ string_bytes text.old ++ members_text false (member (codes "datastore-changes") (patch_data schema.now patch_id changes.now) (id_member id (mark incomplete)))) }
+{
+    text.push_str("\"datastore-changes\":")?;
+    push_patch(alloc, schema, text, patch_id, changes)?;
+    push_number(text, ",\"id\":", id)?;
+    text.push_str(end_of_changes(incomplete))?;
+    Ok(())
+}
+
+/// Adds the members of the body of a notice, and the brace behind them.
+fn push_body(
+    alloc: Global,
+    schema: &Schema,
+    text: &mut String,
+    notice: &Notice,
+) -> Result<(), NoMemory>
     requires { IsSendable schema.now notice.now }
-    ensures { IfOk result (λ json. view json ≡ object (body_of schema.now notice.now)) }
+    ensures { OnOk result (string_bytes text.new ≡ string_bytes text.old ++ members_text false (body_of schema.now notice.now)) }
 {
     match notice {
-        Notice::Full { id, rows } => {
-            let top = Series::from_vec(Vec::new(alloc));
-            let contents = write_rows(alloc, schema, &top, rows)?;
-            Ok(full_body(alloc, *id, contents)?)
-        }
+        Notice::Full { id, rows } => push_full(alloc, schema, text, *id, rows),
         Notice::Changes {
             id,
             patch_id,
             changes,
             incomplete,
-        } => {
-            let patch = patch(alloc, schema, *patch_id, changes)?;
-            Ok(changes_body(alloc, *id, patch, *incomplete)?)
-        }
-        Notice::Started { id } => Ok(id_body(alloc, *id)?),
-        Notice::Modified { id } => Ok(id_body(alloc, *id)?),
-        Notice::Suspended { id } => Ok(reason_body(
+        } => push_changes(alloc, schema, text, *id, *patch_id, changes, *incomplete),
+        Notice::Started { id } => push_id(text, *id),
+        Notice::Modified { id } => push_id(text, *id),
+        Notice::Suspended { id } => push_reason(
             alloc,
+            text,
             *id,
             "ietf-subscribed-notifications:unsupportable-volume",
-        )?),
-        Notice::Resumed { id } => Ok(id_body(alloc, *id)?),
-        Notice::Terminated { id } => Ok(reason_body(
+        ),
+        Notice::Resumed { id } => push_id(text, *id),
+        Notice::Terminated { id } => push_reason(
             alloc,
+            text,
             *id,
             "ietf-subscribed-notifications:no-such-subscription",
-        )?),
+        ),
     }
 }
 
-/// The patch of changes.
-fn patch(alloc: Global, schema: &Schema, patch_id: u64, changes: &Changes) -> Result<Json, NoMemory>
-    requires { AllByRecursion (IsSendableChange schema.now) changes.now }
-    ensures { IfOk result (λ json. view json ≡ patch_data schema.now patch_id changes.now) }
-{
-    let edits = edits(alloc, schema, changes.items())?;
-    let id = patch_id.to_string(alloc)?;
-    Ok(patch_json(alloc, id.as_str(), edits)?)
-}
-
-/// The JSON of a notice that was made at a tick.
-#[tactic(auto, using(crate::proofs::Names::comes_later))]
-fn notice_json(
+/// The text of a notice that was made at a tick.
+fn text_of(
     alloc: Global,
     schema: &Schema,
     start: &Start,
     tick: u64,
     notice: &Notice,
-) -> Result<Json, NoMemory>
+) -> Result<String, NoMemory>
     requires tick { tick ≤ 1000000000000 }
     requires sendable { IsSendable schema.now notice.now }
-    ensures { IfOk result (λ json. view json ≡ notification_data schema.now start.now tick notice.now) }
+    ensures { IfOk result (λ text. string_bytes text ≡ line_of schema.now start.now tick notice.now) }
 {
     let time = event_time(alloc, start, tick)?;
-    let body = body(alloc, schema, notice)?;
-    let contents = contents(alloc, time.as_str(), name(notice), body)?;
-    Ok(notification(alloc, contents)?)
-}
-
-/// The text of JSON without white space.
-fn compact(alloc: Global, json: &Json) -> Result<Txt, NoMemory>
-    requires { has_float (view json.now) ≡ false }
-    ensures { IfOk result (λ text. text ≡ compact_text (view json.now)) }
-{
-    Ok(Txt::from_string(json.to_string(alloc)?))
+    let mut text = String::with_capacity(alloc, 256)?;
+    push_member(
+        alloc,
+        &mut text,
+        "{\"ietf-restconf:notification\":{\"eventTime\":",
+        time.as_str(),
+    )?;
+    push_member(alloc, &mut text, ",", name(notice))?;
+    text.push_str(":{")?;
+    push_body(alloc, schema, &mut text, notice)?;
+    text.push_str("}}")?;
+    Ok(text)
 }
 
 /// The line of a notice that was made at a tick, without a line end. Ticks are hundredths of a second
@@ -260,7 +369,5 @@ pub fn line(
     requires sendable { IsSendable schema.now notice.now }
     ensures { IfOk result (λ text. text ≡ line_of schema.now start.now tick notice.now) }
 {
-    let json = notice_json(alloc, schema, start, tick, notice)?;
-    let text = compact(alloc, &json)?;
-    Ok(text)
+    Ok(Txt::from_string(text_of(alloc, schema, start, tick, notice)?))
 }
