@@ -173,56 +173,35 @@ fn each_kind_and_type_is_read(rt: HostRuntime) -> Result<(), Fail> {
 }
 
 #[test]
+fn faults_of_keys_are_told_at_the_list(rt: HostRuntime) -> Result<(), Fail> {
+    let alloc = rt.alloc();
+    let missing = [
+        r#"[{"path":"/acme:l","kind":"list","keys":["id"]}]"#,
+        r#"[{"path":"/a:l","kind":"list","keys":["x","y"]},{"path":"/a:l/x","kind":"container"}]"#,
+    ];
+    expect_each(&rt, alloc, &missing, 0, SchemaKind::NoKey)?;
+    let no_leaves = [
+        r#"[{"path":"/acme:l","kind":"list","keys":["id"]},{"path":"/acme:l/id","kind":"container"}]"#,
+        r#"[{"path":"/a:l","kind":"list","keys":["x"]},{"path":"/a:l/x","kind":"leaf","type":"empty"}]"#,
+        r#"[{"path":"/a:l","kind":"list","keys":["x"]},{"path":"/a:l/x","kind":"leaf-list","type":"string"}]"#,
+    ];
+    expect_each(&rt, alloc, &no_leaves, 0, SchemaKind::KeyNotLeaf)
+}
+
+#[test]
 fn the_first_fault_is_answered(rt: HostRuntime) -> Result<(), Fail> {
     let alloc = rt.alloc();
-    expect_each(
-        &rt,
-        alloc,
-        &[
-            r#"[{"path":"/acme:l","kind":"list","keys":["id"]}]"#,
-            r#"[{"path":"/a:l","kind":"list","keys":["x","y"]},{"path":"/a:l/x","kind":"container"}]"#,
-        ],
-        0,
-        SchemaKind::NoKey,
-    )?;
-    expect_each(
-        &rt,
-        alloc,
-        &[
-            r#"[{"path":"/acme:l","kind":"list","keys":["id"]},{"path":"/acme:l/id","kind":"container"}]"#,
-            r#"[{"path":"/a:l","kind":"list","keys":["x"]},{"path":"/a:l/x","kind":"leaf","type":"empty"}]"#,
-            r#"[{"path":"/a:l","kind":"list","keys":["x"]},{"path":"/a:l/x","kind":"leaf-list","type":"string"}]"#,
-        ],
-        0,
-        SchemaKind::KeyNotLeaf,
-    )?;
-    expect_each(
-        &rt,
-        alloc,
-        &[
-            r#"[{"path":"/acme:c","kind":"container"},{"path":"/acme:c","kind":"container"}]"#,
-            r#"[{"path":"/a:x","kind":"leaf","type":"string"},{"path":"/a:x","kind":"leaf","type":"float"}]"#,
-        ],
-        1,
-        SchemaKind::Duplicate,
-    )?;
-    expect_each(
-        &rt,
-        alloc,
-        &[
-            r#"[{"path":"/a:l","kind":"list","keys":["id"]},{"path":"/a:c","kind":"container","color":1}]"#,
-        ],
-        1,
-        SchemaKind::Member,
-    )?;
-    expect_each(
-        &rt,
-        alloc,
-        &[r#"[{"path":"/acme:c","kind":"container","color":"red"}]"#],
-        0,
-        SchemaKind::Member,
-    )?;
-    Ok(())
+    let twice = [
+        r#"[{"path":"/acme:c","kind":"container"},{"path":"/acme:c","kind":"container"}]"#,
+        r#"[{"path":"/a:x","kind":"leaf","type":"string"},{"path":"/a:x","kind":"leaf","type":"float"}]"#,
+    ];
+    expect_each(&rt, alloc, &twice, 1, SchemaKind::Duplicate)?;
+    let behind = [
+        r#"[{"path":"/a:l","kind":"list","keys":["id"]},{"path":"/a:c","kind":"container","color":1}]"#,
+    ];
+    expect_each(&rt, alloc, &behind, 1, SchemaKind::Member)?;
+    let alone = [r#"[{"path":"/acme:c","kind":"container","color":"red"}]"#];
+    expect_each(&rt, alloc, &alone, 0, SchemaKind::Member)
 }
 
 #[test]
@@ -363,6 +342,39 @@ fn names_have_at_most_64_bytes(rt: HostRuntime) -> Result<(), Fail> {
     let too_long = named(alloc, 65)?;
     expect_fault(&rt, alloc, &[too_long.as_str()], (0, 0, SchemaKind::Member))?;
     Ok(())
+}
+
+/// A leaf whose enumeration has two names, `up` and one of so many bytes.
+fn enumerated(alloc: Global, count: usize) -> Result<String, Fail> {
+    let mut text = String::from_str(
+        alloc,
+        r#"[{"path":"/m:x","kind":"leaf","type":"enumeration","names":["up",""#,
+    )?;
+    for _ in 0..count {
+        text.push_str("a")?;
+    }
+    text.push_str(r#""]}]"#)?;
+    Ok(text)
+}
+
+#[test]
+fn names_of_an_enumeration_have_at_most_256_bytes(rt: HostRuntime) -> Result<(), Fail> {
+    let alloc = rt.alloc();
+    let long = enumerated(alloc, 256)?;
+    let schema = read_texts(alloc, &[long.as_str()])?;
+    assert_eq!(rt; schema.count(), 1);
+    match schema.ty(0) {
+        Some(LeafType::Names(names)) => match names.items() {
+            [up, last] => {
+                assert_eq!(rt; up.as_str(), "up");
+                assert_eq!(rt; last.as_str().len(), 256);
+            }
+            _ => assert!(rt; false, "two names"),
+        },
+        _ => assert!(rt; false, "an enumeration"),
+    }
+    let too_long = enumerated(alloc, 257)?;
+    expect_fault(&rt, alloc, &[too_long.as_str()], (0, 0, SchemaKind::Member))
 }
 
 /// Containers nested in each other.
