@@ -1,3 +1,6 @@
+ghost use Rattle.std.specs.Prelude.{◌≡◌, [], true};
+ghost use Rattle.yp_schema.specs.Datastore.{is_place, AreWhole};
+
 use super::*;
 use std::test::Fail;
 use yp_base::atom::Atom;
@@ -280,5 +283,89 @@ fn leaves_and_leaf_list_entries_are_read_at_their_paths(rt: HostRuntime) -> Resu
     let none = Series::from_vec(Vec::new(alloc));
     let rows = read_at(alloc, 8, 11, none, r#"{"acme:own":{"other:depth":1}}"#)??;
     assert_eq!(rt; nodes_of(alloc, &rows)?.as_slice(), [11, 12].as_slice());
+    Ok(())
+}
+
+fn payload_of(alloc: Global, text: &str) -> Result<Payload, Fail> {
+    Ok(Payload::from_json(alloc, &Json::from_str(alloc, text)?)?)
+}
+
+/// What is read of a payload at the path of one of the rows of a datastore.
+#[tactic(auto, using(crate::proofs::Places::row_places))]
+fn read_at_row(
+    alloc: Global,
+    schema: &Schema,
+    rows: &Rows,
+    number: usize,
+    text: &str,
+) -> Result<Result<Rows, DataFault>, Fail>
+    requires { AreWhole schema.now [] rows.now }
+{
+    let payload = payload_of(alloc, text)?;
+    match rows.items().get(number) {
+        Some(row) => Ok(read_payload(alloc, schema, &row.path, &payload)),
+        None => Err(Fail::from("no such row")),
+    }
+}
+
+/// Whether there is one row, of this path and with this number.
+fn is_only_row(rows: &Rows, path: &Path, number: u64) -> bool {
+    match rows.items() {
+        [row] => match &row.value {
+            Value::Atom(atom) => row.path == *path && *atom == Atom::Uint(number),
+            _ => false,
+        },
+        _ => false,
+    }
+}
+
+const ETH0: &str = r#"{"acme:interfaces":{"interface":[{"name":"eth0","mtu":1500}]}}"#;
+
+#[test]
+fn a_payload_is_read_at_the_path_of_a_leaf(rt: HostRuntime) -> Result<(), Fail> {
+    let alloc = rt.alloc();
+    let schema = schema_of(alloc)?;
+    let top = Series::from_vec(Vec::new(alloc));
+    let all = read_payload(alloc, &schema, &top, &payload_of(alloc, ETH0)?)?;
+    assert_eq!(rt; nodes_of(alloc, &all)?.as_slice(), [1, 3].as_slice());
+    let rows = read_at_row(alloc, &schema, &all, 1, r#"{"acme:mtu":9000}"#)??;
+    assert_eq!(rt; nodes_of(alloc, &rows)?.as_slice(), [3].as_slice());
+    match all.items().get(1) {
+        Some(leaf) => assert!(rt; is_only_row(&rows, &leaf.path, 9000)),
+        None => return Err(Fail::from("no such row")),
+    }
+    let faults = [
+        (r#"{"acme:name":"x"}"#, DataFault::UnknownElement),
+        (r#"{"mtu":1}"#, DataFault::UnknownElement),
+        (r#"{"acme:mtux":1}"#, DataFault::UnknownElement),
+        (r#"{"acme:mtu":1,"zz":2}"#, DataFault::UnknownElement),
+        (r#"{"acme:mtu":"1"}"#, DataFault::InvalidValue),
+        (r#"{"acme:mtu":{}}"#, DataFault::InvalidValue),
+        ("{}", DataFault::InvalidValue),
+    ];
+    for (text, fault) in faults {
+        assert_eq!(rt;
+            read_at_row(alloc, &schema, &all, 1, text)?.err(),
+            Some(fault),
+            "{text}"
+        );
+    }
+    Ok(())
+}
+
+#[test]
+fn a_payload_is_read_at_the_path_of_an_entry(rt: HostRuntime) -> Result<(), Fail> {
+    let alloc = rt.alloc();
+    let schema = schema_of(alloc)?;
+    let top = Series::from_vec(Vec::new(alloc));
+    let all = read_payload(alloc, &schema, &top, &payload_of(alloc, ETH0)?)?;
+    let text = r#"{"acme:interface":[{"name":"eth0","mtu":1}]}"#;
+    let rows = read_at_row(alloc, &schema, &all, 0, text)??;
+    assert_eq!(rt; nodes_of(alloc, &rows)?.as_slice(), [1, 3].as_slice());
+    let text = r#"{"acme:interface":[{"name":"eth1"}]}"#;
+    assert_eq!(rt;
+        read_at_row(alloc, &schema, &all, 0, text)?.err(),
+        Some(DataFault::InvalidValue)
+    );
     Ok(())
 }
