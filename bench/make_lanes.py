@@ -3,8 +3,9 @@
 
     make_lanes.py N             N goes from 100 to 100,000
 
-Among 1,000 rows each lane replaces one leaf at a line, and every tenth line of a lane is a tick. A receiver
-subscribes before the lanes.
+One patch creates 64 interfaces with an mtu each, and three receivers subscribe to everything. Then each line of
+the lanes is a patch that gives one interface another mtu; each lane has interfaces of its own, one after another.
+The time passes once, behind the lanes.
 """
 
 from __future__ import annotations
@@ -14,19 +15,34 @@ import sys
 from collections.abc import Iterator
 from typing import Any
 
-from make_edits import FIRST_VALUE, ROWS_EACH, interfaces, replacing
-from make_script import SCHEMA, establish, head, write
+from make_script import SCHEMA, creation, patch, write
 
 LEAST, MOST = 100, 100_000
-COUNT = 1_000 // ROWS_EACH
+COUNT = 64
 LANES = 2
+EACH = COUNT // LANES
+FIRST_MTU = 1_500
+MTUS = 8_000
+RECEIVERS = [("first", "ann"), ("second", "bob"), ("third", "cyd")]
+
+
+def begun() -> Iterator[dict[str, Any]]:
+    """The lines up to the lanes."""
+    yield {"start": "2026-01-01T00:00:00Z"}
+    yield {"schema": SCHEMA}
+    for name, user in RECEIVERS:
+        yield {"receiver": {"name": name, "user": user, "queue": 4, "take": "auto"}}
+    entries = [{"name": f"eth{number}", "mtu": FIRST_MTU} for number in range(COUNT)]
+    yield creation(1, "/acme:interfaces", {"acme:interfaces": {"interface": entries}})
+    for name, _ in RECEIVERS:
+        yield {"establish": {"by": name, "datastore": "ietf-datastores:operational", "on-change": {}}}
 
 
 def commands(lane: int) -> Iterator[dict[str, Any]]:
-    """The commands of a lane, without end; no value is another lane's."""
-    patches = replacing(COUNT, 1, lane * FIRST_VALUE)
+    """The commands of a lane, without end. An interface never gets the mtu that it has."""
     for place in itertools.count(1):
-        yield {"tick": 10 * place} if place % 10 == 0 else next(patches)
+        target = f"/acme:interfaces/interface=eth{EACH * (lane - 1) + place % EACH}/mtu"
+        yield patch(place, [("replace", target, {"acme:mtu": FIRST_MTU + 1 + place % MTUS})])
 
 
 def lane_lines() -> Iterator[dict[str, Any]]:
@@ -39,10 +55,10 @@ def lane_lines() -> Iterator[dict[str, Any]]:
 def main() -> None:
     if len(sys.argv) != 2 or not sys.argv[1].isdigit() or not LEAST <= int(sys.argv[1]) <= MOST:
         sys.exit(__doc__)
-    begun = [*head([SCHEMA]), *interfaces(COUNT), establish(), {"lanes": LANES}]
-    write(begun)
-    write(itertools.islice(lane_lines(), int(sys.argv[1]) - len(begun) - 1))
-    write([{"join": True}])
+    before, after = [*begun(), {"lanes": LANES}], [{"join": True}, {"tick": 100_000}]
+    write(before)
+    write(itertools.islice(lane_lines(), int(sys.argv[1]) - len(before) - len(after)))
+    write(after)
 
 
 if __name__ == "__main__":

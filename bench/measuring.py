@@ -59,25 +59,24 @@ def best(runs: list[Cost]) -> Cost:
 def wanted(script: pathlib.Path) -> tuple[int, int]:
     """How many commands are accepted, and how many updates sent, where each command of a script is accepted.
 
-    A subscription is told once, and then each patch of it.
+    A subscription is told all once, and then each patch behind it.
     """
-    accepted = told = 0
-    subscribed = False
+    accepted = told = subscriptions = 0
     with script.open("rb") as lines:
         for line in lines:
             if b'{"establish":' in line:
-                subscribed = True
+                subscriptions += 1
                 told += 1
             elif b'{"patch":' in line:
                 accepted += 1
-                told += subscribed
+                told += subscriptions
             elif b'{"tick":' in line:
                 accepted += 1
     return accepted, told
 
 
 def look(script: pathlib.Path, output: pathlib.Path) -> None:
-    """Each command is accepted, each patch after the subscription is told, and the report is whole."""
+    """Each command is accepted, each patch after a subscription is told to it, and the report is whole."""
     accepted = told = 0
     last = b""
     with output.open("rb") as lines:

@@ -46,6 +46,7 @@ class Parsing:
             return []
         memory = held(f"{self.name}: the memory over the script's bytes is", cost.memory * MIB / size, MOST_MEMORY)
         if floor is None:
-            return [(f"{self.name}: the time isn't judged, since crates/parse_floor isn't built", True), memory]
+            unbuilt = "crates/parse_floor isn't built: `rt run </dev/null` in its folder builds it"
+            return [(f"{self.name}: the time over the floor's is NOT MEASURED, since {unbuilt}", False), memory]
         over = cost.processors / floor.processors
         return [held(f"{self.name}: the time over the floor's is", over, MOST_OVER_FLOOR), memory]
