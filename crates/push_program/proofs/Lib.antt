@@ -1,4 +1,3 @@
-pub mod Collects
 pub mod Concealing
 pub mod Coverings
 pub mod Edited

@@ -7,7 +7,7 @@ use Rattle.yp_base.specs.declared.path.Seg.{Seg}
 use Rattle.yp_base.specs.declared.row.Value.{Value}
 use Rattle.yp_base.specs.declared.row.Row.{Row}
 use Rattle.yp_base.specs.Order.{path_cmp}
-use Rattle.yp_base.specs.Rows.{value_at}
+use Rattle.yp_base.specs.Rows.{value_at, rows_within}
 use Rattle.yp_base.proofs.RowLaws.{picked, some_keep_order}
 use Rattle.yp_schema.specs.declared.schema.SchemaNode.{SchemaNode}
 use Rattle.yp_schema.specs.Datastore.{has_row, IsRowOf, IsDatastore}
@@ -81,3 +81,8 @@ selection_is nodes rows datastore = record {
 -- what is selected may be read
 pub selected_readable : (nodes : List SchemaNode) (rows : List Row) → AllReadable nodes (visible_rows nodes rows)
 selected_readable nodes rows = all_pass (is_readable nodes) rows
+
+-- all rows are at or below the top
+pub within_top : (rows : List Row) → rows_within [] rows ≡ rows
+within_top [] = refl
+within_top (row ∷ rows) = ap (λ xs. row ∷ xs) (within_top rows)

@@ -3,12 +3,12 @@ use Rattle.std.proofs.Common.{◌≡◌, Bool, true, false, true≢false, not, �
 use Rattle.std.specs.Prelude.{filter}
 use Rattle.std.specs.List.{list_any}
 use Rattle.std.specs.List.Sorted.{IsStrictlySortedBy}
-use Rattle.std.specs.Ordering.{ordering_reverse}
-use Rattle.std.specs.declared.cmp.Ordering.TheVariants.{Less}
+use Rattle.std.specs.Ordering.{ordering_reverse, is_gt}
+use Rattle.std.specs.declared.cmp.Ordering.TheVariants.{Less, Greater}
 use Rattle.yp_base.specs.declared.path.Seg.{Seg}
-use Rattle.yp_base.specs.Order.{path_cmp, is_within}
+use Rattle.yp_base.specs.Order.{segment_cmp, path_cmp, is_within}
 use Rattle.yp_base.specs.OrderLaws.{segments_total, paths_total}
-use Rattle.yp_base.proofs.Fronts.{fronts_together}
+use Rattle.yp_base.proofs.Fronts.{fronts_together, front_not_after}
 use Rattle.yp_data_json.proofs.AtPlace.{front_rest}
 use Rattle.yp_data_json.proofs.Growing.{within_more}
 use Rattle.yp_tree.proofs.Nexts.{less_not_greater}
@@ -16,7 +16,14 @@ use Rattle.yp_edit.proofs.Alike.{IsBefore}
 use Rattle.yp_edit.proofs.Walking.{within_itself}
 use Rattle.push_program.specs.Records.{is_above, roots_of}
 use Rattle.push_program.specs.Roots.{is_covered}
-use Rattle.push_program.proofs.Collects.{outside}
+
+-- what comes before a path isn't at or below it
+outside : (path other : List Seg) → path_cmp path other ≡ Greater → is_within path other ≡ false
+outside path other after =
+    elim (is_within path other) as (λ w. is_within path other ≡ w → w ≡ false) [
+      | true ↦ λ within. absurd (true≢false (ap is_gt (sym after) ∙ front_not_after segment_cmp path other within))
+      | false ↦ λ within. refl
+    ] refl
 
 -- a path at or below one that is at or below another is so too
 within_both : (one two path : List Seg) → is_within one two ≡ true → is_within two path ≡ true → is_within one path ≡ true

@@ -1,6 +1,5 @@
 pub mod Access
 pub mod Answers
-pub mod Collected
 pub mod Concealed
 pub mod Desks
 pub mod Notices

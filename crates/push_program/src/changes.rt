@@ -12,7 +12,6 @@ ghost use Rattle.push_program.specs.Records.{change_record};
 ghost use Rattle.push_program.specs.Roots.{is_covered, kind_of, carried_below, edit_of, visits_at, record_visits};
 
 use crate::access::{may_read, read_visible};
-use crate::collect::collect_within;
 use std::alloc::Global;
 use std::sync::ledger::Ledger;
 use yp_base::memory::{Duplicate, NoMemory};
@@ -69,7 +68,7 @@ fn carried_below<L: Ledger>(
     ensures visits { OnOk result (steps.new ≤ steps.old + visits_at rows.now row.now.path) }
 {
     if row.new.is_some() {
-        let all = collect_within(alloc, rows, &row.path, steps)?;
+        let all = rows.rows_within(alloc, &row.path, steps)?;
         let carried = read_visible(alloc, schema, all)?;
         Ok(carried)
     } else {

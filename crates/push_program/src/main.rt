@@ -3,7 +3,6 @@
 
 mod access;
 mod changes;
-mod collect;
 pub mod desk;
 mod hearing;
 pub mod progress;

@@ -5,11 +5,11 @@ ghost use Rattle.yp_script.specs.Script.{MayRun, count_commands};
 ghost use Rattle.push_program.specs.Progress.{Ready, held_line, mirror_lines, desk_lines};
 ghost use Rattle.push_program.specs.Report.{report_text};
 
-use crate::collect::collect;
 use crate::desk::Desk;
 use crate::progress::Progress;
 use crate::run::run_all;
 use crate::telling::push_tree;
+use crate::updates::all_rows;
 use std::alloc::Global;
 use std::marker::Brand;
 use std::sync::ledger::{Blank, Ledger};
@@ -34,7 +34,7 @@ fn push_held<L: Ledger>(
     ensures { OnOk result (string_bytes text.new ≡ string_bytes text.old ++ held_line schema.now desk.now subscription.now held.now) }
 {
     if u64::from(subscription.receiver) == desk.number() {
-        let rows = collect(alloc, held, steps)?;
+        let rows = all_rows(alloc, held, steps)?;
         push_tree(alloc, text, schema, desk.name(), subscription.id, &rows)?;
     }
     Ok(())

@@ -7,18 +7,31 @@ ghost use Rattle.push_program.specs.Desks.{with_lines, changes_for, notice_for};
 ghost use Rattle.push_program.specs.Notices.{selection};
 
 use crate::access::read_visible;
-use crate::collect::collect;
 use crate::desk::Desk;
 use std::alloc::Global;
 use std::sync::ledger::Ledger;
 use yp_base::memory::NoMemory;
 use yp_base::notice::{Changes, Notice};
 use yp_base::row::Rows;
+use yp_base::series::Series;
 use yp_base::steps::Steps;
 use yp_journal::subscription::Subscription;
 use yp_schema::schema::Schema;
 use yp_time::start::Start;
 use yp_tree::tree::Tree;
+
+/// The rows of a tree, in order.
+pub fn all_rows<L: Ledger>(
+    alloc: Global,
+    tree: &Tree,
+    steps: &mut Steps<L>,
+) -> Result<Rows, NoMemory>
+    ensures { IfOk result (λ rows. rows ≡ tree.now) }
+{
+    let top = Series::from_vec(Vec::new(alloc));
+    let rows = tree.rows_within(alloc, &top, steps)?;
+    Ok(rows)
+}
 
 /// What a subscription of everything selects.
 pub fn select<L: Ledger>(
@@ -32,7 +45,7 @@ pub fn select<L: Ledger>(
     ensures writable { IfOk result (λ selected. AreWritable schema.now [] selected) }
 {
     let _len = rows.len();
-    let all = collect(alloc, rows, steps)?;
+    let all = all_rows(alloc, rows, steps)?;
     let selected = read_visible(alloc, schema, all)?;
     Ok(selected)
 }
