@@ -6,13 +6,13 @@
 //! `specs/Escapes.antt` how keys are escaped (RFC 3986 section 2.1).
 #![tactic(auto)]
 
-pub mod cut;
-pub mod escape;
+mod cut;
+mod escape;
 pub mod fault;
 pub mod laws;
-pub mod mark;
-pub mod name;
-pub mod predicate;
+mod mark;
+mod name;
+mod predicate;
 pub mod rule;
 pub mod target;
 #[cfg(test)]

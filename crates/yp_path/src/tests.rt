@@ -251,79 +251,78 @@ fn a_rule_path_has_some_or_all_keys(rt: HostRuntime) -> Result<(), Fail> {
     Ok(())
 }
 
-#[test]
-fn a_rule_path_has_the_least_fault_of_its_leftmost_segment(rt: HostRuntime) -> Result<(), Fail> {
-    let cases = [
-        ("", PathFault::Syntax),
-        ("/", PathFault::Syntax),
-        ("acme:interfaces", PathFault::Syntax),
-        ("//acme:interfaces", PathFault::Syntax),
-        ("/acme:interfaces/", PathFault::Syntax),
-        ("/acme:interfaces/[name='a']", PathFault::Syntax),
-        ("/acme:interfaces/interface[name='a'", PathFault::Syntax),
-        ("/acme:interfaces/interface[name='a\"]", PathFault::Syntax),
-        ("/acme:interfaces/interface[name=a]", PathFault::Syntax),
-        ("/acme:interfaces/interface[name]", PathFault::Syntax),
-        ("/acme:interfaces/interface[]", PathFault::Syntax),
-        ("/acme:interfaces/interface[='a']", PathFault::Syntax),
-        ("/acme:interfaces/interface[na me='a']", PathFault::Syntax),
-        ("/acme:interfaces/interface[name='a'b]", PathFault::Syntax),
-        ("/acme:interfaces/interface[name='a'\t]", PathFault::Syntax),
-        ("/acme:interfaces/interface[name='a']x", PathFault::Syntax),
-        ("/acme:interfaces/interface[name='a'] ", PathFault::Syntax),
-        ("/acme:interfaces/interface[name='a']]", PathFault::Syntax),
-        (
-            "/acme:routes/route[prefix='a'] [metric='1']",
-            PathFault::Syntax,
-        ),
-        ("/acme:nope[name]", PathFault::Syntax),
-        ("/acme:nope", PathFault::UnknownNode),
-        ("/interfaces", PathFault::UnknownNode),
-        ("/acme:interfaces /interface", PathFault::UnknownNode),
-        ("/acme:nope[name='a']/[", PathFault::UnknownNode),
-        ("/acme:interfaces/interface=eth0", PathFault::UnknownNode),
-        ("/acme:interfaces[name='a']", PathFault::KeyCount),
-        ("/acme:interfaces/interface[mtu='1']", PathFault::KeyCount),
-        ("/acme:interfaces/interface[.='a']", PathFault::KeyCount),
-        (
-            "/acme:interfaces/interface[extra:name='a']",
-            PathFault::KeyCount,
-        ),
-        (
-            "/acme:interfaces/interface[name='a'][acme:name='a']",
-            PathFault::KeyCount,
-        ),
-        ("/acme:interfaces/interface/mtu[.='1']", PathFault::KeyCount),
-        (
-            "/acme:interfaces/interface/extra:vlan[extra:vlan='1']",
-            PathFault::KeyCount,
-        ),
-        (
-            "/acme:interfaces/interface/extra:vlan[.='1'][.='2']",
-            PathFault::KeyCount,
-        ),
-        (
-            "/acme:routes/route[metric='x'][metric='y']",
-            PathFault::KeyCount,
-        ),
-        (
-            "/acme:routes/route[metric='256'][nope='1']",
-            PathFault::KeyCount,
-        ),
-        ("/acme:routes/route[metric='256']", PathFault::KeyValue),
-        ("/acme:routes/route[metric='']", PathFault::KeyValue),
-        (
-            "/acme:interfaces/interface/extra:vlan[.='x']/nope",
-            PathFault::KeyValue,
-        ),
-    ];
-    let alloc = rt.alloc();
-    let schema = schema(&rt, alloc)?;
-    for (text, expected) in cases {
-        match read_rule_path(alloc, &schema, text) {
-            Ok(_) => rt.panic(text),
+const MALFORMED: [&str; 20] = [
+    "",
+    "/",
+    "acme:interfaces",
+    "//acme:interfaces",
+    "/acme:interfaces/",
+    "/acme:interfaces/[name='a']",
+    "/acme:interfaces/interface[name='a'",
+    "/acme:interfaces/interface[name='a\"]",
+    "/acme:interfaces/interface[name=a]",
+    "/acme:interfaces/interface[name]",
+    "/acme:interfaces/interface[]",
+    "/acme:interfaces/interface[='a']",
+    "/acme:interfaces/interface[na me='a']",
+    "/acme:interfaces/interface[name='a'b]",
+    "/acme:interfaces/interface[name='a'\t]",
+    "/acme:interfaces/interface[name='a']x",
+    "/acme:interfaces/interface[name='a'] ",
+    "/acme:interfaces/interface[name='a']]",
+    "/acme:routes/route[prefix='a'] [metric='1']",
+    "/acme:nope[name]",
+];
+
+const UNKNOWN: [&str; 5] = [
+    "/acme:nope",
+    "/interfaces",
+    "/acme:interfaces /interface",
+    "/acme:nope[name='a']/[",
+    "/acme:interfaces/interface=eth0",
+];
+
+const MISKEYED: [&str; 10] = [
+    "/acme:interfaces[name='a']",
+    "/acme:interfaces/interface[mtu='1']",
+    "/acme:interfaces/interface[.='a']",
+    "/acme:interfaces/interface[extra:name='a']",
+    "/acme:interfaces/interface[name='a'][acme:name='a']",
+    "/acme:interfaces/interface/mtu[.='1']",
+    "/acme:interfaces/interface/extra:vlan[extra:vlan='1']",
+    "/acme:interfaces/interface/extra:vlan[.='1'][.='2']",
+    "/acme:routes/route[metric='x'][metric='y']",
+    "/acme:routes/route[metric='256'][nope='1']",
+];
+
+const MISVALUED: [&str; 3] = [
+    "/acme:routes/route[metric='256']",
+    "/acme:routes/route[metric='']",
+    "/acme:interfaces/interface/extra:vlan[.='x']/nope",
+];
+
+/// Whether each of these rule paths has this fault.
+fn all_have(
+    rt: &impl Abort,
+    alloc: Global,
+    texts: &[&str],
+    expected: PathFault,
+) -> Result<(), Fail> {
+    let schema = schema(rt, alloc)?;
+    for text in texts {
+        match read_rule_path(alloc, &schema, *text) {
+            Ok(_) => rt.panic(*text),
             Err(fault) => assert_eq!(rt; fault, expected, "{text}"),
         }
     }
     Ok(())
+}
+
+#[test]
+fn a_rule_path_has_the_least_fault_of_its_leftmost_segment(rt: HostRuntime) -> Result<(), Fail> {
+    let alloc = rt.alloc();
+    all_have(&rt, alloc, &MALFORMED, PathFault::Syntax)?;
+    all_have(&rt, alloc, &UNKNOWN, PathFault::UnknownNode)?;
+    all_have(&rt, alloc, &MISKEYED, PathFault::KeyCount)?;
+    all_have(&rt, alloc, &MISVALUED, PathFault::KeyValue)
 }
