@@ -1,3 +1,4 @@
+pub mod Covered
 pub mod Cuts
 pub mod Nexts
 pub mod Rows

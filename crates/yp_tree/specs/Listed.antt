@@ -1,10 +1,12 @@
 -- The entries of an ordered map as rows, and the rows without one.
-use Rattle.std.specs.Prelude.{List, [], ◌∷◌, map, if◌then◌else◌}
+use Rattle.std.specs.Prelude.{◌≡◌, List, [], ◌∷◌, map, true, is_some, if◌then◌else◌}
+use Rattle.std.specs.List.{AllByRecursion}
 use Rattle.std.specs.Ordering.{is_eq}
 use Rattle.yp_base.specs.declared.path.Seg.{Seg}
 use Rattle.yp_base.specs.declared.row.Value.{Value}
 use Rattle.yp_base.specs.declared.row.Row.{Row}
 use Rattle.yp_base.specs.Order.{path_cmp}
+use Rattle.yp_base.specs.Rows.{value_at}
 
 -- a path and a value as a row
 abbrev pub row_of : List Seg × Value → Row
@@ -17,3 +19,7 @@ rows_of es = map row_of es
 abbrev pub without_row : List Seg → List Row → List Row
 without_row path [] = []
 without_row path (row ∷ rows) = if is_eq (path_cmp path row.path) then rows else row ∷ without_row path rows
+
+-- each of some paths has a row
+abbrev pub HaveRows : List Row → List (List Seg) → Type 0
+HaveRows rows paths = AllByRecursion (λ path. is_some (value_at path rows) ≡ true) paths

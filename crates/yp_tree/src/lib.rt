@@ -4,7 +4,7 @@
 //! Contracts see a `Tree` as the list of its rows, in the order of their paths and with no path twice.
 //! It needn't hold the rows above a row. `get`, `next` and `first_within` read it and count one visit
 //! each, `within` and `rows_within` count one for each row that they give and one more, and there is no
-//! other way to read its rows; `put`, `cut` and `remove` change it.
+//! other way to read its rows; `put`, `cut`, `remove` and `renew` change it.
 #![tactic(auto)]
 
 #[cfg(test)]

@@ -304,6 +304,28 @@ fn a_row_put_again_has_its_new_value(rt: HostRuntime) -> Result<(), Fail> {
 }
 
 #[test]
+fn renewed_rows_take_the_place_of_those_below(rt: HostRuntime) -> Result<(), Fail> {
+    let alloc = rt.alloc();
+    let mut tree = tree_of(alloc, entries_and_leaves(alloc, &["a", "b"])?)?;
+    let under = entry(alloc, "a")?;
+    let mut both = Tree::new(alloc);
+    put_number(&mut both, alloc, entry(alloc, "a")?, 1)?;
+    put_number(&mut both, alloc, leaf(alloc, "a")?, 2)?;
+    tree.renew(alloc, &under, &both.cut(alloc, &under)?)?;
+    assert_eq!(rt; tree.len(), 4);
+    let value = found(&tree, &leaf(alloc, "a")?);
+    assert!(rt; matches!(&value, Some(Value::Atom(Atom::Uint(2)))));
+    let mut one = Tree::new(alloc);
+    put_number(&mut one, alloc, leaf(alloc, "a")?, 3)?;
+    tree.renew(alloc, &under, &one.cut(alloc, &under)?)?;
+    assert!(rt; found(&tree, &under).is_none(), "no other row stays below");
+    let value = found(&tree, &leaf(alloc, "a")?);
+    assert!(rt; matches!(&value, Some(Value::Atom(Atom::Uint(3)))));
+    assert_eq!(rt; tree.len(), 3);
+    Ok(())
+}
+
+#[test]
 fn a_copy_stays_as_it_was(rt: HostRuntime) -> Result<(), Fail> {
     let alloc = rt.alloc();
     let mut tree = tree_of(alloc, entries(alloc, &["a", "b"])?)?;

@@ -1,9 +1,9 @@
 //! Rows in an ordered map.
-ghost use Rattle.std.specs.Prelude.{◌≡◌, ◌+◌, ◌^◌, ◌<◌, ◌≤◌, [], None, is_some, length, slice_get, map, option_map, option_copied, OnOk, OnErr, IfOk};
+ghost use Rattle.std.specs.Prelude.{◌≡◌, ◌+◌, ◌^◌, ◌<◌, ◌≤◌, [], None, true, is_some, length, slice_get, map, option_map, option_copied, OnOk, OnErr, IfOk};
 ghost use Rattle.std.specs.Bound.{bound_map};
-ghost use Rattle.yp_base.specs.Rows.{path_of, value_at, put_row, next_row, has_within, rows_within, rows_without, AreInOrder};
+ghost use Rattle.yp_base.specs.Rows.{path_of, value_at, put_row, put_rows, next_row, has_within, rows_within, rows_without, AreInOrder};
 ghost use Rattle.yp_tree.specs.Begins.{Begins};
-ghost use Rattle.yp_tree.specs.Listed.{row_of, without_row};
+ghost use Rattle.yp_tree.specs.Listed.{HaveRows, row_of, without_row};
 
 use std::alloc::Global;
 use std::collections::BTreeMap;
@@ -182,6 +182,14 @@ impl Tree {
         Ok(Series::from_vec(rows))
     }
 
+    /// Puts rows in the place of those at or below a path. After `NoMemory` some of them may be out or in.
+    pub fn renew(&mut self, alloc: Global, under: &Path, rows: &Rows) -> Result<(), NoMemory>
+        ensures { OnOk result (self.new ≡ put_rows rows.now (rows_without under.now self.old)) }
+    {
+        self.make_room(alloc, under, rows)?;
+        self.put_copies(alloc, rows)
+    }
+
     /// Takes out the row that has this path, and gives its value; `None` where there is no such row. It
     /// takes no memory.
     pub fn remove(&mut self, path: &Path) -> Option<Value>
@@ -189,6 +197,51 @@ impl Tree {
         ensures rest { self.new ≡ without_row path.now self.old }
     {
         self.kept.remove(path)
+    }
+
+    // Takes out the rows at or below a path, unless each of them is to get another value.
+    fn make_room(&mut self, alloc: Global, under: &Path, rows: &Rows) -> Result<(), NoMemory>
+        ensures { OnOk result (put_rows rows.now self.new ≡ put_rows rows.now (rows_without under.now self.old)) }
+    {
+        if self.is_covered(under, rows) {
+            return Ok(());
+        }
+        let _cut = self.cut(alloc, under)?;
+        Ok(())
+    }
+
+    // Whether the rows at or below a path have the paths of the first of these rows, in their order.
+    fn is_covered(&self, under: &Path, rows: &Rows) -> bool
+        ensures order { AreInOrder self.now }
+        ensures covered { result ≡ true → HaveRows rows.now (map path_of (rows_within under.now self.now)) }
+    {
+        let mut kept = self.kept.range((Bound::Included(under), Bound::Unbounded));
+        let mut rest = rows.items();
+        while let Some((old, _value)) = kept.next() {
+            if !is_prefix(under, old) {
+                break;
+            }
+            match rest.split_first() {
+                Some((row, more)) => {
+                    if !row.path.cmp(old).is_eq() {
+                        return false;
+                    }
+                    rest = more;
+                }
+                None => return false,
+            }
+        }
+        true
+    }
+
+    // Puts copies of rows, one after another.
+    fn put_copies(&mut self, alloc: Global, rows: &Rows) -> Result<(), NoMemory>
+        ensures { OnOk result (self.new ≡ put_rows rows.now self.old) }
+    {
+        for row in rows.items() {
+            self.put(alloc, row.copy(alloc)?)?;
+        }
+        Ok(())
     }
 
     // Copies of the paths of the rows at or below a path.
