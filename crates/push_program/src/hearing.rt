@@ -35,8 +35,7 @@ pub fn hear_full(alloc: Global, rows: &Rows) -> Result<Tree, NoMemory>
 fn hear_change(alloc: Global, change: &Change, held: &mut Tree) -> Result<(), NoMemory>
     ensures { OnOk result (held.new ≡ put_rows change.now.rows (rows_without change.now.target held.old)) }
 {
-    held.cut(alloc, &change.target)?;
-    put_all(alloc, held, &change.rows)
+    held.renew(alloc, &change.target, &change.rows)
 }
 
 /// What the edits of a change update do to them, in order.
