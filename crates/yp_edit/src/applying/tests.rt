@@ -269,72 +269,74 @@ fn each_operation_changes_what_it_says(rt: HostRuntime) -> Result<(), Fail> {
     ends(&rt, rt.alloc(), steps.as_slice(), 1)
 }
 
+/// Each refusal of a patch's first edit, and the rows that are there for some.
+const REFUSALS: [(&str, &str); 22] = [
+    CREATED,
+    ("remove /acme:nope", "refused 0 UnknownElement"),
+    ("remove ~%zz", "refused 0 InvalidValue"),
+    (
+        "remove /acme:interfaces/interface",
+        "refused 0 InvalidValue",
+    ),
+    ("remove /acme:tags/tag=x", "refused 0 InvalidValue"),
+    (
+        r#"replace ~eth0/name {"acme:name":"eth0"}"#,
+        "refused 0 InvalidValue /acme:interfaces/interface=eth0/name",
+    ),
+    (
+        "delete ~a%2cb/name",
+        "refused 0 InvalidValue /acme:interfaces/interface=a%2Cb/name",
+    ),
+    ("move ~eth0", "refused 0 InvalidValue"),
+    (
+        r#"insert ~eth1 {"acme:interface":[{"name":"eth1"}]}"#,
+        "refused 0 InvalidValue",
+    ),
+    (
+        r#"merge ~eth0 {"acme:interface":[{"name":"eth0","mtux":1}]}"#,
+        "refused 0 UnknownElement",
+    ),
+    (
+        r#"merge ~eth0 {"acme:interface":[{"name":"eth0","mtu":65536}]}"#,
+        "refused 0 InvalidValue",
+    ),
+    (
+        r#"merge ~eth0 {"acme:interface":[{"name":"eth1"}]}"#,
+        "refused 0 InvalidValue",
+    ),
+    (
+        r#"merge ~eth0 {"acme:interface":[{"mtu":1}]}"#,
+        "refused 0 InvalidValue",
+    ),
+    (
+        r#"merge /acme:tags {"acme:tags":{"tag":[1,1]}}"#,
+        "refused 0 InvalidValue",
+    ),
+    (
+        r#"create ~eth1/mtu {"acme:mtu":1}"#,
+        "refused 0 DataMissing",
+    ),
+    (r#"merge ~eth1/mtu {"acme:mtu":1}"#, "refused 0 DataMissing"),
+    (
+        r#"replace /acme:box/note {"acme:note":"n"}"#,
+        "refused 0 DataMissing",
+    ),
+    ("delete ~eth9", "refused 0 DataMissing"),
+    ("delete ~eth0/stats", "refused 0 DataMissing"),
+    (
+        r#"create ~eth0 {"acme:interface":[{"name":"eth0"}]}"#,
+        "refused 0 DataExists",
+    ),
+    (
+        r#"create /acme:interfaces {"acme:interfaces":{}}"#,
+        "refused 0 DataExists",
+    ),
+    REMOVED,
+];
+
 #[test]
 fn each_refusal_has_its_error(rt: HostRuntime) -> Result<(), Fail> {
-    let steps = [
-        CREATED,
-        ("remove /acme:nope", "refused 0 UnknownElement"),
-        ("remove ~%zz", "refused 0 InvalidValue"),
-        (
-            "remove /acme:interfaces/interface",
-            "refused 0 InvalidValue",
-        ),
-        ("remove /acme:tags/tag=x", "refused 0 InvalidValue"),
-        (
-            r#"replace ~eth0/name {"acme:name":"eth0"}"#,
-            "refused 0 InvalidValue /acme:interfaces/interface=eth0/name",
-        ),
-        (
-            "delete ~a%2cb/name",
-            "refused 0 InvalidValue /acme:interfaces/interface=a%2Cb/name",
-        ),
-        ("move ~eth0", "refused 0 InvalidValue"),
-        (
-            r#"insert ~eth1 {"acme:interface":[{"name":"eth1"}]}"#,
-            "refused 0 InvalidValue",
-        ),
-        (
-            r#"merge ~eth0 {"acme:interface":[{"name":"eth0","mtux":1}]}"#,
-            "refused 0 UnknownElement",
-        ),
-        (
-            r#"merge ~eth0 {"acme:interface":[{"name":"eth0","mtu":65536}]}"#,
-            "refused 0 InvalidValue",
-        ),
-        (
-            r#"merge ~eth0 {"acme:interface":[{"name":"eth1"}]}"#,
-            "refused 0 InvalidValue",
-        ),
-        (
-            r#"merge ~eth0 {"acme:interface":[{"mtu":1}]}"#,
-            "refused 0 InvalidValue",
-        ),
-        (
-            r#"merge /acme:tags {"acme:tags":{"tag":[1,1]}}"#,
-            "refused 0 InvalidValue",
-        ),
-        (
-            r#"create ~eth1/mtu {"acme:mtu":1}"#,
-            "refused 0 DataMissing",
-        ),
-        (r#"merge ~eth1/mtu {"acme:mtu":1}"#, "refused 0 DataMissing"),
-        (
-            r#"replace /acme:box/note {"acme:note":"n"}"#,
-            "refused 0 DataMissing",
-        ),
-        ("delete ~eth9", "refused 0 DataMissing"),
-        ("delete ~eth0/stats", "refused 0 DataMissing"),
-        (
-            r#"create ~eth0 {"acme:interface":[{"name":"eth0"}]}"#,
-            "refused 0 DataExists",
-        ),
-        (
-            r#"create /acme:interfaces {"acme:interfaces":{}}"#,
-            "refused 0 DataExists",
-        ),
-        REMOVED,
-    ];
-    ends(&rt, rt.alloc(), steps.as_slice(), 0)
+    ends(&rt, rt.alloc(), &REFUSALS, 0)
 }
 
 #[test]
