@@ -13,6 +13,13 @@ const OTHER_ESTABLISH: &str =
     r#"{"establish":{"by":"r2","datastore":"ietf-datastores:operational","on-change":{}}}
 "#;
 
+const THIRD_RECEIVER: &str = r#"{"receiver":{"name":"r3","user":"cyd","queue":4,"take":"auto"}}
+"#;
+
+const THIRD_ESTABLISH: &str =
+    r#"{"establish":{"by":"r3","datastore":"ietf-datastores:operational","on-change":{}}}
+"#;
+
 const REPLACE: &str =
     r#"{"patch":{"ietf-yang-patch:yang-patch":{"patch-id":"p","edit":[{"edit-id":"1","operation":"replace","target":"/acme:interfaces/interface=eth0/mtu","value":{"acme:mtu":9000}}]}}}
 "#;
@@ -250,61 +257,98 @@ fn lane_replies(alloc: Global, lane: u32, before: u32) -> Result<String, NoMemor
     Ok(text)
 }
 
-// All replies of two receivers' subscriptions and the lanes.
+// All replies of three receivers' subscriptions and the lanes.
 fn busy_replies(alloc: Global) -> Result<String, NoMemory> {
-    let first = lane_replies(alloc, 1, 3)?;
-    let second = lane_replies(alloc, 2, 503)?;
+    let first = lane_replies(alloc, 1, 4)?;
+    let second = lane_replies(alloc, 2, 504)?;
     joined(
         alloc,
         &[
             "reply 1 0 1 {\"ok\":true}\n",
             "reply 2 0 2 {\"id\":2147483648}\n",
             "reply 3 0 3 {\"id\":2147483649}\n",
+            "reply 4 0 4 {\"id\":2147483650}\n",
             first.as_str(),
             second.as_str(),
-            "reply 1004 0 4 {\"ok\":true}\n",
+            "reply 1005 0 5 {\"ok\":true}\n",
             "to r1 ",
         ],
     )
 }
 
-// Behind 500 commands interface n has the mtu of the last command whose number is n modulo 32.
-const BUSY_TREE: &str =
-    r#"tree r2 2147483649 {"acme:interfaces":{"interface":[{"enabled":true,"mtu":1980,"name":"eth0"},{"enabled":true,"mtu":1981,"name":"eth1"},{"enabled":true,"mtu":1990,"name":"eth10"},{"enabled":true,"mtu":1991,"name":"eth11"},{"enabled":true,"mtu":1992,"name":"eth12"},{"enabled":true,"mtu":1993,"name":"eth13"},{"enabled":true,"mtu":1994,"name":"eth14"},{"enabled":true,"mtu":1995,"name":"eth15"},{"enabled":true,"mtu":1996,"name":"eth16"},{"enabled":true,"mtu":1997,"name":"eth17"},{"enabled":true,"mtu":1998,"name":"eth18"},{"enabled":true,"mtu":1999,"name":"eth19"},{"enabled":true,"mtu":1982,"name":"eth2"},{"enabled":true,"mtu":2000,"name":"eth20"},{"enabled":true,"mtu":1969,"name":"eth21"},{"enabled":true,"mtu":1970,"name":"eth22"},{"enabled":true,"mtu":1971,"name":"eth23"},{"enabled":true,"mtu":1972,"name":"eth24"},{"enabled":true,"mtu":1973,"name":"eth25"},{"enabled":true,"mtu":1974,"name":"eth26"},{"enabled":true,"mtu":1975,"name":"eth27"},{"enabled":true,"mtu":1976,"name":"eth28"},{"enabled":true,"mtu":1977,"name":"eth29"},{"enabled":true,"mtu":1983,"name":"eth3"},{"enabled":true,"mtu":1978,"name":"eth30"},{"enabled":true,"mtu":1979,"name":"eth31"},{"enabled":true,"mtu":1980,"name":"eth32"},{"enabled":true,"mtu":1981,"name":"eth33"},{"enabled":true,"mtu":1982,"name":"eth34"},{"enabled":true,"mtu":1983,"name":"eth35"},{"enabled":true,"mtu":1984,"name":"eth36"},{"enabled":true,"mtu":1985,"name":"eth37"},{"enabled":true,"mtu":1986,"name":"eth38"},{"enabled":true,"mtu":1987,"name":"eth39"},{"enabled":true,"mtu":1984,"name":"eth4"},{"enabled":true,"mtu":1988,"name":"eth40"},{"enabled":true,"mtu":1989,"name":"eth41"},{"enabled":true,"mtu":1990,"name":"eth42"},{"enabled":true,"mtu":1991,"name":"eth43"},{"enabled":true,"mtu":1992,"name":"eth44"},{"enabled":true,"mtu":1993,"name":"eth45"},{"enabled":true,"mtu":1994,"name":"eth46"},{"enabled":true,"mtu":1995,"name":"eth47"},{"enabled":true,"mtu":1996,"name":"eth48"},{"enabled":true,"mtu":1997,"name":"eth49"},{"enabled":true,"mtu":1985,"name":"eth5"},{"enabled":true,"mtu":1998,"name":"eth50"},{"enabled":true,"mtu":1999,"name":"eth51"},{"enabled":true,"mtu":2000,"name":"eth52"},{"enabled":true,"mtu":1969,"name":"eth53"},{"enabled":true,"mtu":1970,"name":"eth54"},{"enabled":true,"mtu":1971,"name":"eth55"},{"enabled":true,"mtu":1972,"name":"eth56"},{"enabled":true,"mtu":1973,"name":"eth57"},{"enabled":true,"mtu":1974,"name":"eth58"},{"enabled":true,"mtu":1975,"name":"eth59"},{"enabled":true,"mtu":1986,"name":"eth6"},{"enabled":true,"mtu":1976,"name":"eth60"},{"enabled":true,"mtu":1977,"name":"eth61"},{"enabled":true,"mtu":1978,"name":"eth62"},{"enabled":true,"mtu":1979,"name":"eth63"},{"enabled":true,"mtu":1987,"name":"eth7"},{"enabled":true,"mtu":1988,"name":"eth8"},{"enabled":true,"mtu":1989,"name":"eth9"}]}}
-end
-"#;
+// Behind 500 commands interface n has the mtu of the last command whose number is n modulo 32. Each
+// receiver may read all of it.
+const BUSY_ROWS: &str =
+    r#"{"acme:interfaces":{"interface":[{"enabled":true,"mtu":1980,"name":"eth0"},{"enabled":true,"mtu":1981,"name":"eth1"},{"enabled":true,"mtu":1990,"name":"eth10"},{"enabled":true,"mtu":1991,"name":"eth11"},{"enabled":true,"mtu":1992,"name":"eth12"},{"enabled":true,"mtu":1993,"name":"eth13"},{"enabled":true,"mtu":1994,"name":"eth14"},{"enabled":true,"mtu":1995,"name":"eth15"},{"enabled":true,"mtu":1996,"name":"eth16"},{"enabled":true,"mtu":1997,"name":"eth17"},{"enabled":true,"mtu":1998,"name":"eth18"},{"enabled":true,"mtu":1999,"name":"eth19"},{"enabled":true,"mtu":1982,"name":"eth2"},{"enabled":true,"mtu":2000,"name":"eth20"},{"enabled":true,"mtu":1969,"name":"eth21"},{"enabled":true,"mtu":1970,"name":"eth22"},{"enabled":true,"mtu":1971,"name":"eth23"},{"enabled":true,"mtu":1972,"name":"eth24"},{"enabled":true,"mtu":1973,"name":"eth25"},{"enabled":true,"mtu":1974,"name":"eth26"},{"enabled":true,"mtu":1975,"name":"eth27"},{"enabled":true,"mtu":1976,"name":"eth28"},{"enabled":true,"mtu":1977,"name":"eth29"},{"enabled":true,"mtu":1983,"name":"eth3"},{"enabled":true,"mtu":1978,"name":"eth30"},{"enabled":true,"mtu":1979,"name":"eth31"},{"enabled":true,"mtu":1980,"name":"eth32"},{"enabled":true,"mtu":1981,"name":"eth33"},{"enabled":true,"mtu":1982,"name":"eth34"},{"enabled":true,"mtu":1983,"name":"eth35"},{"enabled":true,"mtu":1984,"name":"eth36"},{"enabled":true,"mtu":1985,"name":"eth37"},{"enabled":true,"mtu":1986,"name":"eth38"},{"enabled":true,"mtu":1987,"name":"eth39"},{"enabled":true,"mtu":1984,"name":"eth4"},{"enabled":true,"mtu":1988,"name":"eth40"},{"enabled":true,"mtu":1989,"name":"eth41"},{"enabled":true,"mtu":1990,"name":"eth42"},{"enabled":true,"mtu":1991,"name":"eth43"},{"enabled":true,"mtu":1992,"name":"eth44"},{"enabled":true,"mtu":1993,"name":"eth45"},{"enabled":true,"mtu":1994,"name":"eth46"},{"enabled":true,"mtu":1995,"name":"eth47"},{"enabled":true,"mtu":1996,"name":"eth48"},{"enabled":true,"mtu":1997,"name":"eth49"},{"enabled":true,"mtu":1985,"name":"eth5"},{"enabled":true,"mtu":1998,"name":"eth50"},{"enabled":true,"mtu":1999,"name":"eth51"},{"enabled":true,"mtu":2000,"name":"eth52"},{"enabled":true,"mtu":1969,"name":"eth53"},{"enabled":true,"mtu":1970,"name":"eth54"},{"enabled":true,"mtu":1971,"name":"eth55"},{"enabled":true,"mtu":1972,"name":"eth56"},{"enabled":true,"mtu":1973,"name":"eth57"},{"enabled":true,"mtu":1974,"name":"eth58"},{"enabled":true,"mtu":1975,"name":"eth59"},{"enabled":true,"mtu":1986,"name":"eth6"},{"enabled":true,"mtu":1976,"name":"eth60"},{"enabled":true,"mtu":1977,"name":"eth61"},{"enabled":true,"mtu":1978,"name":"eth62"},{"enabled":true,"mtu":1979,"name":"eth63"},{"enabled":true,"mtu":1987,"name":"eth7"},{"enabled":true,"mtu":1988,"name":"eth8"},{"enabled":true,"mtu":1989,"name":"eth9"}]}}"#;
 
-// Whether a run of this text writes a report that begins and ends so.
-fn is_framed(alloc: Global, text: String, start: &str, end: &str) -> Result<bool, NoMemory> {
+// What a run of this text writes, where it is done.
+fn report_of(alloc: Global, text: String) -> Result<String, NoMemory> {
     let mut source = MemSource::new(text.into_bytes(), 65_536, Vec::new(alloc));
-    let mut sink = MemSink::with_room(alloc, 1_000_000, 1_000_000, Vec::new(alloc))?;
+    let mut sink = MemSink::with_room(alloc, 2_000_000, 2_000_000, Vec::new(alloc))?;
     let words = run_words(alloc)?;
-    let status = push_main(alloc, words.as_slice(), &mut source, &mut sink);
-    let bytes = sink.bytes();
-    let framed = bytes.starts_with(start.as_bytes()) && bytes.ends_with(end.as_bytes());
-    Ok(status == Status::Done && framed)
+    match push_main(alloc, words.as_slice(), &mut source, &mut sink) {
+        Status::Done => match std::str::from_utf8(sink.bytes()) {
+            Ok(report) => Ok(String::from_str(alloc, report)?),
+            Err(_) => Ok(String::new(alloc)),
+        },
+        _ => Ok(String::new(alloc)),
+    }
 }
 
-#[test]
-fn of_two_busy_lanes_each_command_counts_in_its_order(rt: HostRuntime) -> Result<(), Fail> {
-    let alloc = rt.alloc();
+// How many lines of a text begin so.
+fn count_begun(text: &str, start: &str) -> u32 {
+    let mut count = 0u32;
+    for line in text.lines() {
+        if line.starts_with(start) {
+            count = count.saturating_add(1);
+        }
+    }
+    count
+}
+
+// Whether a receiver was sent all once and then each of 1000 patches, and holds the rows.
+fn heard_all(alloc: Global, report: &str, name: &str, id: &str) -> Result<bool, NoMemory> {
+    let sent = joined(alloc, &["to ", name, " "])?;
+    let held = joined(alloc, &["\ntree ", name, " ", id, " ", BUSY_ROWS, "\n"])?;
+    let of_it = joined(alloc, &["tree ", name, " "])?;
+    Ok(
+        count_begun(report, sent.as_str()) == 1001
+            && count_begun(report, of_it.as_str()) == 1
+            && report.contains(held.as_str()),
+    )
+}
+
+// Three receivers, each of which subscribes behind the creation of the interfaces, two lanes, and a tick.
+fn busy_script(alloc: Global) -> Result<String, NoMemory> {
     let created = creations(alloc)?;
     let lanes = busy_lanes(alloc)?;
-    let text = joined(
+    joined(
         alloc,
         &[
             START,
             SCHEMA,
             RECEIVER,
             SECOND_RECEIVER,
+            THIRD_RECEIVER,
             created.as_str(),
             ESTABLISH,
             OTHER_ESTABLISH,
+            THIRD_ESTABLISH,
             lanes.as_str(),
-            TICK,
+            "{\"tick\":100000}\n",
         ],
-    )?;
-    let replies = busy_replies(alloc)?;
-    assert!(rt; is_framed(alloc, text, replies.as_str(), BUSY_TREE)?);
+    )
+}
+
+#[test]
+fn of_two_busy_lanes_each_command_counts_in_its_order(rt: HostRuntime) -> Result<(), Fail> {
+    let alloc = rt.alloc();
+    let report = report_of(alloc, busy_script(alloc)?)?;
+    let report = report.as_str();
+    assert!(rt; report.starts_with(busy_replies(alloc)?.as_str()));
+    assert!(rt; heard_all(alloc, report, "r1", "2147483648")?);
+    assert!(rt; heard_all(alloc, report, "r2", "2147483649")?);
+    assert!(rt; heard_all(alloc, report, "r3", "2147483650")?);
+    assert!(rt; report.ends_with("}\nend\n"));
     Ok(())
 }
