@@ -13,7 +13,7 @@ use std::alloc::{AllocError, Global};
 use yp_base::memory::NoMemory;
 use yp_base::notice::Notice;
 use yp_base::row::Rows;
-use yp_base::series::Series;
+use yp_base::path::Path;
 use yp_base::txt::Txt;
 use yp_data_json::writing::write_rows;
 use yp_edit::fault::Tag;
@@ -157,7 +157,7 @@ fn rows_text(alloc: Global, schema: &Schema, rows: &Rows) -> Result<String, NoMe
     requires { AreWritable schema.now [] rows.now }
     ensures { IfOk result (λ text. string_bytes text ≡ compact_text (rows_json schema.now [] rows.now)) }
 {
-    let top = Series::from_vec(Vec::new(alloc));
+    let top = Path::from_vec(Vec::new(alloc));
     let json = write_rows(alloc, schema, &top, rows)?;
     let text = compact(alloc, &json)?;
     Ok(text)

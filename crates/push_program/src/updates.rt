@@ -13,7 +13,7 @@ use std::sync::ledger::Ledger;
 use yp_base::memory::NoMemory;
 use yp_base::notice::{Changes, Notice};
 use yp_base::row::Rows;
-use yp_base::series::Series;
+use yp_base::path::Path;
 use yp_base::steps::Steps;
 use yp_journal::subscription::Subscription;
 use yp_schema::schema::Schema;
@@ -28,7 +28,7 @@ pub fn all_rows<L: Ledger>(
 ) -> Result<Rows, NoMemory>
     ensures { IfOk result (λ rows. rows ≡ tree.now) }
 {
-    let top = Series::from_vec(Vec::new(alloc));
+    let top = Path::from_vec(Vec::new(alloc));
     let rows = tree.rows_within(alloc, &top, steps)?;
     Ok(rows)
 }

@@ -1,4 +1,5 @@
 pub mod Coding
+pub mod Fronts
 pub mod Json
 pub mod Order
 pub mod OrderLaws

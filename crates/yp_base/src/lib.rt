@@ -8,6 +8,7 @@
 #![tactic(auto)]
 
 pub mod atom;
+mod front;
 pub mod json;
 pub mod leaf_type;
 pub mod memory;

@@ -236,7 +236,7 @@ fn path_of(alloc: Global, segments: &[Seg]) -> Result<Path, NoMemory>
     for segment in segments {
         copies.push(segment.copy(alloc)?)?;
     }
-    Ok(Series::from_vec(copies))
+    Ok(Path::from_vec(copies))
 }
 
 /// Whether a text is a colon and a name.

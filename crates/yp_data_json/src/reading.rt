@@ -23,7 +23,7 @@ pub fn path_below(alloc: Global, path: &Path, node: u32, keys: Keys) -> Result<P
 {
     let mut segments = path.copy(alloc)?.into_vec();
     segments.push(Seg { node, keys })?;
-    Ok(Series::from_vec(segments))
+    Ok(Path::from_vec(segments))
 }
 
 /// The keys of a leaf-list entry: its value.
@@ -228,7 +228,7 @@ pub fn read_datastore(alloc: Global, schema: &Schema, json: &Json) -> Result<Row
     match json {
         Json::Object(members) => {
             let mut rows = Gathered::new(alloc);
-            let top = Series::from_vec(Vec::new(alloc));
+            let top = Path::from_vec(Vec::new(alloc));
             read_members(alloc, schema, None, &top, members, &mut rows)?;
             Ok(rows.into_rows(alloc)?)
         }

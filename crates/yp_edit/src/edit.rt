@@ -17,7 +17,6 @@ use yp_base::memory::{Duplicate, NoMemory};
 use yp_base::path::{Path, Seg};
 use yp_base::payload::Payload;
 use yp_base::row::Rows;
-use yp_base::series::Series;
 use yp_base::steps::Steps;
 use yp_schema::schema::{Kind, Schema};
 
@@ -30,7 +29,7 @@ fn extended(alloc: Global, path: Path, segment: &Seg) -> Result<Path, NoMemory>
 {
     let mut segments = path.into_vec();
     segments.push(segment.copy(alloc)?)?;
-    Ok(Series::from_vec(segments))
+    Ok(Path::from_vec(segments))
 }
 
 /// Whether a node of this kind has a row of its own above others.
@@ -62,7 +61,7 @@ fn stands_above<L: Ledger>(
     requires { is_path_of schema.now target.now ≡ true }
     ensures { IfOk result (λ stands. stands ≡ stand_above schema.now target.now draft.now.after) }
 {
-    let mut front = Series::from_vec(Vec::with_capacity(alloc, target.len())?);
+    let mut front = Path::from_vec(Vec::with_capacity(alloc, target.len())?);
     let mut rest = target.items();
     while let Some((segment, more)) = rest.split_first() {
         if more.is_empty() {

@@ -16,7 +16,7 @@ use std::alloc::{AllocError, Global};
 use yp_base::memory::NoMemory;
 use yp_base::notice::{Change, ChangeKind, Changes, Notice};
 use yp_base::row::Rows;
-use yp_base::series::Series;
+use yp_base::path::Path;
 use yp_base::txt::Txt;
 use yp_data_json::writing::write_rows;
 use yp_path::target::write_target;
@@ -247,7 +247,7 @@ fn push_full(
     requires { AreWritable schema.now [] rows.now }
     ensures { OnOk result (string_bytes text.new ≡ string_bytes text.old ++ members_text false (member (codes "datastore-contents") (rows_json schema.now [] rows.now) (id_member id no_members))) }
 {
-    let top = Series::from_vec(Vec::new(alloc));
+    let top = Path::from_vec(Vec::new(alloc));
     let json = write_rows(alloc, schema, &top, rows)?;
     push_json(alloc, text, "\"datastore-contents\":", &json)?;
     push_number(text, ",\"id\":", id)?;

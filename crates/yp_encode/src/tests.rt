@@ -121,7 +121,7 @@ fn deletion(alloc: Global, schema: &Schema, target: &str) -> Result<Change, Fail
 fn full(alloc: Global, schema: &Schema, id: u32, data: &str) -> Result<Notice, Fail>
     ensures { IfOk result (λ notice. IsSendable schema.now notice) }
 {
-    let top = Series::from_vec(Vec::new(alloc));
+    let top = Path::from_vec(Vec::new(alloc));
     let rows = rows(alloc, schema, &top, data)?;
     Ok(Notice::Full { id, rows })
 }

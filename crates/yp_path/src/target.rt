@@ -241,7 +241,7 @@ fn read_segments(alloc: Global, schema: &Schema, text: &str) -> Result<Path, Pat
         rest = more;
     }
     segments.push(read_segment(alloc, schema, parent, rest)?)?;
-    Ok(Series::from_vec(segments))
+    Ok(Path::from_vec(segments))
 }
 
 /// The path that a text is. Names are in member form or qualified, keys percent-decoded and read by

@@ -94,7 +94,7 @@ fn has_in_order(tree: &Tree, alloc: Global, paths: &[Path]) -> bool {
 }
 
 fn top(alloc: Global) -> Path {
-    Series::from_vec(Vec::new(alloc))
+    Path::from_vec(Vec::new(alloc))
 }
 
 fn step(alloc: Global, node: u32, key: Atom) -> Result<Seg, NoMemory> {
@@ -103,7 +103,7 @@ fn step(alloc: Global, node: u32, key: Atom) -> Result<Seg, NoMemory> {
 }
 
 fn one_step(alloc: Global, step: Seg) -> Result<Path, NoMemory> {
-    Ok(Series::from_vec(vec![in alloc; step]?))
+    Ok(Path::from_vec(vec![in alloc; step]?))
 }
 
 // The entry of list 1 that has this name.
@@ -122,7 +122,7 @@ fn leaf(alloc: Global, name: &str) -> Result<Path, NoMemory> {
     let mut steps = entry(alloc, name)?.into_vec();
     let keys = Series::from_vec(Vec::new(alloc));
     steps.push(Seg { node: 2, keys })?;
-    Ok(Series::from_vec(steps))
+    Ok(Path::from_vec(steps))
 }
 
 fn entries(alloc: Global, names: &[&str]) -> Result<Vec<Path>, NoMemory> {

@@ -23,7 +23,7 @@ fn key(alloc: Global, text: &str) -> Result<Keys, NoMemory> {
 /// The path of the entry `lo` of node 3.
 fn lo(alloc: Global) -> Result<Path, NoMemory> {
     let keys = key(alloc, "lo")?;
-    Ok(Series::from_vec(vec![in alloc; Seg { node: 3, keys }]?))
+    Ok(Path::from_vec(vec![in alloc; Seg { node: 3, keys }]?))
 }
 
 /// The entry `lo`, alone.

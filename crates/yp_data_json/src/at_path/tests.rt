@@ -22,7 +22,7 @@ fn schema_of(alloc: Global) -> Result<Schema, Fail> {
 
 fn read_top(alloc: Global, text: &str) -> Result<Result<Rows, DataFault>, Fail> {
     let schema = schema_of(alloc)?;
-    let top = Series::from_vec(Vec::new(alloc));
+    let top = Path::from_vec(Vec::new(alloc));
     let json = Json::from_str(alloc, text)?;
     Ok(read_rows(alloc, &schema, &top, &json))
 }
@@ -68,7 +68,7 @@ fn read_at(
     let schema = schema_of(alloc)?;
     let above = path_below(
         alloc,
-        &Series::from_vec(Vec::new(alloc)),
+        &Path::from_vec(Vec::new(alloc)),
         top,
         Series::from_vec(Vec::new(alloc)),
     )?;
@@ -325,7 +325,7 @@ const ETH0: &str = r#"{"acme:interfaces":{"interface":[{"name":"eth0","mtu":1500
 fn a_payload_is_read_at_the_path_of_a_leaf(rt: HostRuntime) -> Result<(), Fail> {
     let alloc = rt.alloc();
     let schema = schema_of(alloc)?;
-    let top = Series::from_vec(Vec::new(alloc));
+    let top = Path::from_vec(Vec::new(alloc));
     let all = read_payload(alloc, &schema, &top, &payload_of(alloc, ETH0)?)?;
     assert_eq!(rt; nodes_of(alloc, &all)?.as_slice(), [1, 3].as_slice());
     let rows = read_at_row(alloc, &schema, &all, 1, r#"{"acme:mtu":9000}"#)??;
@@ -357,7 +357,7 @@ fn a_payload_is_read_at_the_path_of_a_leaf(rt: HostRuntime) -> Result<(), Fail> 
 fn a_payload_is_read_at_the_path_of_an_entry(rt: HostRuntime) -> Result<(), Fail> {
     let alloc = rt.alloc();
     let schema = schema_of(alloc)?;
-    let top = Series::from_vec(Vec::new(alloc));
+    let top = Path::from_vec(Vec::new(alloc));
     let all = read_payload(alloc, &schema, &top, &payload_of(alloc, ETH0)?)?;
     let text = r#"{"acme:interface":[{"name":"eth0","mtu":1}]}"#;
     let rows = read_at_row(alloc, &schema, &all, 0, text)??;

@@ -39,7 +39,7 @@ fn what_is_read_is_what_the_data_hold(rt: HostRuntime) -> Result<(), Fail> {
     let part = Json::from_str(alloc, NODES)?;
     let parts = Series::from_vec(vec![in alloc; part]?);
     let schema = Schema::read(alloc, parts.items())?;
-    let top = Series::from_vec(Vec::new(alloc));
+    let top = Path::from_vec(Vec::new(alloc));
     let json = Json::from_str(alloc, r#"{"acme:words":{"word":["b","a"],"last":"b"}}"#)?;
     assert_eq!(rt; read(alloc, &schema, &top, &json)?.items().len(), 3);
     let json = Json::from_str(alloc, r#"{"acme:words":{"word":["b","a","b"]}}"#)?;

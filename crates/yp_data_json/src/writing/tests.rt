@@ -7,6 +7,7 @@ use crate::at_path::read_rows;
 use crate::reading::path_below;
 use std::process::Abort;
 use std::test::Fail;
+use yp_base::path::Path;
 use yp_base::series::Series;
 
 const NODES: &str = r#"[
@@ -70,7 +71,7 @@ fn top_container(rt: &impl Abort, alloc: Global, schema: &Schema, node: u32) -> 
     assert!(rt; node < schema.count());
     assert!(rt; schema.parent(node).is_none());
     assert!(rt; schema.kind(node) == Kind::Container);
-    let top = Series::from_vec(Vec::new(alloc));
+    let top = Path::from_vec(Vec::new(alloc));
     let keys = Series::from_vec(Vec::new(alloc));
     Ok(path_below(alloc, &top, node, keys)?)
 }
@@ -97,7 +98,7 @@ fn writes_at_row(
 fn every_kind_of_node_is_written_at_the_top(rt: HostRuntime) -> Result<(), Fail> {
     let alloc = rt.alloc();
     let schema = schema(alloc)?;
-    let top = Series::from_vec(Vec::new(alloc));
+    let top = Path::from_vec(Vec::new(alloc));
     writes(
         &rt,
         alloc,
@@ -114,7 +115,7 @@ fn a_container_without_rows_is_left_out_unless_it_has_presence(
 ) -> Result<(), Fail> {
     let alloc = rt.alloc();
     let schema = schema(alloc)?;
-    let top = Series::from_vec(Vec::new(alloc));
+    let top = Path::from_vec(Vec::new(alloc));
     writes(
         &rt,
         alloc,
@@ -146,7 +147,7 @@ fn a_container_without_rows_is_left_out_unless_it_has_presence(
 fn what_stands_at_a_path_has_its_qualified_name(rt: HostRuntime) -> Result<(), Fail> {
     let alloc = rt.alloc();
     let schema = schema(alloc)?;
-    let top = Series::from_vec(Vec::new(alloc));
+    let top = Path::from_vec(Vec::new(alloc));
     let rows = rows(
         alloc,
         &schema,
