@@ -1,5 +1,5 @@
 //! JSON values that are handed on.
-ghost use Rattle.std.specs.Prelude.{◌≡◌, IfOk, IfSome, string_bytes};
+ghost use Rattle.std.specs.Prelude.{◌≡◌, IfOk, string_bytes};
 ghost use Rattle.serde_json.specs.Data.{object, member, no_members};
 ghost use Rattle.serde_json.specs.View.{view as data_of, members_view};
 ghost use Rattle.yp_base.specs.Payloads.{kept_data, content_data};
@@ -23,7 +23,7 @@ enum Kept {
     All(Json),
 }
 
-/// What a payload holds, lent.
+/// What a payload or another JSON value holds, lent.
 #[derive(Drop, Clone, Copy)]
 pub enum Content<'a> {
     /// an object of one member: its name and its value
@@ -44,14 +44,29 @@ impl Model for Payload {
     ghost view = { λ p. kept_data p.kept };
 }
 
+impl<'a> Content<'a> {
+    /// What a JSON value holds.
+    pub fn of(json: &'a Json) -> Content<'a>
+        ensures { content_data result ≡ data_of json.now }
+    {
+        match json {
+            Json::Object(members) if members.len() == 1 => match members.iter().next() {
+                Some((name, value)) => Content::One(name.as_str(), value),
+                None => Content::All(json),
+            },
+            _ => Content::All(json),
+        }
+    }
+}
+
 impl Payload {
     /// The payload of a JSON value. It copies what it keeps.
     pub fn from_json(alloc: Global, json: &Json) -> Result<Payload, NoMemory>
         ensures { IfOk result (λ payload. payload ≡ data_of json.now) }
     {
-        let kept = match only_member(json) {
-            Some((name, value)) => kept_one(alloc, name.as_str(), value)?,
-            None => Kept::All(json.clone()?),
+        let kept = match Content::of(json) {
+            Content::One(name, value) => kept_one(alloc, name, value)?,
+            Content::All(json) => Kept::All(json.clone()?),
         };
         Ok(Payload { kept })
     }
@@ -78,16 +93,6 @@ impl Payload {
             }
             Kept::All(json) => Ok(json.clone()?),
         }
-    }
-}
-
-/// The one member of an object that has only one.
-fn only_member(json: &Json) -> Option<(&String, &Json)>
-    ensures { IfSome result (λ m. data_of json.now ≡ object (member (string_bytes m.0.now) (data_of m.1.now) no_members)) }
-{
-    match json {
-        Json::Object(members) if members.len() == 1 => members.iter().next(),
-        _ => None,
     }
 }
 

@@ -1,9 +1,10 @@
 //! Data at a path: what stands at one node, in an object with the node's qualified name.
 ghost use Rattle.std.specs.Cmp.Lexicographic.{pointwise};
-ghost use Rattle.std.specs.Prelude.{◌≡◌, ◌<◌, ◌∷◌, ◌++◌, [], true, length, nat_eq, IfOk, IfSome, Ok};
+ghost use Rattle.std.specs.Prelude.{◌≡◌, ◌<◌, ◌∷◌, ◌++◌, [], true, length, nat_eq, IfOk, Ok};
 ghost use Rattle.std.specs.String.{string_bytes};
 ghost use Rattle.serde_json.specs.Data.{object, member, no_members};
 ghost use Rattle.serde_json.specs.View.{view, members_view, items_view};
+ghost use Rattle.yp_base.specs.Payloads.{content_data};
 ghost use Rattle.yp_schema.specs.Datastore.{is_place, AreWhole};
 ghost use Rattle.yp_schema.specs.Nodes.{node_at, qualified_name};
 ghost use Rattle.yp_schema.specs.WellFormed.{IsSchema};
@@ -325,16 +326,6 @@ fn read_member(
     }
 }
 
-/// The member of an object that has only one.
-fn only_member(json: &Json) -> Option<(&String, &Json)>
-    ensures { IfSome result (λ m. view json.now ≡ object (member (string_bytes m.0.now) (view m.1.now) no_members)) }
-{
-    match json {
-        Json::Object(members) if members.len() == 1 => members.iter().next(),
-        _ => None,
-    }
-}
-
 /// The rows at a path that ends in a segment below others.
 fn read_below(
     alloc: Global,
@@ -342,16 +333,16 @@ fn read_below(
     at: &Path,
     last: &Seg,
     above: &[Seg],
-    json: &Json,
+    content: Content<'_>,
 ) -> Result<Rows, DataFault>
     requires stands { IsSchema schema.now }
     requires place { is_place schema.now at.now ≡ true }
     requires parts { at.now ≡ above.now ++ last.now ∷ [] }
-    ensures { Gives result (rows_read schema.now at.now (view json.now)) }
+    ensures { Gives result (rows_read schema.now at.now (content_data content)) }
 {
-    match only_member(json) {
-        Some((name, value)) => read_member(alloc, schema, at, last, above, name.as_str(), value),
-        None => {
+    match content {
+        Content::One(name, json) => read_member(alloc, schema, at, last, above, name, json),
+        Content::All(json) => {
             let above = path_of(alloc, above)?;
             read_object(alloc, schema, last.node, &above, &last.keys, json)
         }
@@ -365,7 +356,7 @@ fn read_place(alloc: Global, schema: &Schema, at: &Path, json: &Json) -> Result<
     ensures { Gives result (rows_read schema.now at.now (view json.now)) }
 {
     match at.items().split_last() {
-        Some((last, above)) => read_below(alloc, schema, at, last, above, json),
+        Some((last, above)) => read_below(alloc, schema, at, last, above, Content::of(json)),
         None => read_datastore(alloc, schema, json),
     }
 }
@@ -400,16 +391,13 @@ fn read_content(
     requires place { is_place schema.now at.now ≡ true }
     ensures { Gives result (rows_read schema.now at.now payload.now) }
 {
-    match payload.content() {
-        Content::One(name, value) => match at.items().split_last() {
-            Some((last, above)) => read_member(alloc, schema, at, last, above, name, value),
-            None => {
-                let json = payload.json(alloc)?;
-                let rows = read_place(alloc, schema, at, &json)?;
-                Ok(rows)
-            }
-        },
-        Content::All(json) => read_place(alloc, schema, at, json),
+    match at.items().split_last() {
+        Some((last, above)) => read_below(alloc, schema, at, last, above, payload.content()),
+        None => {
+            let json = payload.json(alloc)?;
+            let rows = read_datastore(alloc, schema, &json)?;
+            Ok(rows)
+        }
     }
 }
 

@@ -2,7 +2,6 @@
 ghost use Rattle.std.specs.Prelude.{◌≡◌, IfOk, option_copied};
 ghost use Rattle.yp_edit.specs.Changes.{is_atom, same_value, are_alike, change_of};
 
-use crate::some::copy_some;
 use std::alloc::Global;
 use yp_base::atom::Atom;
 use yp_base::memory::{Duplicate, NoMemory};
@@ -25,8 +24,8 @@ impl Duplicate for ChangedRow {
     fn copy(&self, alloc: Global) -> Result<ChangedRow, NoMemory> {
         Ok(ChangedRow {
             path: self.path.copy(alloc)?,
-            old: copy_some(alloc, self.old.as_ref())?,
-            new: copy_some(alloc, self.new.as_ref())?,
+            old: self.old.copy(alloc)?,
+            new: self.new.copy(alloc)?,
         })
     }
 }
@@ -63,6 +62,16 @@ fn are_alike(old: Option<&Value>, new: Option<&Value>) -> bool
             None => false,
         },
         None => new.is_none(),
+    }
+}
+
+/// A copy of a value, where there is one.
+fn copy_some(alloc: Global, value: Option<&Value>) -> Result<Option<Value>, NoMemory>
+    ensures { IfOk result (λ copy. copy ≡ option_copied value.entry) }
+{
+    match value {
+        Some(value) => Ok(Some(value.copy(alloc)?)),
+        None => Ok(None),
     }
 }
 

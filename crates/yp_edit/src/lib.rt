@@ -17,5 +17,4 @@ mod halt;
 mod members;
 pub mod patch;
 pub mod reading;
-mod some;
 mod target;

@@ -1,6 +1,5 @@
 //! Patches: edits of a datastore, in order (RFC 8072 section 2).
 
-use crate::some::copy_some;
 use std::alloc::Global;
 use yp_base::memory::{Duplicate, NoMemory};
 use yp_base::payload::Payload;
@@ -56,9 +55,9 @@ impl Duplicate for Edit {
             id: self.id.copy(alloc)?,
             op: self.op,
             target: self.target.copy(alloc)?,
-            point: copy_some(alloc, self.point.as_ref())?,
+            point: self.point.copy(alloc)?,
             place: self.place,
-            value: copy_some(alloc, self.value.as_ref())?,
+            value: self.value.copy(alloc)?,
         })
     }
 }
