@@ -1,6 +1,6 @@
 -- What the reading gives at a place, in the words of the data alone.
 use Rattle.std.proofs.Common.{◌≡◌, ℕ, ◌<◌, length, List, [], ◌∷◌, ◌++◌, Bool, true, false, true≢false, refl, sym, ap, subst, ◌∙◌, cond, inl, ⊎_elim}
-use Rattle.std.specs.Prelude.{◌↔◌, ◌⊎◌, Some, None, is_some, Result, Ok, Err, Contains, nat_eq, if◌then◌else◌}
+use Rattle.std.specs.Prelude.{◌↔◌, Some, None, is_some, Result, Ok, Err, Contains, nat_eq, if◌then◌else◌}
 use Rattle.std.specs.Cmp.Lexicographic.{pointwise}
 use Rattle.std.proofs.lemmas.Slice.Eq.{bytes_eq-Decides}
 use Rattle.serde_json.specs.Data.{Data, null, boolean, number, string, array, object, no_items, item, Members, no_members, member}

@@ -14,7 +14,6 @@ use Rattle.yp_base.specs.declared.row.Value.TheVariants.{Atom as Plain, Present}
 use Rattle.yp_base.specs.Json.{value_in}
 use Rattle.yp_base.specs.Rows.{put_row}
 use Rattle.yp_schema.specs.declared.schema.SchemaNode.{SchemaNode}
-use Rattle.yp_schema.specs.declared.schema.Kind.{Kind}
 use Rattle.yp_schema.specs.declared.schema.Kind.TheVariants.{Leaf}
 use Rattle.yp_schema.specs.Nodes.{node_at, qualified_name}
 use Rattle.yp_schema.specs.WellFormed.{is_empty}

@@ -12,7 +12,7 @@ use Rattle.yp_base.proofs.JsonLaws.{json_fits}
 use Rattle.yp_schema.specs.declared.schema.SchemaNode.{SchemaNode}
 use Rattle.yp_schema.specs.Nodes.{no_node, node_at, same_number, is_child, place_from, child_of}
 use Rattle.yp_schema.specs.Datastore.{atom_fits, keys_fit, typed_fits}
-use Rattle.serde_json.specs.Data.{Data, number, Members, member}
+use Rattle.serde_json.specs.Data.{Data, Members}
 use Rattle.serde_json.specs.Find.{get_member}
 use Rattle.yp_data_json.specs.declared.fault.DataFault.{DataFault}
 use Rattle.yp_data_json.specs.Reading.{◌>>=◌, valid, typed_value, only_atom, typed_atom, KeyFault, at_key, key_in, both, keys_found, fault_alone, keys_in}

@@ -338,7 +338,7 @@ fn read_below(
     requires stands { IsSchema schema.now }
     requires place { is_place schema.now at.now ≡ true }
     requires parts { at.now ≡ above.now ++ last.now ∷ [] }
-    ensures { Gives result (rows_read schema.now at.now (content_data content)) }
+    ensures { Gives result (rows_read schema.now at.now (content_data content.entry)) }
 {
     match content {
         Content::One(name, json) => read_member(alloc, schema, at, last, above, name, json),

@@ -1,7 +1,6 @@
 -- Keys without escapes stand for themselves.
-use Rattle.std.proofs.Common.{◌≡◌, ◌≢◌, ℕ, zero, suc, ◌<◌, ◌≤◌, ◌+◌, ◌-◌, ◌==◌, cond, length-drop, List, [], ◌∷◌, length, take, drop, get_or, Bool, true, false, not, ◌||◌, refl, sym, ap, subst, ◌∙◌, arith, Some, None, IsUtf8, nat_lt}
+use Rattle.std.proofs.Common.{◌≡◌, ◌≢◌, ℕ, zero, suc, ◌<◌, ◌≤◌, ◌+◌, ◌-◌, ◌==◌, cond, length-drop, List, [], ◌∷◌, length, take, drop, get_or, Bool, true, false, not, refl, sym, ap, ◌∙◌, arith, Some, IsUtf8, nat_lt}
 use Rattle.std.specs.List.{position_or_len, count_by}
-use Rattle.std.specs.Str.{is_utf8}
 use Rattle.std.proofs.lemmas.Bool.{eqb-true, eq-eqb, ltb-true, ltb-false}
 use Rattle.std.proofs.lemmas.List.Recursion.{is_count_by}
 use Rattle.std.proofs.lemmas.List.Sums.{passes_at_first}
@@ -9,7 +8,7 @@ use Rattle.std.proofs.lemmas.Str.{is_utf8-from_IsUtf8, IsUtf8-take, IsUtf8-drop,
 use Rattle.percent_encoding.specs.Percent.{percent_decode}
 use Rattle.percent_encoding.proofs.PercentLemmas.{percent_decode-nil, percent_decode_not_percent}
 use Rattle.yp_path.specs.Cuts.{cut, onto_first}
-use Rattle.yp_path.specs.Escapes.{has_whole_escapes, begins_with_digits, key_read}
+use Rattle.yp_path.specs.Escapes.{has_whole_escapes, key_read}
 use Rattle.yp_path.specs.Targets.{keys_read}
 use Rattle.yp_path.proofs.Cuts.{cut_found, cut_none}
 use Rattle.yp_path.proofs.Free.{is_free, both, not_true}

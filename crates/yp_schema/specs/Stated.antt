@@ -1,6 +1,6 @@
 -- What the JSON of one node says of it. Nothing is looked up.
 use Rattle.std.specs.Prelude.{ℕ, ◌+◌, ◌-◌, ◌==◌, ◌&&◌, ◌||◌, List, [], ◌∷◌, Bool, true, false, Option, Some, None, option_map, option_and_then, if◌then◌else◌, codes, nat_le}
-use Rattle.serde_json.specs.Data.{Data, boolean, string, Items, no_items, item, Members, no_members, member}
+use Rattle.serde_json.specs.Data.{Data, Items, no_items, item, Members, no_members, member}
 use Rattle.serde_json.specs.Find.{get_member, as_bool, as_str, as_array, as_object}
 use Rattle.yp_base.specs.Types.{same_text, are_distinct, are_names}
 use Rattle.yp_base.specs.declared.leaf_type.LeafType.{LeafType}

@@ -1,5 +1,6 @@
 use Rattle.std.proofs.Common.{◌≡◌, List, true, sym, ap, subst, ◌∙◌}
 use Rattle.serde_json.specs.View.{view}
+use Rattle.yp_base.specs.Payloads.{content_data}
 use Rattle.yp_base.specs.declared.path.Seg.{Seg}
 use Rattle.yp_schema.specs.Datastore.{is_place}
 use Rattle.yp_data_json.specs.Reading.{Gives}
@@ -20,5 +21,6 @@ returns-in_ok-above-in-All c =
     subst (λ read. Gives c.read_object.result read)
     (ap (λ (path : List Seg). object_read schema last.node path last.keys d) c.in_ok-above-in-All.ensures
     ∙ sym (rows_last schema c.args.above.now last d)
-    ∙ sym (ap (λ (path : List Seg). rows_read schema path d) c.requires.parts))
+    ∙ sym (ap (λ (path : List Seg). rows_read schema path d) c.requires.parts)
+    ∙ sym (ap (λ content. rows_read schema c.args.at.now (content_data content)) c.in-All.is))
     c.read_object.ensures

@@ -1,4 +1,4 @@
-use Rattle.std.proofs.Common.{sym, ◌∙◌, ◌+◌}
+use Rattle.std.proofs.Common.{sym, ◌∙◌}
 use Rattle.serde_json.specs.View.{members_view}
 use Rattle.yp_data_json.specs.Reading.{keys_found}
 use Rattle.yp_data_json.proofs.KeyLaws.{step_key, step_fault}

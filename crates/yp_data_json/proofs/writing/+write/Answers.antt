@@ -2,7 +2,7 @@ use Rattle.std.proofs.Common.{◌≡◌, ◌+◌, ◌<◌, ◌≤◌, ℕ, true,
 use Rattle.std.proofs.lemmas.List.{map-append}
 use Rattle.std.specs.List.{AllByRecursion}
 use Rattle.std.proofs.Math.ListN.{drop_of_length-le}
-use Rattle.serde_json.specs.Data.{Data, object, no_members, member, put}
+use Rattle.serde_json.specs.Data.{Data, object, no_members, put}
 use Rattle.serde_json.specs.View.{view, members_view}
 use Rattle.serde_json.proofs.Views.{members_view-insert_entry, view-Array, view-Object}
 use Rattle.serde_json.specs.declared.value.Value.{Value}

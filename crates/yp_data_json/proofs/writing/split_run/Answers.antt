@@ -1,4 +1,4 @@
-use Rattle.std.proofs.Common.{◌≡◌, true, false, sym, ap, ◌∙◌}
+use Rattle.std.proofs.Common.{◌≡◌, false, sym, ap, ◌∙◌}
 use Rattle.yp_data_json.specs.Runs.{ends_through}
 use Rattle.yp_data_json.proofs.Parts.{take_front, ends_last, none_left}
 use Rattle.yp_data_json.proofs.writing.split_run.Goals as goal
