@@ -179,9 +179,17 @@ impl Ord for Path {
         } else if other.front < self.front {
             Ordering::Greater
         } else {
-            self.segments.cmp(&other.segments)
+            compare_segments(self.items(), other.items())
         }
     }
+}
+
+/// The order of paths with one front.
+#[inline(never)]
+fn compare_segments(one: &[Seg], other: &[Seg]) -> Ordering
+    ensures { result ≡ path_cmp one.now other.now }
+{
+    one.cmp(other)
 }
 
 /// Whether one path is another or above it.

@@ -54,6 +54,11 @@ impl<T> Series<T> {
 
 impl<T: Duplicate + Drop> Duplicate for Series<T> {
     fn copy(&self, alloc: Global) -> Result<Series<T>, NoMemory> {
+        if self.kept.is_empty() {
+            return Ok(Series {
+                kept: Vec::new(alloc),
+            });
+        }
         let mut copies = Vec::with_capacity(alloc, self.kept.len())?;
         for item in self.kept.as_slice() {
             copies.push(item.copy(alloc)?)?;
