@@ -17,6 +17,10 @@ last_node-append [] seg = refl
 last_node-append (first ∷ []) seg = refl
 last_node-append (first ∷ next ∷ front) seg = last_node-append (next ∷ front) seg
 
+-- a list with a copy behind it is the list with the value itself behind it
+pub with_copy : (front longer : List Seg) (copy seg : Seg) → longer ≡ front ++ copy ∷ [] → copy ≡ seg → longer ≡ front ++ seg ∷ []
+with_copy front longer copy seg is same = is ∙ ap (λ (s : Seg). front ++ s ∷ []) same
+
 below_count : (a b : ℕ) → nat_lt a b ≡ true → a < b
 below_count a b h = grind (arith, h)
 

@@ -1,5 +1,5 @@
 //! Edits of rows under change.
-ghost use Rattle.std.specs.Prelude.{◌≡◌, ◌<◌, ◌++◌, ◌∷◌, [], length, true, IfOk, IfSome, OnOk};
+ghost use Rattle.std.specs.Prelude.{◌≡◌, ◌<◌, ◌++◌, ◌∷◌, [], length, true, Some, IfOk, IfSome, OnOk};
 ghost use Rattle.yp_base.specs.Rows.{put_rows};
 ghost use Rattle.yp_schema.specs.Datastore.{is_entry_kind, is_path_of, is_place, last_node};
 ghost use Rattle.yp_edit.specs.Drafts.{Drafted};
@@ -10,7 +10,7 @@ use crate::draft::Draft;
 use crate::fault::Tag;
 use crate::halt::{Halt, refused};
 use crate::patch::{Edit, EditOp};
-use crate::target::{end_of, read_path, read_value};
+use crate::target::{read_path, read_value};
 use std::alloc::Global;
 use std::sync::ledger::Ledger;
 use yp_base::memory::{Duplicate, NoMemory};
@@ -23,15 +23,6 @@ use yp_schema::schema::{Kind, Schema};
 /// The most rows that a datastore has.
 const MOST_ROWS: usize = 20000;
 
-/// A path with one more segment.
-fn extended(alloc: Global, path: Path, segment: &Seg) -> Result<Path, NoMemory>
-    ensures { IfOk result (λ longer. longer ≡ path ++ segment.now ∷ []) }
-{
-    let mut segments = path.into_vec();
-    segments.push(segment.copy(alloc)?)?;
-    Ok(Path::from_vec(segments))
-}
-
 /// Whether a node of this kind has a row of its own above others.
 fn is_entry(kind: Kind) -> bool
     ensures { result ≡ is_entry_kind kind }
@@ -39,15 +30,26 @@ fn is_entry(kind: Kind) -> bool
     matches!(kind, Kind::Presence | Kind::List)
 }
 
-/// Whether there is to be a row of a path, where it ends in a list entry or a presence container.
-fn has_its_row<L: Ledger>(schema: &Schema, draft: &Draft, path: &Path, steps: &mut Steps<L>) -> bool
-    requires { IfSome (last_node path.now) (λ node. node < length schema.now) }
-    ensures { result ≡ has_its_row schema.now draft.now.after path.now }
+/// Whether there is to be a row of the path of these segments, where it ends in a list entry or a
+/// presence container. It gives the segments back.
+fn has_its_row<L: Ledger>(
+    schema: &Schema,
+    draft: &Draft,
+    node: u32,
+    segments: Vec<Seg>,
+    steps: &mut Steps<L>,
+) -> (bool, Vec<Seg>)
+    requires last { last_node segments.items ≡ Some node }
+    requires within { node < length schema.now }
+    ensures has { result.0 ≡ has_its_row schema.now draft.now.after segments.items }
+    ensures same { result.1.items ≡ segments.items }
 {
-    match end_of(path) {
-        Some(node) => !is_entry(schema.kind(node)) || draft.has(path, steps),
-        None => true,
+    if !is_entry(schema.kind(node)) {
+        return (true, segments);
     }
+    let path = Path::from_vec(segments);
+    let has = draft.has(&path, steps);
+    (has, path.into_vec())
 }
 
 /// Whether each list entry and presence container above a target is to have its row.
@@ -61,16 +63,18 @@ fn stands_above<L: Ledger>(
     requires { is_path_of schema.now target.now ≡ true }
     ensures { IfOk result (λ stands. stands ≡ stand_above schema.now target.now draft.now.after) }
 {
-    let mut front = Path::from_vec(Vec::with_capacity(alloc, target.len())?);
+    let mut front = Vec::with_capacity(alloc, target.len())?;
     let mut rest = target.items();
     while let Some((segment, more)) = rest.split_first() {
         if more.is_empty() {
             return Ok(true);
         }
-        front = extended(alloc, front, segment)?;
-        if !has_its_row(schema, draft, &front, steps) {
+        front.push(segment.copy(alloc)?)?;
+        let (stands, again) = has_its_row(schema, draft, segment.node, front, steps);
+        if !stands {
             return Ok(false);
         }
+        front = again;
         rest = more;
     }
     Ok(true)

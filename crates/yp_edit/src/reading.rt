@@ -184,7 +184,7 @@ fn read_items(alloc: Global, items: &Vec<Json>) -> Result<Edits, PatchFault>
     if items.len() > 4294967295 {
         return Err(PatchFault::Memory);
     }
-    let mut edits = Vec::new(alloc);
+    let mut edits = Vec::with_capacity(alloc, items.len())?;
     for item in items {
         edits.push(read_item(alloc, item)?)?;
     }

@@ -1,15 +1,14 @@
-use Rattle.std.proofs.Common.{◌≡◌, ◌<◌, ◌++◌, ℕ, Bool, Option, Some, List, [], length, ap, sym, ◌∙◌, subst}
-use Rattle.std.specs.Prelude.{IfSome}
+use Rattle.std.proofs.Common.{◌≡◌, ◌<◌, ◌++◌, ◌∷◌, Bool, List, [], length, ap, sym, ◌∙◌, subst}
 use Rattle.std.specs.List.{AllByRecursion, list_all}
 use Rattle.yp_base.specs.declared.path.Seg.{Seg}
 use Rattle.yp_schema.specs.Datastore.{last_node}
 use Rattle.yp_edit.specs.Patches.{has_its_row, paths_above}
-use Rattle.yp_edit.proofs.Ends.{each_within, last_node-append, one_further, one_fails}
+use Rattle.yp_edit.proofs.Ends.{each_within, last_node-append, with_copy, one_further, one_fails}
 use Rattle.yp_edit.proofs.edit.stands_above.Goals as goal
 
 pub loop-segment-init : goal.loop-segment-init
 loop-segment-init g c =
-    let front : c.from_vec-front.result ≡ [] = c.from_vec-front.ensures ∙ c.in_ok-with_capacity.ensures.items in
+    let front : c.in_ok-front.front.items ≡ [] = c.in_ok-front.ensures.items in
     let test : List Seg → Bool = has_its_row c.args.schema.now c.args.draft.now.after in
     record {
       nodes = subst (λ (path : List Seg). AllByRecursion (λ segment. segment.node < length c.args.schema.now) path) (sym c.items-rest.ensures) (each_within c.args.schema.now c.args.target.now c.requires);
@@ -17,24 +16,26 @@ loop-segment-init g c =
       so_far = λ i. list_all (λ above. test (front i ++ above)) (paths_above (c.items-rest.ensures i));
     }
 
-pub has_its_row-requires : goal.has_its_row-requires
-has_its_row-requires g c =
-    let nodes = subst (λ (path : List Seg). AllByRecursion (λ segment. segment.node < length c.args.schema.now) path) c.in-Some.ensures.cases.0 c.loop-segment.invariant.nodes in
-    let last : last_node c.in_ok-front.front ≡ Some c.in-Some.segment.now.node = ap last_node c.in_ok-front.ensures ∙ last_node-append c.loop-segment.front c.in-Some.segment.now in
-    subst (λ (n : Option ℕ). IfSome n (λ node. node < length c.args.schema.now)) (sym last) nodes.0
+pub has_its_row-stands-requires-clause-last : goal.has_its_row-stands-requires-clause-last
+has_its_row-stands-requires-clause-last g c =
+    ap last_node (with_copy c.loop-segment.front.items c.push.new.self.items c.in_ok-copy.field-0 c.in-Some.segment.now c.in_ok-push.ensures.items c.in_ok-copy.ensures)
+    ∙ last_node-append c.loop-segment.front.items c.in-Some.segment.now
 
-pub returns-then-not-has_its_row : goal.returns-then-not-has_its_row
-returns-then-not-has_its_row g c =
+
+pub returns-then-not-stands : goal.returns-then-not-stands
+returns-then-not-stands g c =
     let test : List Seg → Bool = has_its_row c.args.schema.now c.args.draft.now.after in
-    one_fails test c.in_ok-front.front c.in-Some.more.now c.is_empty.result _ c.is_empty.ensures c.if-is_empty.false (sym c.has_its_row.ensures ∙ c.if-not-has_its_row.true)
-    (one_further test c.loop-segment.front c.in_ok-front.front c.in-Some.segment.now c.loop-segment.rest.now c.in-Some.more.now _ c.in-Some.ensures.cases.0 c.in_ok-front.ensures c.loop-segment.invariant.passed c.loop-segment.invariant.so_far)
+    let pushed : c.push.new.self.items ≡ c.loop-segment.front.items ++ c.in-Some.segment.now ∷ [] = with_copy c.loop-segment.front.items c.push.new.self.items c.in_ok-copy.field-0 c.in-Some.segment.now c.in_ok-push.ensures.items c.in_ok-copy.ensures in
+    one_fails test c.push.new.self.items c.in-Some.more.now c.is_empty.result _ c.is_empty.ensures c.if-is_empty.false (sym c.has_its_row-stands.ensures.has ∙ c.if-not-stands.true)
+    (one_further test c.loop-segment.front.items c.push.new.self.items c.in-Some.segment.now c.loop-segment.rest.now c.in-Some.more.now _ c.in-Some.ensures.cases.0 pushed c.loop-segment.invariant.passed c.loop-segment.invariant.so_far)
 
 pub loop-segment-preserved : goal.loop-segment-preserved
 loop-segment-preserved g c =
     let test : List Seg → Bool = has_its_row c.args.schema.now c.args.draft.now.after in
     let nodes = subst (λ (path : List Seg). AllByRecursion (λ segment. segment.node < length c.args.schema.now) path) c.in-Some.ensures.cases.0 c.loop-segment.invariant.nodes in
+    let pushed : c.push.new.self.items ≡ c.loop-segment.front.items ++ c.in-Some.segment.now ∷ [] = with_copy c.loop-segment.front.items c.push.new.self.items c.in_ok-copy.field-0 c.in-Some.segment.now c.in_ok-push.ensures.items c.in_ok-copy.ensures in
     record {
       nodes = nodes.1;
-      passed = sym c.has_its_row.ensures ∙ c.if-not-has_its_row.false;
-      so_far = one_further test c.loop-segment.front c.in_ok-front.front c.in-Some.segment.now c.loop-segment.rest.now c.in-Some.more.now _ c.in-Some.ensures.cases.0 c.in_ok-front.ensures c.loop-segment.invariant.passed c.loop-segment.invariant.so_far;
+      passed = ap test c.has_its_row-stands.ensures.same ∙ sym c.has_its_row-stands.ensures.has ∙ c.if-not-stands.false;
+      so_far = one_further test c.loop-segment.front.items c.has_its_row-stands.result.1.items c.in-Some.segment.now c.loop-segment.rest.now c.in-Some.more.now _ c.in-Some.ensures.cases.0 (c.has_its_row-stands.ensures.same ∙ pushed) c.loop-segment.invariant.passed c.loop-segment.invariant.so_far;
     }
