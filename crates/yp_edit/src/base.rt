@@ -217,19 +217,19 @@ impl<'a> Base<'a> {
         Ok(())
     }
 
-    /// The rows of touched paths that differ from those of other rows.
+    /// The rows of touched paths that differ from those of other rows. The paths are given on, not copied.
     pub fn changes<L: Ledger>(
-        &self,
+        self,
         alloc: Global,
         put: &Tree,
         steps: &mut Steps<L>,
     ) -> Result<Changed, NoMemory>
-        ensures { IfOk result (λ changed. changed ≡ filter_map (change_at self.now.rows put.now) self.now.paths) }
+        ensures { IfOk result (λ changed. changed ≡ filter_map (change_at self.entry.rows put.now) self.entry.paths) }
     {
         let mut changed = Vec::new(alloc);
-        let mut kept = self.touched.iter();
-        while let Some((path, old)) = kept.next() {
-            match change_of(alloc, path, *old, put.get(path, steps))? {
+        for (path, old) in self.touched {
+            let new = put.get(&path, steps);
+            match change_of(alloc, path, old, new)? {
                 Some(change) => changed.push(change)?,
                 None => {}
             }

@@ -78,17 +78,17 @@ fn copy_some(alloc: Global, value: Option<&Value>) -> Result<Option<Value>, NoMe
 /// The change of a path's row, where there is one.
 pub(crate) fn change_of(
     alloc: Global,
-    path: &Path,
+    path: Path,
     old: Option<&Value>,
     new: Option<&Value>,
 ) -> Result<Option<ChangedRow>, NoMemory>
-    ensures { IfOk result (λ change. change ≡ change_of path.now (option_copied old.entry) (option_copied new.entry)) }
+    ensures { IfOk result (λ change. change ≡ change_of path (option_copied old.entry) (option_copied new.entry)) }
 {
     if are_alike(old, new) {
         return Ok(None);
     }
     Ok(Some(ChangedRow {
-        path: path.copy(alloc)?,
+        path,
         old: copy_some(alloc, old)?,
         new: copy_some(alloc, new)?,
     }))

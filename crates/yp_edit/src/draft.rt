@@ -117,11 +117,11 @@ impl<'a> Draft<'a> {
 
     /// The rows that differ.
     pub fn changes<L: Ledger>(
-        &self,
+        self,
         alloc: Global,
         steps: &mut Steps<L>,
     ) -> Result<Changed, NoMemory>
-        ensures { IfOk result (λ changed. changed ≡ changed_rows self.now.before self.now.after) }
+        ensures { IfOk result (λ changed. changed ≡ changed_rows self.entry.before self.entry.after) }
     {
         let _rows = (self.put.len(), self.base.len());
         self.base.changes(alloc, &self.put, steps)

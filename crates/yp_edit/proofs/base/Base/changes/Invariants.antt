@@ -7,6 +7,6 @@ use Rattle.yp_edit.proofs.base.Base.changes.Given as goal
 
 abbrev pub invariant-loop-path : goal.invariant-loop-path
 invariant-loop-path g l = record {
-  kept : KeepsValues l.self.rows l.kept;
-  so_far : l.changed.items ++ filter_map (change_at l.self.rows l.put) (keys_of l.kept) ≡ filter_map (change_at l.self.rows l.put) l.self.paths;
+  kept : KeepsValues l.fn.self.rows l.path-iterator;
+  so_far : l.changed.items ++ filter_map (change_at l.fn.self.rows l.put) (keys_of l.path-iterator) ≡ filter_map (change_at l.fn.self.rows l.put) l.fn.self.paths;
 }
