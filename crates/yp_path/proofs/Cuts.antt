@@ -1,5 +1,11 @@
-use Rattle.std.proofs.Common.{◌≡◌, ℕ, suc, ◌<◌, ◌+◌, ◌==◌, List, [], ◌∷◌, ◌++◌, length, take, drop, Bool, true, false, refl, sym, ap, ◌∙◌, arith, append_assoc}
+use Rattle.std.proofs.Common.{◌≡◌, ℕ, suc, ◌<◌, ◌+◌, ◌==◌, List, [], ◌∷◌, ◌++◌, length, take, drop, Bool, true, false, not, Some, None, position, get_or, refl, sym, ap, ◌∙◌, arith, append_assoc}
 use Rattle.std.specs.List.{position_or_len, before_first, after_first}
+use Rattle.std.specs.Str.{IsUtf8, IsCharBoundary}
+use Rattle.std.proofs.lemmas.Bool.{eqb-true}
+use Rattle.std.proofs.lemmas.Grind.{common_steps}
+use Rattle.std.proofs.lemmas.List.Quantifiers.{position-Some}
+use Rattle.std.proofs.lemmas.List.Sums.{prefix_len-le-length}
+use Rattle.std.proofs.lemmas.Str.{IsCharBoundary-before_ascii, IsCharBoundary-after_ascii}
 use Rattle.yp_path.specs.Cuts.{cut}
 
 abbrev is_mark : ℕ → ℕ → Bool
@@ -38,3 +44,18 @@ cut_none mark (b ∷ bs) h = none_at (b == mark) mark b bs refl h (cut_none mark
 
 pub put_between : {X : Type 0} (done : List X) (x : X) (rest : List X) → (done ++ x ∷ []) ++ rest ≡ done ++ (x ∷ rest)
 put_between done x rest = append_assoc done (x ∷ []) rest
+
+pub no_place : (mark : ℕ) (bs : List ℕ) → position (λ b. b == mark) bs ≡ None → position_or_len (λ b. b == mark) bs ≡ length bs
+no_place mark bs h = let within = prefix_len-le-length (λ b. not (b == mark)) bs in grind (arith, common_steps)
+
+ascii_at : (mark : ℕ) (bs : List ℕ) (i : ℕ) → mark < 128 → position (λ b. b == mark) bs ≡ Some i → (i < length bs) × (get_or bs i 0 < 128)
+ascii_at mark bs i small h =
+    let found = position-Some (is_mark mark) bs i 0 h in
+    let same : get_or bs i 0 ≡ mark = eqb-true _ _ found.1 in
+    (found.0, omega (arith, same, small))
+
+pub ends_before : (mark : ℕ) (bs : List ℕ) (i : ℕ) → mark < 128 → position (λ b. b == mark) bs ≡ Some i → IsCharBoundary bs i
+ends_before mark bs i small h = let ascii = ascii_at mark bs i small h in IsCharBoundary-before_ascii bs i ascii.0 ascii.1
+
+pub begins_behind : (mark : ℕ) (bs : List ℕ) (i : ℕ) → mark < 128 → IsUtf8 bs → position (λ b. b == mark) bs ≡ Some i → IsCharBoundary bs (i + 1)
+begins_behind mark bs i small utf8 h = let ascii = ascii_at mark bs i small h in IsCharBoundary-after_ascii bs i utf8 ascii.0 ascii.1
