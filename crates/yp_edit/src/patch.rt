@@ -27,16 +27,17 @@ pub enum Place {
     Last,
 }
 
-/// An edit: its id, what it does, the text of its target's path, for an insert or a move the entry
-/// beside which and the place where the target goes, and the value of the target in JSON.
+/// An edit: its id, the text of its target's path, for an insert or a move the entry beside which the
+/// target goes, the value of the target in JSON, what the edit does, and for an insert or a move the
+/// place. The small fields stand last, since fields lie in this order.
 #[derive(Drop)]
 pub struct Edit {
     pub id: Txt,
-    pub op: EditOp,
     pub target: Txt,
     pub point: Option<Txt>,
-    pub place: Option<Place>,
     pub value: Option<Payload>,
+    pub op: EditOp,
+    pub place: Option<Place>,
 }
 
 /// Edits, in order.
@@ -53,11 +54,11 @@ impl Duplicate for Edit {
     fn copy(&self, alloc: Global) -> Result<Edit, NoMemory> {
         Ok(Edit {
             id: self.id.copy(alloc)?,
-            op: self.op,
             target: self.target.copy(alloc)?,
             point: self.point.copy(alloc)?,
-            place: self.place,
             value: self.value.copy(alloc)?,
+            op: self.op,
+            place: self.place,
         })
     }
 }

@@ -156,11 +156,11 @@ fn read_edit(alloc: Global, members: &Map<String, Json>) -> Result<Edit, PatchFa
         count(members),
         Edit {
             id,
-            op,
             target,
             point,
-            place,
             value,
+            op,
+            place,
         },
     )
 }

@@ -1,4 +1,4 @@
-use Rattle.std.proofs.Common.{◌≡◌, ◌==◌, position, sym, ap, ◌∙◌}
+use Rattle.std.proofs.Common.{◌==◌, position, sym, ap, ◌∙◌}
 use Rattle.yp_path.proofs.Cuts.{no_place, ends_before, begins_behind}
 use Rattle.yp_path.proofs.cut.cut_once.Goals as goal
 
