@@ -1,7 +1,7 @@
 -- Changes that are made to rows, or taken back.
 use Rattle.std.proofs.Common.{◌≡◌, List, [], ◌∷◌, map, refl, sym, ap, subst, ◌∙◌, cond, Bool, true, false, true≢false, not, Option, Some, None}
 use Rattle.std.specs.Prelude.{is_some}
-use Rattle.std.specs.List.{filter_map, cons_option}
+use Rattle.std.specs.List.{AllByRecursion, filter_map, cons_option}
 use Rattle.std.specs.List.Sorted.{IsStrictlySortedBy}
 use Rattle.std.specs.Ordering.{is_eq}
 use Rattle.yp_base.specs.declared.atom.Atom.{Atom}
@@ -14,10 +14,10 @@ use Rattle.yp_base.specs.Rows.{path_of, value_at, put_row, put_rows, AreInOrder}
 use Rattle.yp_base.proofs.Exact.{atoms_exact}
 use Rattle.yp_base.proofs.RowLaws.{value_at_put, puts_order}
 use Rattle.std.proofs.lemmas.Map.Views.{tells_apart}
-use Rattle.yp_tree.specs.Listed.{without_row}
+use Rattle.yp_tree.specs.Listed.{set_row, without_row}
 use Rattle.yp_edit.specs.declared.changed.ChangedRow.{ChangedRow}
 use Rattle.yp_edit.specs.Changes.{is_atom, same_value, are_alike, change_of, changed_rows}
-use Rattle.yp_edit.specs.Commits.{Differ, KeepsOthers, AreThere, row_with, new_row, without_missing}
+use Rattle.yp_edit.specs.Commits.{Differ, KeepsOthers, row_with, added_row, given_value, given_row, set_rows, without_missing}
 use Rattle.yp_edit.proofs.Alike.{IsBefore, keys, AreSorted, at, are_one, none_before, same_rows}
 use Rattle.yp_edit.proofs.Differing.{neither, changed_entries, changed_sorted, changed_at}
 use Rattle.yp_edit.proofs.Drafts.{or_else, value_at_puts, each_there}
@@ -36,6 +36,10 @@ pub puts_stay : (path : List Seg) (news rows : List Row) → is_some (value_at p
 puts_stay path [] rows h = h
 puts_stay path (new ∷ news) rows h = puts_stay path news (put_row new rows) (put_stays path new rows h)
 
+-- each path of some rows has a row
+abbrev pub AreThere : List Row → List Row → Type 0
+AreThere some rows = AllByRecursion (λ row. is_some (value_at row.path rows) ≡ true) some
+
 all_there : (some one other : List Row) → ((path : List Seg) → is_some (value_at path one) ≡ true → is_some (value_at path other) ≡ true) → AreThere some one → AreThere some other
 all_there [] one other stays all = tt
 all_there (row ∷ some) one other stays all = (stays row.path all.0, all_there some one other stays all.1)
@@ -45,10 +49,9 @@ pub record Putting (all before rest now : List Row) : Type 0 where
   pub rows : put_rows rest now ≡ put_rows all before
   pub others : KeepsOthers all before now
   pub among : (path : List Seg) → value_at path all ≡ None → value_at path rest ≡ None
-  pub there : AreThere all before → AreThere rest now
 
 pub none_put : (all before : List Row) → Putting all before all before
-none_put all before = record { rows = refl; others = λ path h. refl; among = λ path h. h; there = λ h. h }
+none_put all before = record { rows = refl; others = λ path h. refl; among = λ path h. h }
 
 pub one_put : (all before : List Row) (row : Row) (rest now after : List Row) → Putting all before (row ∷ rest) now → after ≡ put_row row now → Putting all before rest after
 one_put all before row rest now after put is = record {
@@ -56,7 +59,6 @@ one_put all before row rest now after put is = record {
   others = λ path h.
       ap (value_at path) is ∙ value_at_put path row now ∙ ap (λ b. cond b (Some row.value) (value_at path now)) (neither (is_eq (path_cmp path row.path)) row.value (value_at path rest) (put.among path h)).0 ∙ put.others path h;
   among = λ path h. (neither (is_eq (path_cmp path row.path)) row.value (value_at path rest) (put.among path h)).1;
-  there = λ h. subst (AreThere rest) (sym is) (all_there rest now (put_row row now) (λ path. put_stays path row now) (put.there h).1);
 }
 
 -- ---- rows that changes bring
@@ -114,14 +116,10 @@ with_path : (path : List Seg) (value : Option Value) (row : Row) → row_with pa
 with_path path None row h = let no : None ≡ Some row = h in cc
 with_path path (Some v) row h = let made : Row = record { path = path; value = v } in let same : made ≡ row = cc in ap (λ (r : Row). r.path) (sym same)
 
-given_path : (change : ChangedRow) (row : Row) → new_row true change ≡ Some row → row.path ≡ change.path
-given_path change row h =
-    elim (is_some change.old) as (λ b. cond b (row_with change.path change.new) None ≡ Some row → row.path ≡ change.path) [
-      | true ↦ λ k. with_path change.path change.new row k
-      | false ↦ λ k. let no : None ≡ Some row = k in cc
-    ] h
+given_path : (change : ChangedRow) (row : Row) → given_row change ≡ Some row → row.path ≡ change.path
+given_path change row h = with_path change.path (given_value change) row h
 
-added_path : (change : ChangedRow) (row : Row) → new_row false change ≡ Some row → row.path ≡ change.path
+added_path : (change : ChangedRow) (row : Row) → added_row change ≡ Some row → row.path ≡ change.path
 added_path change row h =
     elim (is_some change.old) as (λ b. cond b None (row_with change.path change.new) ≡ Some row → row.path ≡ change.path) [
       | true ↦ λ k. let no : None ≡ Some row = k in cc
@@ -210,7 +208,7 @@ alike_is (Some old) (Some new) h = ap (λ (v : Value). Some v) (same_is old new 
 
 -- what a change makes of a value
 made_of : Option Value → Option ChangedRow → Option Value
-made_of old change = cond (is_missing new_value change) None (or_else (of_found (new_row true) change) (or_else (of_found (new_row false) change) old))
+made_of old change = cond (is_missing new_value change) None (or_else (of_found given_row change) (or_else (of_found added_row change) old))
 
 made_new : (q : List Seg) (old new : Option Value) → made_of old (Some (record { path = q; old = old; new = new })) ≡ new
 unfolding made_of
@@ -228,7 +226,7 @@ made_right q old new =
     ] refl
 
 abbrev pub committed : List ChangedRow → List Row → List Row
-committed changes rows = without_missing new_value changes (put_rows (filter_map (new_row true) changes) (put_rows (filter_map (new_row false) changes) rows))
+committed changes rows = without_missing new_value changes (put_rows (filter_map given_row changes) (put_rows (filter_map added_row changes) rows))
 
 -- the rows that differ make one list the other
 made_all : (before after : List Row) → AreInOrder before → AreInOrder after → committed (changed_rows before after) before ≡ after
@@ -236,25 +234,17 @@ unfolding made_of
 made_all before after order after_order =
     let changes = changed_rows before after in
     let sorted = changed_sorted before after order in
-    let added = filter_map (new_row false) changes in
-    let given = filter_map (new_row true) changes in
+    let added = filter_map added_row changes in
+    let given = filter_map given_row changes in
     let first_order = puts_order added before order in
     let second_order = puts_order given (put_rows added before) first_order in
     same_rows (committed changes before) after (left_order new_value changes (put_rows given (put_rows added before)) second_order) after_order (λ q.
     left new_value before after (put_rows given (put_rows added before)) q order second_order
     ∙ ap (cond (is_missing new_value (change_of q (value_at q before) (value_at q after))) None) (
-    value_at_puts q given (put_rows added before) (brought_order (new_row true) given_path changes sorted)
-    ∙ ap (or_else (value_at q given)) (value_at_puts q added before (brought_order (new_row false) added_path changes sorted))
-    ∙ (λ i. or_else (brought (new_row true) given_path before after q order i) (or_else (brought (new_row false) added_path before after q order i) (value_at q before))))
+    value_at_puts q given (put_rows added before) (brought_order given_row given_path changes sorted)
+    ∙ ap (or_else (value_at q given)) (value_at_puts q added before (brought_order added_row added_path changes sorted))
+    ∙ (λ i. or_else (brought given_row given_path before after q order i) (or_else (brought added_row added_path before after q order i) (value_at q before))))
     ∙ made_right q (value_at q before) (value_at q after))
-
--- rows that are put and taken out as changes ask differ by these changes
-pub all_made : (changes : List ChangedRow) (before after added given now : List Row) → AreInOrder before → Differ changes before after → added ≡ filter_map (new_row false) changes → given ≡ filter_map (new_row true) changes
-    → now ≡ without_missing new_value changes (put_rows given (put_rows added before)) → Differ changes before now
-all_made changes before after added given now order differ is_added is_given is =
-    let made : now ≡ committed changes before = is ∙ (λ i. without_missing new_value changes (put_rows (is_given i) (put_rows (is_added i) before))) in
-    let same : now ≡ after = made ∙ ap (λ (cs : List ChangedRow). committed cs before) differ.changed ∙ made_all before after order differ.in_order in
-    subst (λ (rows : List Row). Differ changes before rows) (sym same) differ
 
 -- rows that differ by the same are the same
 pub same_after : (before one other : List Row) → AreInOrder before → AreInOrder one → AreInOrder other → changed_rows before one ≡ changed_rows before other → one ≡ other
@@ -262,51 +252,63 @@ same_after before one other order one_order other_order same = sym (made_all bef
 
 -- ---- changes that are taken back
 
-back_new : (q : List Seg) (old new now : Option Value) → (of_found (new_row false) (Some (record { path = q; old = old; new = new })) ≡ None → now ≡ old) → cond (not (is_some old)) None now ≡ old
+back_new : (q : List Seg) (old new now : Option Value) → (of_found added_row (Some (record { path = q; old = old; new = new })) ≡ None → now ≡ old) → cond (not (is_some old)) None now ≡ old
 back_new q None new now kept = refl
 back_new q (Some v) new now kept = kept refl
 
-back_right : (q : List Seg) (old new now : Option Value) → (of_found (new_row false) (change_of q old new) ≡ None → now ≡ old) → cond (is_missing old_value (change_of q old new)) None now ≡ old
+back_right : (q : List Seg) (old new now : Option Value) → (of_found added_row (change_of q old new) ≡ None → now ≡ old) → cond (is_missing old_value (change_of q old new)) None now ≡ old
 back_right q old new now kept =
-    elim (are_alike old new) as (λ b. (of_found (new_row false) (cond b None (Some (record { path = q; old = old; new = new }))) ≡ None → now ≡ old) → cond (is_missing old_value (cond b None (Some (record { path = q; old = old; new = new })))) None now ≡ old) [
+    elim (are_alike old new) as (λ b. (of_found added_row (cond b None (Some (record { path = q; old = old; new = new }))) ≡ None → now ≡ old) → cond (is_missing old_value (cond b None (Some (record { path = q; old = old; new = new })))) None now ≡ old) [
       | true ↦ λ k. k refl
       | false ↦ λ k. back_new q old new now k
     ] kept
 
-back_all : (before after now : List Row) → AreInOrder before → AreInOrder now → KeepsOthers (filter_map (new_row false) (changed_rows before after)) before now → without_missing old_value (changed_rows before after) now ≡ before
+back_all : (before after now : List Row) → AreInOrder before → AreInOrder now → KeepsOthers (filter_map added_row (changed_rows before after)) before now → without_missing old_value (changed_rows before after) now ≡ before
 back_all before after now order now_order others =
     same_rows (without_missing old_value (changed_rows before after) now) before (left_order old_value (changed_rows before after) now now_order) order (λ q.
     left old_value before after now q order now_order
-    ∙ back_right q (value_at q before) (value_at q after) (value_at q now) (λ none. others q (brought (new_row false) added_path before after q order ∙ none)))
+    ∙ back_right q (value_at q before) (value_at q after) (value_at q now) (λ none. others q (brought added_row added_path before after q order ∙ none)))
 
 -- what was put is taken back
-pub taken_back : (changes : List ChangedRow) (before after now : List Row) → AreInOrder before → AreInOrder now → Differ changes before after → KeepsOthers (filter_map (new_row false) changes) before now → without_missing old_value changes now ≡ before
+pub taken_back : (changes : List ChangedRow) (before after now : List Row) → AreInOrder before → AreInOrder now → Differ changes before after → KeepsOthers (filter_map added_row changes) before now → without_missing old_value changes now ≡ before
 taken_back changes before after now order now_order differ others =
     ap (λ (cs : List ChangedRow). without_missing old_value cs now) differ.changed
-    ∙ back_all before after now order now_order (subst (λ (cs : List ChangedRow). KeepsOthers (filter_map (new_row false) cs) before now) differ.changed others)
+    ∙ back_all before after now order now_order (subst (λ (cs : List ChangedRow). KeepsOthers (filter_map added_row cs) before now) differ.changed others)
 
--- ---- rows in the place of others
+-- ---- rows that get their new values
 
-was_given : (q : List Seg) (old new : Option Value) → is_some (of_found (new_row true) (Some (record { path = q; old = old; new = new }))) ≡ true → is_some old ≡ true
+was_given : (q : List Seg) (old new : Option Value) → is_some (of_found given_row (Some (record { path = q; old = old; new = new }))) ≡ true → is_some old ≡ true
 was_given q None new h = absurd (true≢false (sym h))
 was_given q (Some v) new h = refl
 
-was_there : (q : List Seg) (old new : Option Value) → is_some (of_found (new_row true) (change_of q old new)) ≡ true → is_some old ≡ true
+was_there : (q : List Seg) (old new : Option Value) → is_some (of_found given_row (change_of q old new)) ≡ true → is_some old ≡ true
 was_there q old new there =
-    elim (are_alike old new) as (λ b. is_some (of_found (new_row true) (cond b None (Some (record { path = q; old = old; new = new })))) ≡ true → is_some old ≡ true) [
+    elim (are_alike old new) as (λ b. is_some (of_found given_row (cond b None (Some (record { path = q; old = old; new = new })))) ≡ true → is_some old ≡ true) [
       | true ↦ λ h. absurd (true≢false (sym h))
       | false ↦ λ h. was_given q old new h
     ] there
 
-all_given : (before after added : List Row) → AreInOrder before → AreThere (filter_map (new_row true) (changed_rows before after)) (put_rows added before)
+all_given : (before after added : List Row) → AreInOrder before → AreThere (filter_map given_row (changed_rows before after)) (put_rows added before)
 all_given before after added order =
-    let given = filter_map (new_row true) (changed_rows before after) in
+    let given = filter_map given_row (changed_rows before after) in
     all_there given given (put_rows added before) (λ q there.
-    puts_stay q added before (was_there q (value_at q before) (value_at q after) (ap is_some (sym (brought (new_row true) given_path before after q order)) ∙ there)))
-    (each_there given (brought_order (new_row true) given_path (changed_rows before after) (changed_sorted before after order)))
+    puts_stay q added before (was_there q (value_at q before) (value_at q after) (ap is_some (sym (brought given_row given_path before after q order)) ∙ there)))
+    (each_there given (brought_order given_row given_path (changed_rows before after) (changed_sorted before after order)))
 
--- each row in the place of another still finds one there
-pub given_there : (changes : List ChangedRow) (before after added given now : List Row) → AreInOrder before → Differ changes before after → given ≡ filter_map (new_row true) changes → now ≡ put_rows added before → AreThere given now
-given_there changes before after added given now order differ is put =
-    let rows : given ≡ filter_map (new_row true) (changed_rows before after) = is ∙ ap (filter_map (new_row true)) differ.changed in
-    subst (AreThere given) (sym put) (subst (λ (some : List Row). AreThere some (put_rows added before)) (sym rows) (all_given before after added order))
+-- where a row is there, setting it is putting it
+all_set : (news rows : List Row) → AreThere news rows → set_rows news rows ≡ put_rows news rows
+all_set [] rows all = refl
+all_set (new ∷ news) rows all =
+    ap (set_rows news) (ap (λ b. cond b (put_row new rows) rows) all.0)
+    ∙ all_set news (put_row new rows) (all_there news rows (put_row new rows) (λ path. put_stays path new rows) all.1)
+
+-- rows that are put, set and taken out as changes ask differ by these changes
+pub all_made : (changes : List ChangedRow) (before after added now : List Row) → AreInOrder before → Differ changes before after → added ≡ filter_map added_row changes
+    → now ≡ without_missing new_value changes (set_rows (filter_map given_row changes) (put_rows added before)) → Differ changes before now
+all_made changes before after added now order differ is_added is =
+    let there : AreThere (filter_map given_row changes) (put_rows added before) = subst (λ (cs : List ChangedRow). AreThere (filter_map given_row cs) (put_rows added before)) (sym differ.changed) (all_given before after added order) in
+    let put : set_rows (filter_map given_row changes) (put_rows added before) ≡ put_rows (filter_map given_row changes) (put_rows (filter_map added_row changes) before) =
+    all_set (filter_map given_row changes) (put_rows added before) there ∙ ap (λ (rows : List Row). put_rows (filter_map given_row changes) (put_rows rows before)) is_added in
+    let made : now ≡ committed changes before = is ∙ ap (without_missing new_value changes) put in
+    let same : now ≡ after = made ∙ ap (λ (cs : List ChangedRow). committed cs before) differ.changed ∙ made_all before after order differ.in_order in
+    subst (λ (rows : List Row). Differ changes before rows) (sym same) differ

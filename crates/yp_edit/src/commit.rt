@@ -1,40 +1,50 @@
 //! Changes that a tree takes, all or none.
-ghost use Rattle.std.specs.Prelude.{◌≡◌, List, IfOk, IsOk, OnOk, OnErr};
+ghost use Rattle.std.specs.Prelude.{◌≡◌, List, IfOk, OnOk, OnErr};
 ghost use Rattle.std.specs.List.{filter_map};
 ghost use Rattle.yp_base.specs.declared.row.Row.{Row};
 ghost use Rattle.yp_base.specs.Rows.{put_rows};
-ghost use Rattle.yp_edit.specs.Commits.{new_row, without_missing, Differ, AreThere, KeepsOthers};
+ghost use Rattle.yp_edit.specs.Commits.{added_row, given_row, given_value, set_rows, without_missing, Differ, KeepsOthers};
 
 use crate::changed::Changed;
 use std::alloc::Global;
 use yp_base::memory::{Duplicate, NoMemory};
-use yp_base::row::{Row, Rows};
+use yp_base::row::{Row, Rows, Value};
 use yp_base::series::Series;
 use yp_tree::tree::Tree;
 
-/// Copies of the new rows of the paths that had a row, or of those that had none.
-fn new_rows(alloc: Global, changed: &Changed, had: bool) -> Result<Rows, NoMemory>
-    ensures { IfOk result (λ rows. rows ≡ filter_map (new_row had) changed.now) }
+/// Copies of the new rows of the paths that had none.
+fn added_rows(alloc: Global, changed: &Changed) -> Result<Rows, NoMemory>
+    ensures { IfOk result (λ rows. rows ≡ filter_map added_row changed.now) }
 {
     let mut rows = Vec::new(alloc);
     for change in changed.items() {
-        if change.old.is_some() == had {
-            if let Some(value) = &change.new {
-                rows.push(Row {
-                    path: change.path.copy(alloc)?,
-                    value: value.copy(alloc)?,
-                })?;
-            }
+        if let (None, Some(value)) = (&change.old, &change.new) {
+            rows.push(Row {
+                path: change.path.copy(alloc)?,
+                value: value.copy(alloc)?,
+            })?;
         }
     }
     Ok(Series::from_vec(rows))
 }
 
-/// Puts rows, until memory runs out; it doesn't where each takes the place of another.
+/// Copies of the new values of the paths that had a row.
+fn given_values(alloc: Global, changed: &Changed) -> Result<Series<Value>, NoMemory>
+    ensures { IfOk result (λ values. values ≡ filter_map given_value changed.now) }
+{
+    let mut values = Vec::new(alloc);
+    for change in changed.items() {
+        if let (Some(_), Some(value)) = (&change.old, &change.new) {
+            values.push(value.copy(alloc)?)?;
+        }
+    }
+    Ok(Series::from_vec(values))
+}
+
+/// Puts rows, until memory runs out.
 fn put_all(alloc: Global, tree: &mut Tree, rows: Rows) -> Result<(), NoMemory>
     ensures rows { OnOk result (tree.new ≡ put_rows rows tree.old) }
     ensures others { KeepsOthers rows tree.old tree.new }
-    ensures room { AreThere rows tree.old → IsOk result }
 {
     for row in rows.into_vec() {
         tree.put(alloc, row)?;
@@ -53,6 +63,21 @@ fn take_back(tree: &mut Tree, changed: &Changed)
     }
 }
 
+/// Gives the rows of the paths that had one these new values, in order.
+fn give(tree: &mut Tree, changed: &Changed, values: Series<Value>)
+    requires { values ≡ filter_map given_value changed.now }
+    ensures { tree.new ≡ set_rows (filter_map given_row changed.now) tree.old }
+{
+    let mut rest = values.into_vec().into_iter();
+    for change in changed.items() {
+        if change.old.is_some() && change.new.is_some() {
+            if let Some(value) = rest.next() {
+                tree.set(&change.path, value);
+            }
+        }
+    }
+}
+
 /// Takes out the rows of paths that are to have none.
 fn take_out(tree: &mut Tree, changed: &Changed)
     ensures { tree.new ≡ without_missing (λ change. change.new) changed.now tree.old }
@@ -64,24 +89,23 @@ fn take_out(tree: &mut Tree, changed: &Changed)
     }
 }
 
-/// Makes changes of a tree's rows. What takes memory comes first: copies of the new rows, and then the
-/// rows of new paths, which are taken out again where it runs out. After `NoMemory` the tree is as it was.
+/// Makes changes of a tree's rows. What takes memory comes first: the rows of new paths and the new values
+/// of the others are copied, and then the rows are put, and taken out again where it runs out. After
+/// `NoMemory` the tree is as it was.
 pub fn commit(alloc: Global, tree: &mut Tree, changed: &Changed) -> Result<(), NoMemory>
     requires { (after : List Row) × Differ changed.now tree.old after }
     ensures made { OnOk result (Differ changed.now tree.old tree.new) }
     ensures unchanged { OnErr result (tree.new ≡ tree.old) }
 {
     let _rows = tree.len();
-    let added = new_rows(alloc, changed, false)?;
-    let given = new_rows(alloc, changed, true)?;
+    let added = added_rows(alloc, changed)?;
+    let given = given_values(alloc, changed)?;
     if let Err(fault) = put_all(alloc, tree, added) {
         let _left = tree.len();
         take_back(tree, changed);
         return Err(fault);
     }
-    if let Err(_) = put_all(alloc, tree, given) {
-        unreachable!()
-    }
+    give(tree, changed, given);
     take_out(tree, changed);
     Ok(())
 }

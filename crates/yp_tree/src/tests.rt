@@ -304,6 +304,19 @@ fn a_row_put_again_has_its_new_value(rt: HostRuntime) -> Result<(), Fail> {
 }
 
 #[test]
+fn a_value_is_set_only_where_a_row_is(rt: HostRuntime) -> Result<(), Fail> {
+    let alloc = rt.alloc();
+    let mut tree = Tree::new(alloc);
+    put_number(&mut tree, alloc, leaf(alloc, "a")?, 1)?;
+    tree.set(&leaf(alloc, "a")?, Value::Atom(Atom::Uint(2)));
+    tree.set(&leaf(alloc, "b")?, Value::Atom(Atom::Uint(3)));
+    assert_eq!(rt; tree.len(), 1);
+    let value = found(&tree, &leaf(alloc, "a")?);
+    assert!(rt; matches!(&value, Some(Value::Atom(Atom::Uint(2)))));
+    Ok(())
+}
+
+#[test]
 fn renewed_rows_take_the_place_of_those_below(rt: HostRuntime) -> Result<(), Fail> {
     let alloc = rt.alloc();
     let mut tree = tree_of(alloc, entries_and_leaves(alloc, &["a", "b"])?)?;

@@ -3,7 +3,7 @@ ghost use Rattle.std.specs.Prelude.{◌≡◌, ◌+◌, ◌^◌, ◌<◌, ◌≤
 ghost use Rattle.std.specs.Bound.{bound_map};
 ghost use Rattle.yp_base.specs.Rows.{path_of, value_at, put_row, put_rows, next_row, has_within, rows_within, rows_without, AreInOrder};
 ghost use Rattle.yp_tree.specs.Begins.{Begins};
-ghost use Rattle.yp_tree.specs.Listed.{HaveRows, row_of, without_row};
+ghost use Rattle.yp_tree.specs.Listed.{HaveRows, row_of, set_row, without_row};
 
 use std::alloc::Global;
 use std::collections::BTreeMap;
@@ -162,6 +162,16 @@ impl Tree {
         let Row { path, value } = row;
         self.kept.insert(path, value)?;
         Ok(())
+    }
+
+    /// Gives a value to the row that has this path; without such a row the tree stays as it is. It takes
+    /// no memory.
+    pub fn set(&mut self, path: &Path, value: Value)
+        ensures { self.new ≡ set_row (row_of (path.now, value)) self.old }
+    {
+        if let Some(kept) = self.kept.get_mut(path) {
+            *kept = value;
+        }
     }
 
     /// Takes out the rows at or below the path, and gives them in order. After `NoMemory` the tree is
