@@ -5,6 +5,7 @@ ghost use Rattle.yp_script.specs.Faults.{said_map};
 ghost use Rattle.yp_script.specs.Lines.{pieces_of, without_feed, is_blank, json_of, json_in};
 
 use crate::fault::ScriptKind;
+use memchr::memchr;
 use serde_json::Value as Json;
 use std::alloc::{AllocError, Global};
 use yp_base::memory::NoMemory;
@@ -18,12 +19,10 @@ fn line_end(bytes: &[u8]) -> usize
     ensures found { result < length bytes.now → slice_index bytes.now result ≡ 10 }
     ensures within { result ≤ length bytes.now }
 {
-    for (at, byte) in bytes.iter().enumerate() {
-        if *byte == b'\n' {
-            return at;
-        }
+    match memchr(b'\n', bytes) {
+        Some(at) => at,
+        None => bytes.len(),
     }
-    bytes.len()
 }
 
 /// The first line without its line feed, and what stands behind it.
