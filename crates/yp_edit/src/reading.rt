@@ -17,6 +17,9 @@ use yp_base::payload::Payload;
 use yp_base::series::Series;
 use yp_base::txt::Txt;
 
+/// The most edits whose ids are compared without a set of them.
+const FEW_EDITS: usize = 8;
+
 /// The operation of a name.
 fn op_of(name: &str) -> Option<EditOp>
     ensures { result ≡ op_named name.now }
@@ -131,6 +134,7 @@ fn has_parts(edit: &Edit) -> bool
 }
 
 /// An edit of these parts, where an object of so many members has no others.
+#[inline(always)]
 fn whole_edit(count: usize, edit: Edit) -> Result<Edit, PatchFault>
     ensures { ReadsAs result (edit_of count edit) }
 {
@@ -143,6 +147,7 @@ fn whole_edit(count: usize, edit: Edit) -> Result<Edit, PatchFault>
 }
 
 /// An edit.
+#[inline(always)]
 fn read_edit(alloc: Global, members: &Map<String, Json>) -> Result<Edit, PatchFault>
     ensures { ReadsAs result (edit_in (members_view members.now.entries)) }
 {
@@ -166,6 +171,7 @@ fn read_edit(alloc: Global, members: &Map<String, Json>) -> Result<Edit, PatchFa
 }
 
 /// An item of the array of edits.
+#[inline(always)]
 fn read_item(alloc: Global, json: &Json) -> Result<Edit, PatchFault>
     ensures { ReadsAs result (option_and_then edit_in (as_object (view json.now))) }
 {
@@ -191,10 +197,39 @@ fn read_items(alloc: Global, items: &Vec<Json>) -> Result<Edits, PatchFault>
     Ok(Series::from_vec(edits))
 }
 
+/// Whether one of some edits has this id.
+fn is_among(id: &Txt, edits: &[Edit]) -> bool
+    ensures { result ≡ is_among id.now (ids_of edits.now) }
+{
+    for edit in edits {
+        if *id == edit.id {
+            return true;
+        }
+    }
+    false
+}
+
+/// Whether the ids of a few edits are distinct: each is compared with each other.
+fn are_few_distinct(edits: &[Edit]) -> bool
+    ensures { result ≡ are_distinct (ids_of edits.now) }
+{
+    let mut rest = edits;
+    while let Some((edit, more)) = rest.split_first() {
+        if is_among(&edit.id, more) {
+            return false;
+        }
+        rest = more;
+    }
+    true
+}
+
 /// Whether the edits' ids are distinct.
 fn are_distinct(alloc: Global, edits: &[Edit]) -> Result<bool, NoMemory>
     ensures { IfOk result (λ distinct. distinct ≡ are_distinct (ids_of edits.now)) }
 {
+    if edits.len() <= FEW_EDITS {
+        return Ok(are_few_distinct(edits));
+    }
     let mut seen = BTreeSet::new(alloc);
     for edit in edits {
         if !seen.insert(&edit.id)? {
