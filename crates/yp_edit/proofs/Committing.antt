@@ -14,7 +14,7 @@ use Rattle.yp_base.specs.Rows.{path_of, value_at, put_row, put_rows, AreInOrder}
 use Rattle.yp_base.proofs.Exact.{atoms_exact}
 use Rattle.yp_base.proofs.RowLaws.{value_at_put, puts_order}
 use Rattle.std.proofs.lemmas.Map.Views.{tells_apart}
-use Rattle.yp_tree.specs.Listed.{set_row, without_row}
+use Rattle.yp_tree.specs.Listed.{without_row}
 use Rattle.yp_edit.specs.declared.changed.ChangedRow.{ChangedRow}
 use Rattle.yp_edit.specs.Changes.{is_atom, same_value, are_alike, change_of, changed_rows}
 use Rattle.yp_edit.specs.Commits.{Differ, KeepsOthers, row_with, added_row, given_value, given_row, set_rows, without_missing}

@@ -1,14 +1,10 @@
 -- Edits that are made one after another.
-use Rattle.std.proofs.Common.{◌≡◌, ℕ, ◌+◌, ◌<◌, ◌≤◌, List, [], ◌∷◌, ◌++◌, length, map, drop, get_or, refl, sym, ap, subst, ◌∙◌}
+use Rattle.std.proofs.Common.{◌≡◌, ℕ, ◌+◌, ◌<◌, List, ◌∷◌, length, drop, get_or, sym, ap, subst, ◌∙◌}
 use Rattle.std.specs.List.{AllByRecursion}
-use Rattle.std.proofs.lemmas.List.{drop_more, drop_all}
+use Rattle.std.proofs.lemmas.List.{drop_more}
 use Rattle.yp_base.specs.declared.notice.Change.{Change}
 use Rattle.yp_schema.specs.declared.schema.SchemaNode.{SchemaNode}
-use Rattle.yp_encode.specs.Lines.{edit_data, edits_from}
 use Rattle.yp_encode.specs.Sendable.{IsSendableChange}
-use Rattle.serde_json.specs.Data.{Data, Items, no_items, item}
-use Rattle.serde_json.specs.View.{view, items_of}
-use Rattle.serde_json.specs.declared.value.Value.{Value}
 
 first_left : (P : Change → Type 0) (i : ℕ) (changes : List Change) (change : Change) → drop i changes ≡ change ∷ drop (i + 1) changes → AllByRecursion P (drop i changes) → P change × AllByRecursion P (drop (i + 1) changes)
 first_left P i changes change is all = subst (AllByRecursion P) is all

@@ -4,7 +4,7 @@ use Rattle.std.specs.Prelude.{codes, decimal}
 use Rattle.std.specs.List.{list_all}
 use Rattle.std.proofs.lemmas.List.{drop_all}
 use Rattle.json.specs.Print.{escape_byte, quoted}
-use Rattle.serde_json.specs.Data.{Data, Items, no_members, member}
+use Rattle.serde_json.specs.Data.{Data, no_members, member}
 use Rattle.serde_json.specs.Written.{compact_text, comma_if, items_text, members_text}
 use Rattle.yp_base.specs.declared.notice.Change.{Change}
 use Rattle.yp_base.specs.declared.notice.Notice.{Notice}

@@ -1,5 +1,5 @@
 -- Parts of a line, as texts.
-use Rattle.std.specs.Prelude.{ℕ, List, [], ◌∷◌, ◌++◌, Bool, not, ◌&&◌, ◌==◌, nat_le, codes, decimal}
+use Rattle.std.specs.Prelude.{ℕ, List, ◌++◌, Bool, not, ◌&&◌, ◌==◌, nat_le, codes, decimal}
 use Rattle.json.specs.Print.{quoted}
 use Rattle.yp_base.specs.declared.notice.Change.{Change}
 use Rattle.yp_schema.specs.declared.schema.SchemaNode.{SchemaNode}

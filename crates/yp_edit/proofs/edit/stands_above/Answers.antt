@@ -21,7 +21,6 @@ has_its_row-stands-requires-clause-last g c =
     ap last_node (with_copy c.loop-segment.front.items c.push.new.self.items c.in_ok-copy.field-0 c.in-Some.segment.now c.in_ok-push.ensures.items c.in_ok-copy.ensures)
     ∙ last_node-append c.loop-segment.front.items c.in-Some.segment.now
 
-
 pub returns-then-not-stands : goal.returns-then-not-stands
 returns-then-not-stands g c =
     let test : List Seg → Bool = has_its_row c.args.schema.now c.args.draft.now.after in
