@@ -5,5 +5,8 @@ pub mod Names
 pub mod Nodes
 pub mod Reading
 pub mod Rounds
+pub mod RulePaths
+pub mod SchemaLaws
 pub mod Stated
+pub mod Values
 pub mod WellFormed

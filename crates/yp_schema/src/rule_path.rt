@@ -1,5 +1,12 @@
 //! The paths of access control rules (RFC 8341 section 3.3.5): a path whose keys may be left open.
 ghost use Rattle.std.specs.Prelude.{◌≡◌, IfOk, length};
+ghost use Rattle.std.specs.Cmp.Lexicographic.{pointwise, lists_equiv, options_equiv};
+ghost use Rattle.std.specs.Cmp.{partial_equiv_from_equiv};
+ghost use Rattle.std.specs.Option.{option_eq};
+ghost use Rattle.std.specs.Ordering.{eq_by_cmp};
+ghost use Rattle.std.proofs.lemmas.Cmp.{eq_by_cmp_equiv};
+ghost use Rattle.yp_base.specs.Order.{atom_cmp};
+ghost use Rattle.yp_base.specs.OrderLaws.{atoms_total};
 
 use std::alloc::Global;
 use std::marker::Model;
@@ -47,6 +54,20 @@ impl RuleKeys {
     }
 }
 
+impl PartialEq for RuleKeys {
+    ghost eq = { pointwise (option_eq (eq_by_cmp atom_cmp)) };
+
+    ghost laws = { partial_equiv_from_equiv (lists_equiv (options_equiv (eq_by_cmp_equiv atoms_total))) };
+
+    fn eq(&self, other: &RuleKeys) -> bool {
+        self.kept == other.kept
+    }
+}
+
+impl Eq for RuleKeys {
+    ghost laws = { lists_equiv (options_equiv (eq_by_cmp_equiv atoms_total)) };
+}
+
 impl Duplicate for RuleKeys {
     fn copy(&self, alloc: Global) -> Result<RuleKeys, NoMemory> {
         let mut copies = Vec::new(alloc);
@@ -58,7 +79,7 @@ impl Duplicate for RuleKeys {
 }
 
 /// A step of a rule's path: a node of the schema, with its keys where it is a list.
-#[derive(Drop)]
+#[derive(Drop, PartialEq, Eq)]
 pub struct RuleSeg {
     pub node: u32,
     pub keys: RuleKeys,

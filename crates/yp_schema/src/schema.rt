@@ -1,12 +1,15 @@
 //! The schema and its accessors.
-ghost use Rattle.std.specs.Prelude.{◌≡◌, ◌<◌, ◌↔◌, ℕ, List, length, map, IfSome, Ok, option_copied};
+ghost use Rattle.std.specs.Prelude.{◌≡◌, ◌<◌, ◌↔◌, ℕ, List, length, map, All, IfSome, Ok, option_copied, true};
 ghost use Rattle.serde_json.specs.Data.{Data};
 ghost use Rattle.serde_json.specs.View.{view};
+ghost use Rattle.yp_base.specs.Texts.{ReadsAs};
+ghost use Rattle.yp_base.specs.Types.{is_type};
 ghost use Rattle.yp_schema.specs.declared.schema.SchemaNode.{SchemaNode};
 ghost use Rattle.yp_schema.specs.Compiled.{Compiles};
 ghost use Rattle.yp_schema.specs.Nodes.{node_at, child_of, is_key, is_in};
 ghost use Rattle.yp_schema.specs.Reading.{Reads, schema_of};
-ghost use Rattle.yp_schema.specs.WellFormed.{IsSchema};
+ghost use Rattle.yp_schema.specs.Values.{typed_value, typed_atom};
+ghost use Rattle.yp_schema.specs.WellFormed.{IsSchema, is_key_leaf};
 
 use crate::fault::SchemaFault;
 use crate::index::{Children, index_nodes, look_up, slot_of};
@@ -15,8 +18,12 @@ use crate::numbers::number_nodes;
 use serde_json::Value as Json;
 use std::alloc::Global;
 use std::marker::Model;
+use yp_base::atom::Atom;
+use yp_base::json::read_json;
 use yp_base::leaf_type::LeafType;
+use yp_base::row::Value;
 use yp_base::series::Series;
+use yp_base::text::TextFault;
 use yp_base::txt::Txt;
 
 /// What a node is (RFC 7950 section 4.2.2). `Presence` is a container with presence.
@@ -86,6 +93,11 @@ impl Schema {
         self.nodes.len() as u32
     }
 
+    /// What each schema keeps. It does nothing.
+    pub fn stands(&self)
+        ensures { IsSchema self.now }
+    {}
+
     fn node(&self, node: u32) -> &SchemaNode
         requires { node < length self.now }
         ensures { result.now ≡ node_at node self.now }
@@ -102,17 +114,22 @@ impl Schema {
     }
 
     /// The node above, `None` for one at the top.
+    #[tactic(auto, using(crate::specs::SchemaLaws::parent_before))]
     pub fn parent(&self, node: u32) -> Option<u32>
         requires { node < length self.now }
-        ensures { result ≡ (node_at node self.now).parent }
+        ensures parent { result ≡ (node_at node self.now).parent }
+        ensures before { IfSome result (λ parent. parent < node) }
+        ensures within { IfSome result (λ parent. parent < length self.now) }
     {
         self.node(node).parent
     }
 
     /// The type of a leaf or leaf-list, `None` for any other node.
+    #[tactic(auto, using(crate::specs::SchemaLaws::type_is))]
     pub fn ty(&self, node: u32) -> Option<&LeafType>
         requires { node < length self.now }
-        ensures { option_copied result ≡ (node_at node self.now).ty }
+        ensures ty { option_copied result ≡ (node_at node self.now).ty }
+        ensures stands { IfSome result (λ ty. is_type ty.now ≡ true) }
     {
         self.node(node).ty.as_ref()
     }
@@ -150,9 +167,12 @@ impl Schema {
     }
 
     /// The numbers of a list's key leaves, in the order of the `keys` statement; none for any other.
+    #[tactic(auto, using(crate::specs::SchemaLaws::keys_are_leaves, crate::specs::SchemaLaws::keys_within))]
     pub fn keys(&self, node: u32) -> &[u32]
         requires { node < length self.now }
-        ensures { result.now ≡ (node_at node self.now).keys }
+        ensures keys { result.now ≡ (node_at node self.now).keys }
+        ensures leaves { All (λ key. is_key_leaf node self.now key ≡ true) result.now }
+        ensures within { All (λ key. key < length self.now) result.now }
     {
         self.node(node).keys.items()
     }
@@ -174,6 +194,30 @@ impl Schema {
         ensures within { IfSome result (λ node. node < length self.now) }
     {
         look_up(self.index.as_slice(), slot_of(parent), member)
+    }
+
+    /// Reads JSON as a value of a node's type (RFC 7951 section 6). `BadText` comes exactly where it is
+    /// none, or where the node has no type.
+    pub fn read_value(&self, alloc: Global, node: u32, json: &Json) -> Result<Value, TextFault>
+        requires { node < length self.now }
+        ensures { ReadsAs result (typed_value (node_at node self.now).ty (view json.now)) }
+    {
+        match self.ty(node) {
+            Some(ty) => read_json(alloc, ty, json),
+            None => Err(TextFault::BadText),
+        }
+    }
+
+    /// Reads JSON as the value of a key or of a leaf-list entry, which is an atom. `BadText` comes exactly
+    /// where it is none, or where the node has no type.
+    pub fn read_atom(&self, alloc: Global, node: u32, json: &Json) -> Result<Atom, TextFault>
+        requires { node < length self.now }
+        ensures { ReadsAs result (typed_atom (node_at node self.now).ty (view json.now)) }
+    {
+        match self.read_value(alloc, node, json)? {
+            Value::Atom(atom) => Ok(atom),
+            _ => Err(TextFault::BadText),
+        }
     }
 }
 

@@ -23,7 +23,7 @@ pub write_item-put_keys-requires-clause-nodes : goal.write_item-put_keys-require
 write_item-put_keys-requires-clause-nodes t c =
     let nodes = c.args.schema.now in
     let seg = c.args.seg.now in
-    subst (λ ks. AreNodes nodes ks) (sym c.keys.ensures) (keys_within nodes c.requires.schema seg.node (segment_node nodes seg c.requires.segment) (sym c.kind.ensures ∙ c.in-List.is))
+    subst (λ ks. AreNodes nodes ks) (sym c.keys.ensures.keys) (keys_within nodes c.requires.schema seg.node (segment_node nodes seg c.requires.segment) (sym c.kind.ensures ∙ c.in-List.is))
 
 pub write_items-write_item-requires : goal.write_items-write_item-requires
 write_items-write_item-requires t c =

@@ -1,0 +1,109 @@
+-- What follows of a compiled schema, and of its paths.
+use Rattle.std.proofs.Common.{◌≡◌, ℕ, ◌<◌, List, [], ◌∷◌, length, true, false, true≢false, refl, sym, ap, ◌∙◌, Option, Some, None, IfSome, absurd}
+use Rattle.std.specs.Prelude.{not, All}
+use Rattle.std.proofs.lemmas.Bool.{and_parts, and_from, ltb-true}
+use Rattle.std.proofs.lemmas.List.Elements.{All-nil, All-cons, All-weaker}
+use Rattle.yp_base.specs.declared.leaf_type.LeafType.{LeafType}
+use Rattle.yp_base.specs.declared.path.Seg.{Seg}
+use Rattle.yp_base.specs.declared.row.Row.{Row}
+use Rattle.yp_base.specs.declared.row.Value.{Value}
+use Rattle.yp_base.specs.Types.{is_type}
+use Rattle.yp_schema.specs.declared.schema.SchemaNode.{SchemaNode}
+use Rattle.yp_schema.specs.declared.schema.Kind.{Kind}
+use Rattle.yp_schema.specs.declared.schema.Kind.TheVariants.{Container, Presence, List as Listing, Leaf, LeafList}
+use Rattle.yp_schema.specs.Nodes.{node_at}
+use Rattle.yp_schema.specs.WellFormed.{IsSchema, is_parent_of, kind_stands, has_none, has_type, has_atom_type, is_empty, is_key_leaf, are_key_leaves}
+use Rattle.yp_schema.specs.Datastore.{is_segment, goes_down, is_path_of, last_node, is_key_at, ends_in_key, is_place, holds_value, IsRowOf}
+
+-- ---- the nodes of a schema
+
+parent_of : (parent : Option ℕ) (n : ℕ) (nodes : List SchemaNode) → is_parent_of parent n nodes ≡ true → IfSome parent (λ p. p < n)
+parent_of None n nodes h = tt
+parent_of (Some p) n nodes h = ltb-true p n (and_parts _ _ h).0
+
+-- a parent stands before its children
+pub parent_before : (nodes : List SchemaNode) (n : ℕ) → IsSchema nodes → n < length nodes → IfSome (node_at n nodes).parent (λ p. p < n)
+parent_before nodes n schema within = parent_of (node_at n nodes).parent n nodes (schema.each n within).parent
+
+type_of_kind : (kind : Kind) (n : ℕ) (nodes : List SchemaNode) (node : SchemaNode) (ty : LeafType) → kind_stands kind n nodes node ≡ true → node.ty ≡ Some ty → is_type ty ≡ true
+type_of_kind Container n nodes node ty h is = absurd (true≢false (sym (and_parts _ _ h).1 ∙ ap has_none is))
+type_of_kind Presence n nodes node ty h is = absurd (true≢false (sym (and_parts _ _ h).1 ∙ ap has_none is))
+type_of_kind Listing n nodes node ty h is = absurd (true≢false (sym (and_parts _ _ h).1 ∙ ap has_none is))
+type_of_kind Leaf n nodes node ty h is = sym (ap has_type is) ∙ (and_parts _ _ h).1
+type_of_kind LeafList n nodes node ty h is = (and_parts _ _ (sym (ap has_atom_type is) ∙ (and_parts _ _ h).1)).0
+
+-- the type of a node is a type
+pub type_is : (nodes : List SchemaNode) (n : ℕ) (ty : LeafType) → IsSchema nodes → n < length nodes → (node_at n nodes).ty ≡ Some ty → is_type ty ≡ true
+type_is nodes n ty schema within is = type_of_kind (node_at n nodes).kind n nodes (node_at n nodes) ty (schema.each n within).kind is
+
+no_leaves : (n : ℕ) (nodes : List SchemaNode) (ks : List ℕ) → is_empty ks ≡ true → All (λ k. is_key_leaf n nodes k ≡ true) ks
+no_leaves n nodes [] h = All-nil _
+no_leaves n nodes (k ∷ ks) h = absurd (true≢false (sym h))
+
+each_leaf : (n : ℕ) (nodes : List SchemaNode) (ks : List ℕ) → are_key_leaves n nodes ks ≡ true → All (λ k. is_key_leaf n nodes k ≡ true) ks
+each_leaf n nodes [] h = All-nil _
+each_leaf n nodes (k ∷ ks) h = All-cons (λ k. is_key_leaf n nodes k ≡ true) k ks (and_parts _ _ (and_parts _ _ h).0).0 (each_leaf n nodes ks (and_parts _ _ h).1)
+
+leaves_of_kind : (kind : Kind) (n : ℕ) (nodes : List SchemaNode) (node : SchemaNode) → kind_stands kind n nodes node ≡ true → All (λ k. is_key_leaf n nodes k ≡ true) node.keys
+leaves_of_kind Container n nodes node h = no_leaves n nodes node.keys (and_parts _ _ h).0
+leaves_of_kind Presence n nodes node h = no_leaves n nodes node.keys (and_parts _ _ h).0
+leaves_of_kind Listing n nodes node h = each_leaf n nodes node.keys (and_parts _ _ (and_parts _ _ h).0).1
+leaves_of_kind Leaf n nodes node h = no_leaves n nodes node.keys (and_parts _ _ h).0
+leaves_of_kind LeafList n nodes node h = no_leaves n nodes node.keys (and_parts _ _ h).0
+
+-- each key of a node is a leaf below it
+pub keys_are_leaves : (nodes : List SchemaNode) (n : ℕ) → IsSchema nodes → n < length nodes → All (λ k. is_key_leaf n nodes k ≡ true) (node_at n nodes).keys
+keys_are_leaves nodes n schema within = leaves_of_kind (node_at n nodes).kind n nodes (node_at n nodes) (schema.each n within).kind
+
+leaf_within : (n : ℕ) (nodes : List SchemaNode) (k : ℕ) → is_key_leaf n nodes k ≡ true → k < length nodes
+leaf_within n nodes k h = ltb-true k (length nodes) (and_parts _ _ (and_parts _ _ (and_parts _ _ (and_parts _ _ h).0).0).0).0
+
+-- and one of its nodes
+pub keys_within : (nodes : List SchemaNode) (n : ℕ) → IsSchema nodes → n < length nodes → All (λ k. k < length nodes) (node_at n nodes).keys
+keys_within nodes n schema within = All-weaker (λ k. is_key_leaf n nodes k ≡ true) (λ k. k < length nodes) (leaf_within n nodes) (node_at n nodes).keys (keys_are_leaves nodes n schema within)
+
+-- ---- its paths
+
+-- a segment is of a node
+pub segment_within : (nodes : List SchemaNode) (seg : Seg) → is_segment nodes seg ≡ true → seg.node < length nodes
+segment_within nodes seg h = ltb-true seg.node (length nodes) (and_parts _ _ h).0
+
+each_segment : (nodes : List SchemaNode) (parent : Option ℕ) (path : List Seg) → goes_down nodes parent path ≡ true → All (λ seg. is_segment nodes seg ≡ true) path
+each_segment nodes parent [] h = All-nil _
+each_segment nodes parent (seg ∷ path) h =
+    All-cons (λ seg. is_segment nodes seg ≡ true) seg path (and_parts _ _ (and_parts _ _ h).0).1 (each_segment nodes (Some seg.node) path (and_parts _ _ h).1)
+
+-- a path goes down from the top
+pub path_down : (nodes : List SchemaNode) (path : List Seg) → is_path_of nodes path ≡ true → goes_down nodes None path ≡ true
+path_down nodes [] h = refl
+path_down nodes (seg ∷ path) h = h
+
+-- each of its segments has the keys that its node asks for
+pub path_segments : (nodes : List SchemaNode) (path : List Seg) → is_path_of nodes path ≡ true → All (λ seg. is_segment nodes seg ≡ true) path
+path_segments nodes path h = each_segment nodes None path (path_down nodes path h)
+
+-- and is of a node
+pub path_within : (nodes : List SchemaNode) (path : List Seg) → is_path_of nodes path ≡ true → All (λ seg. seg.node < length nodes) path
+path_within nodes path h = All-weaker (λ seg. is_segment nodes seg ≡ true) (λ seg. seg.node < length nodes) (segment_within nodes) path (path_segments nodes path h)
+
+down_end : (nodes : List SchemaNode) (parent : Option ℕ) (path : List Seg) → goes_down nodes parent path ≡ true → IfSome (last_node path) (λ n. n < length nodes)
+down_end nodes parent [] h = tt
+down_end nodes parent (seg ∷ []) h = segment_within nodes seg (and_parts _ _ (and_parts _ _ h).0).1
+down_end nodes parent (seg ∷ next ∷ path) h = down_end nodes (Some seg.node) (next ∷ path) (and_parts _ _ h).1
+
+-- as is its end
+pub path_end : (nodes : List SchemaNode) (path : List Seg) → is_path_of nodes path ≡ true → IfSome (last_node path) (λ n. n < length nodes)
+path_end nodes path h = down_end nodes None path (path_down nodes path h)
+
+-- data may stand at a path that ends in no key leaf
+pub open_place : (nodes : List SchemaNode) (path : List Seg) → is_path_of nodes path ≡ true → not (ends_in_key nodes path) ≡ true → is_place nodes path ≡ true
+open_place nodes [] is open_end = refl
+open_place nodes (seg ∷ path) is open_end = and_from _ _ is open_end
+
+open_row : (nodes : List SchemaNode) (end : Option ℕ) (value : Value) → holds_value nodes end value ≡ true → not (is_key_at nodes end) ≡ true
+open_row nodes None value h = refl
+open_row nodes (Some n) value h = (and_parts _ _ h).0
+
+-- and so at the path of each row
+pub row_place : (nodes : List SchemaNode) (row : Row) → IsRowOf nodes row → is_place nodes row.path ≡ true
+row_place nodes row is = open_place nodes row.path is.path (open_row nodes (last_node row.path) row.value is.value)
