@@ -1,5 +1,5 @@
 -- What follows of a compiled schema, and of its paths.
-use Rattle.std.proofs.Common.{◌≡◌, ℕ, ◌<◌, List, [], ◌∷◌, length, true, false, true≢false, refl, sym, ap, ◌∙◌, Option, Some, None, IfSome, absurd}
+use Rattle.std.proofs.Common.{◌≡◌, ℕ, ◌<◌, List, [], ◌∷◌, length, true, false, true≢false, refl, sym, ap, ◌∙◌, Option, Some, None, IfSome}
 use Rattle.std.specs.Prelude.{not, All}
 use Rattle.std.proofs.lemmas.Bool.{and_parts, and_from, ltb-true}
 use Rattle.std.proofs.lemmas.List.Elements.{All-nil, All-cons, All-weaker}

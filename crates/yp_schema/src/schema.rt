@@ -96,11 +96,14 @@ impl Schema {
     /// What each schema keeps. It does nothing.
     pub fn stands(&self)
         ensures { IsSchema self.now }
-    {}
+    {
+        let _ = &self.nodes;
+    }
 
     fn node(&self, node: u32) -> &SchemaNode
         requires { node < length self.now }
-        ensures { result.now ≡ node_at node self.now }
+        ensures node { result.now ≡ node_at node self.now }
+        ensures schema { IsSchema self.now }
     {
         &self.nodes[node as usize]
     }
