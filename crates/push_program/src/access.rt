@@ -65,7 +65,7 @@ pub fn read_visible(alloc: Global, schema: &Schema, rows: Rows) -> Result<Rows, 
     ensures { IfOk result (λ seen. seen ≡ visible_rows schema.now rows) }
 {
     let mut seen = Vec::new(alloc);
-    for row in rows.into_vec() {
+    for row in rows.into_vec(alloc)? {
         if may_read(schema, &row.path) {
             seen.push(row)?;
         }

@@ -1,5 +1,5 @@
 pub mod Coding
-pub mod Fronts
+pub mod Held
 pub mod Json
 pub mod Order
 pub mod OrderLaws

@@ -8,7 +8,7 @@
 #![tactic(auto)]
 
 pub mod atom;
-mod front;
+mod held;
 pub mod json;
 pub mod leaf_type;
 pub mod memory;

@@ -1,5 +1,5 @@
 //! Paths: the way from the top of a datastore to a node, an entry or a leaf.
-ghost use Rattle.std.specs.Prelude.{◌≡◌, ◌↔◌, IsTrue, IfOk, length};
+ghost use Rattle.std.specs.Prelude.{◌≡◌, ◌↔◌, ◌++◌, ◌∷◌, [], IsTrue, IfOk, length, take};
 ghost use Rattle.std.specs.Cmp.Lexicographic.{pointwise, slice_partial_cmp, lists_agrees, lists_equiv, lists_ties, lists_po, lists_per};
 ghost use Rattle.std.specs.Ordering.{eq_by_cmp, as_partial_cmp};
 ghost use Rattle.std.specs.Cmp.{partial_equiv_from_equiv, partial_order_from_total};
@@ -9,8 +9,8 @@ ghost use Rattle.yp_base.specs.Order.{IsPrefixOf, is_within, segment_cmp, path_c
 ghost use Rattle.yp_base.specs.OrderLaws.{paths_total, segments_total};
 
 use crate::atom::Keys;
-use crate::front::front_of;
 use crate::memory::{Duplicate, NoMemory};
+use crate::series::{Series, copies_of};
 use std::alloc::Global;
 use std::cmp::Ordering;
 use std::marker::Model;
@@ -25,24 +25,19 @@ pub struct Seg {
 
 /// The way from the top to a node, an entry or a leaf. The empty path is the whole datastore.
 ///
-/// Contracts see the list of its segments. It keeps their front beside them: most comparisons are of
-/// two fronts, and read no segment.
+/// Contracts see the list of its segments.
 #[derive(Drop)]
 pub struct Path {
-    segments: Vec<Seg>,
-    front: u128,
+    segments: Series<Seg>,
 }
 
 impl Model for Path {
-    ghost use Rattle.std.specs.Prelude.{List, ◌≡◌};
+    ghost use Rattle.std.specs.Prelude.{List};
     ghost use Rattle.yp_base.specs.declared.path.Seg.{Seg};
-    ghost use Rattle.yp_base.specs.Fronts.{path_front};
 
     ghost Value = { List Seg };
 
-    ghost view = { λ p. p.segments.items };
-
-    ghost invariant = { λ p. p.front ≡ path_front p.segments.items };
+    ghost view = { λ p. p.segments };
 }
 
 impl Path {
@@ -50,23 +45,48 @@ impl Path {
     pub fn from_vec(segments: Vec<Seg>) -> Path
         ensures { result ≡ segments.items }
     {
-        let front = front_of(segments.as_slice());
-        Path { segments, front }
+        Path {
+            segments: Series::from_vec(segments),
+        }
+    }
+
+    /// The same path, whose copies share its segments.
+    pub fn share(self, alloc: Global) -> Result<Path, NoMemory>
+        ensures { IfOk result (λ path. path ≡ self) }
+    {
+        let Path { segments } = self;
+        Ok(Path {
+            segments: segments.share(alloc)?,
+        })
+    }
+
+    /// The path of a node or an entry below this one, to be kept: its copies share its segments, and it
+    /// shares the keys of this one that are shared.
+    pub fn below(&self, alloc: Global, segment: Seg) -> Result<Path, NoMemory>
+        ensures { IfOk result (λ path. path ≡ self.now ++ segment ∷ []) }
+    {
+        let mut segments = copies_of(alloc, self.items(), 1)?;
+        segments.push(segment)?;
+        Path::from_vec(segments).share(alloc)
+    }
+
+    /// The path of its first segments, so many or all, to be kept.
+    pub fn first(&self, alloc: Global, count: usize) -> Result<Path, NoMemory>
+        ensures { IfOk result (λ path. path ≡ take count self.now) }
+    {
+        let segments = self.items();
+        let above = match segments.get(..count) {
+            Some(above) => above,
+            None => segments,
+        };
+        Path::from_vec(copies_of(alloc, above, 0)?).share(alloc)
     }
 
     /// Its segments.
     pub fn items(&self) -> &[Seg]
         ensures { result.now ≡ self.now }
     {
-        self.segments.as_slice()
-    }
-
-    /// Its segments, given back. It takes no memory.
-    pub fn into_vec(self) -> Vec<Seg>
-        ensures { result.items ≡ self }
-    {
-        let Path { segments, front: _ } = self;
-        segments
+        self.segments.items()
     }
 
     /// How many segments it has.
@@ -129,13 +149,8 @@ impl Duplicate for Seg {
 
 impl Duplicate for Path {
     fn copy(&self, alloc: Global) -> Result<Path, NoMemory> {
-        let mut copies = Vec::with_capacity(alloc, self.segments.len())?;
-        for segment in self.segments.as_slice() {
-            copies.push(segment.copy(alloc)?)?;
-        }
         Ok(Path {
-            segments: copies,
-            front: self.front,
+            segments: self.segments.copy(alloc)?,
         })
     }
 }
@@ -146,7 +161,7 @@ impl PartialEq for Path {
     ghost laws = { lists_per (partial_equiv_from_equiv (eq_by_cmp_equiv segments_total)) };
 
     fn eq(&self, other: &Path) -> bool {
-        self.front == other.front && self.segments == other.segments
+        self.segments == other.segments
     }
 }
 
@@ -160,7 +175,7 @@ impl PartialOrd for Path {
     ghost laws = { lists_po (partial_order_from_total segments_total) };
 
     fn partial_cmp(&self, other: &Path) -> Option<Ordering> {
-        Some(self.cmp(other))
+        self.segments.partial_cmp(&other.segments)
     }
 }
 
@@ -174,22 +189,8 @@ impl Ord for Path {
     ghost matches_eq = { λ x y. lists_ties segment_cmp (λ a b. refl) x y };
 
     fn cmp(&self, other: &Path) -> Ordering {
-        if self.front < other.front {
-            Ordering::Less
-        } else if other.front < self.front {
-            Ordering::Greater
-        } else {
-            compare_segments(self.items(), other.items())
-        }
+        self.segments.cmp(&other.segments)
     }
-}
-
-/// The order of paths with one front.
-#[inline(never)]
-fn compare_segments(one: &[Seg], other: &[Seg]) -> Ordering
-    ensures { result ≡ path_cmp one.now other.now }
-{
-    one.cmp(other)
 }
 
 /// Whether one path is another or above it.

@@ -6,15 +6,17 @@ ghost use Rattle.std.specs.Cmp.{partial_equiv_from_equiv};
 ghost use Rattle.std.proofs.Common.{refl};
 ghost use Rattle.std.specs.String.{string_bytes};
 
+use crate::held::Held;
 use crate::memory::{Duplicate, NoMemory};
 use std::alloc::Global;
 use std::cmp::Ordering;
 use std::marker::Model;
 
-/// A text in UTF-8. Contracts see its bytes, and nothing of its spare room.
+/// A text in UTF-8. Contracts see its bytes, and nothing of its spare room. Once it is shared, a copy of
+/// it takes no memory.
 #[derive(Drop)]
 pub struct Txt {
-    text: String,
+    text: Held<String>,
 }
 
 impl Model for Txt {
@@ -31,22 +33,35 @@ impl Txt {
     pub fn from_string(text: String) -> Txt
         ensures { result ≡ string_bytes text }
     {
-        Txt { text }
+        Txt {
+            text: Held::own(text),
+        }
     }
 
     /// The text.
     pub fn as_str(&self) -> &str
         ensures { result.now ≡ self.now }
     {
-        self.text.as_str()
+        self.text.get().as_str()
+    }
+
+    /// The same text, which its copies share.
+    pub fn share(self, alloc: Global) -> Result<Txt, NoMemory>
+        ensures { IfOk result (λ text. text ≡ self) }
+    {
+        let Txt { text } = self;
+        Ok(Txt {
+            text: text.share(alloc)?,
+        })
     }
 }
 
 impl Duplicate for Txt {
     fn copy(&self, alloc: Global) -> Result<Txt, NoMemory> {
-        Ok(Txt {
-            text: String::from_str(alloc, self.text.as_str())?,
-        })
+        match self.text.shared_copy()? {
+            Some(text) => Ok(Txt { text }),
+            None => Ok(Txt::from_string(String::from_str(alloc, self.as_str())?)),
+        }
     }
 }
 
@@ -56,7 +71,7 @@ impl PartialEq for Txt {
     ghost laws = { partial_equiv_from_equiv nat_list_eq_equiv };
 
     fn eq(&self, other: &Txt) -> bool {
-        self.text == other.text
+        self.text.get() == other.text.get()
     }
 }
 
@@ -84,6 +99,6 @@ impl Ord for Txt {
     ghost matches_eq = { λ x y. texts_ties x y };
 
     fn cmp(&self, other: &Txt) -> Ordering {
-        self.text.cmp(&other.text)
+        self.text.get().cmp(other.text.get())
     }
 }

@@ -21,9 +21,7 @@ use yp_schema::schema::{Kind, Schema};
 pub fn path_below(alloc: Global, path: &Path, node: u32, keys: Keys) -> Result<Path, NoMemory>
     ensures { IfOk result (λ made. made ≡ below path.now node keys) }
 {
-    let mut segments = path.copy(alloc)?.into_vec();
-    segments.push(Seg { node, keys })?;
-    Ok(Path::from_vec(segments))
+    path.below(alloc, Seg { node, keys })
 }
 
 /// The keys of a leaf-list entry: its value.

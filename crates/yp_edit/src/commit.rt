@@ -29,8 +29,8 @@ fn added_rows(alloc: Global, changed: &Changed) -> Result<Rows, NoMemory>
 }
 
 /// Copies of the new values of the paths that had a row.
-fn given_values(alloc: Global, changed: &Changed) -> Result<Series<Value>, NoMemory>
-    ensures { IfOk result (λ values. values ≡ filter_map given_value changed.now) }
+fn given_values(alloc: Global, changed: &Changed) -> Result<Vec<Value>, NoMemory>
+    ensures { IfOk result (λ values. values.items ≡ filter_map given_value changed.now) }
 {
     let mut values = Vec::new(alloc);
     for change in changed.items() {
@@ -38,7 +38,7 @@ fn given_values(alloc: Global, changed: &Changed) -> Result<Series<Value>, NoMem
             values.push(value.copy(alloc)?)?;
         }
     }
-    Ok(Series::from_vec(values))
+    Ok(values)
 }
 
 /// Puts rows, until memory runs out.
@@ -46,7 +46,7 @@ fn put_all(alloc: Global, tree: &mut Tree, rows: Rows) -> Result<(), NoMemory>
     ensures rows { OnOk result (tree.new ≡ put_rows rows tree.old) }
     ensures others { KeepsOthers rows tree.old tree.new }
 {
-    for row in rows.into_vec() {
+    for row in rows.into_vec(alloc)? {
         tree.put(alloc, row)?;
     }
     Ok(())
@@ -64,11 +64,11 @@ fn take_back(tree: &mut Tree, changed: &Changed)
 }
 
 /// Gives the rows of the paths that had one these new values, in order.
-fn give(tree: &mut Tree, changed: &Changed, values: Series<Value>)
-    requires { values ≡ filter_map given_value changed.now }
+fn give(tree: &mut Tree, changed: &Changed, values: Vec<Value>)
+    requires { values.items ≡ filter_map given_value changed.now }
     ensures { tree.new ≡ set_rows (filter_map given_row changed.now) tree.old }
 {
-    let mut rest = values.into_vec().into_iter();
+    let mut rest = values.into_iter();
     for change in changed.items() {
         if change.old.is_some() && change.new.is_some() {
             if let Some(value) = rest.next() {

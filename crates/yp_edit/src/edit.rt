@@ -30,26 +30,22 @@ fn is_entry(kind: Kind) -> bool
     matches!(kind, Kind::Presence | Kind::List)
 }
 
-/// Whether there is to be a row of the path of these segments, where it ends in a list entry or a
-/// presence container. It gives the segments back.
+/// Whether there is to be a row of a path, where it ends in a list entry or a presence container.
 fn has_its_row<L: Ledger>(
     schema: &Schema,
     draft: &Draft,
     node: u32,
-    segments: Vec<Seg>,
+    path: &Path,
     steps: &mut Steps<L>,
-) -> (bool, Vec<Seg>)
-    requires last { last_node segments.items ≡ Some node }
+) -> bool
+    requires last { last_node path.now ≡ Some node }
     requires within { node < length schema.now }
-    ensures has { result.0 ≡ has_its_row schema.now draft.now.after segments.items }
-    ensures same { result.1.items ≡ segments.items }
+    ensures { result ≡ has_its_row schema.now draft.now.after path.now }
 {
     if !is_entry(schema.kind(node)) {
-        return (true, segments);
+        return true;
     }
-    let path = Path::from_vec(segments);
-    let has = draft.has(&path, steps);
-    (has, path.into_vec())
+    draft.has(path, steps)
 }
 
 /// Whether each list entry and presence container above a target is to have its row.
@@ -63,18 +59,16 @@ fn stands_above<L: Ledger>(
     requires { is_path_of schema.now target.now ≡ true }
     ensures { IfOk result (λ stands. stands ≡ stand_above schema.now target.now draft.now.after) }
 {
-    let mut front = Vec::with_capacity(alloc, target.len())?;
+    let mut above = Path::from_vec(Vec::new(alloc));
     let mut rest = target.items();
     while let Some((segment, more)) = rest.split_first() {
         if more.is_empty() {
             return Ok(true);
         }
-        front.push(segment.copy(alloc)?)?;
-        let (stands, again) = has_its_row(schema, draft, segment.node, front, steps);
-        if !stands {
+        above = above.below(alloc, segment.copy(alloc)?)?;
+        if !has_its_row(schema, draft, segment.node, &above, steps) {
             return Ok(false);
         }
-        front = again;
         rest = more;
     }
     Ok(true)
@@ -89,7 +83,7 @@ fn put_all<L: Ledger>(
 ) -> Result<(), NoMemory>
     ensures { OnOk result (draft.new ≡ record draft.old { after = put_rows rows draft.old.after }) }
 {
-    for row in rows.into_vec() {
+    for row in rows.into_vec(alloc)? {
         draft.put(alloc, row, steps)?;
     }
     Ok(())

@@ -98,7 +98,7 @@ pub fn read_path(alloc: Global, text: &str) -> Result<Option<Names>, NoMemory>
 pub fn front_of(alloc: Global, path: &Names) -> Result<Names, NoMemory>
     ensures { IfOk result (λ made. made ≡ front path.now) }
 {
-    let mut names = path.copy(alloc)?.into_vec();
+    let mut names = path.copy(alloc)?.into_vec(alloc)?;
     names.pop();
     Ok(Series::from_vec(names))
 }
@@ -117,7 +117,7 @@ pub fn last_of(path: &Names) -> &str
 pub fn with_name(alloc: Global, path: &Names, name: &Txt) -> Result<Names, NoMemory>
     ensures { IfOk result (λ made. made ≡ path.now ++ name.now ∷ []) }
 {
-    let mut names = path.copy(alloc)?.into_vec();
+    let mut names = path.copy(alloc)?.into_vec(alloc)?;
     names.push(name.copy(alloc)?)?;
     Ok(Series::from_vec(names))
 }

@@ -83,12 +83,12 @@ fn key_numbers(
 }
 
 /// The last name.
-fn take_last(alloc: Global, path: Names) -> Txt
-    ensures { result ≡ last path }
+fn take_last(alloc: Global, path: Names) -> Result<Txt, NoMemory>
+    ensures { IfOk result (λ name. name ≡ last path) }
 {
-    match path.into_vec().pop() {
-        Some(name) => name,
-        None => Txt::from_string(String::new(alloc)),
+    match path.into_vec(alloc)?.pop() {
+        Some(name) => Ok(name),
+        None => Ok(Txt::from_string(String::new(alloc))),
     }
 }
 
@@ -105,7 +105,7 @@ fn number_node(
     let above = front_of(alloc, &path)?;
     let parent = numbers.get(&above);
     let keys = key_numbers(alloc, &path, &body.keys, numbers)?;
-    let member = take_last(alloc, path);
+    let member = take_last(alloc, path)?;
     Ok(SchemaNode {
         parent,
         kind: body.kind,

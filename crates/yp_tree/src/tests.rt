@@ -119,10 +119,8 @@ fn numbered(alloc: Global, number: u64) -> Result<Path, NoMemory> {
 
 // Leaf 2 of an entry of list 1.
 fn leaf(alloc: Global, name: &str) -> Result<Path, NoMemory> {
-    let mut steps = entry(alloc, name)?.into_vec();
     let keys = Series::from_vec(Vec::new(alloc));
-    steps.push(Seg { node: 2, keys })?;
-    Ok(Path::from_vec(steps))
+    entry(alloc, name)?.below(alloc, Seg { node: 2, keys })
 }
 
 fn entries(alloc: Global, names: &[&str]) -> Result<Vec<Path>, NoMemory> {

@@ -181,7 +181,7 @@ impl Tree {
         ensures rest { OnOk result (self.new ≡ rows_without path.now self.old) }
         ensures unchanged { OnErr result (self.new ≡ self.old) }
     {
-        let paths = self.paths_within(alloc, path)?.into_vec();
+        let paths = self.paths_within(alloc, path)?;
         let mut rows = Vec::with_capacity(alloc, paths.len())?;
         for each in paths {
             match self.remove(&each) {
@@ -255,8 +255,8 @@ impl Tree {
     }
 
     // Copies of the paths of the rows at or below a path.
-    fn paths_within(&self, alloc: Global, under: &Path) -> Result<Series<Path>, NoMemory>
-        ensures { IfOk result (λ paths. paths ≡ map path_of (rows_within under.now self.now)) }
+    fn paths_within(&self, alloc: Global, under: &Path) -> Result<Vec<Path>, NoMemory>
+        ensures { IfOk result (λ paths. paths.items ≡ map path_of (rows_within under.now self.now)) }
     {
         let mut paths = Vec::new(alloc);
         let mut rows = self.kept.range((Bound::Included(under), Bound::Unbounded));
@@ -266,7 +266,7 @@ impl Tree {
             }
             paths.push(path.copy(alloc)?)?;
         }
-        Ok(Series::from_vec(paths))
+        Ok(paths)
     }
 
     fn first_from(&self, after: &Path, under: &Path) -> Option<(&Path, &Value)>
