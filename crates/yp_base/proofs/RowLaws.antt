@@ -13,6 +13,8 @@ use Rattle.yp_base.specs.declared.row.Row.{Row}
 use Rattle.yp_base.specs.Order.{path_cmp, is_within}
 use Rattle.yp_base.specs.OrderLaws.{paths_total}
 use Rattle.yp_base.proofs.Exact.{paths_exact}
+pub use Rattle.yp_base.proofs.PathLaws.{greater_turned as below}
+use Rattle.yp_base.proofs.PathLaws.{less_turned, greater_turned}
 use Rattle.yp_base.specs.Rows.{put_row, put_rows, value_at, path_of, rows_within, rows_without, AreInOrder}
 
 -- a path is before each of these rows
@@ -23,12 +25,6 @@ AllPast path rows = AllByRecursion (λ other. path_cmp path other ≡ Less) (map
 pub all_past : (one two : List Seg) (rows : List Row) → path_cmp one two ≡ Less → AllPast two rows → AllPast one rows
 all_past one two [] less h = tt
 all_past one two (row ∷ rows) less h = (paths_total.trans one two row.path less h.0, all_past one two rows less h.1)
-
-above : (one two : List Seg) → path_cmp one two ≡ Less → path_cmp two one ≡ Greater
-above one two h = paths_total.antisymm two one ∙ ap ordering_reverse h
-
-pub below : (one two : List Seg) → path_cmp one two ≡ Greater → path_cmp two one ≡ Less
-below one two h = paths_total.antisymm two one ∙ ap ordering_reverse h
 
 pub none_order : AreInOrder []
 unfolding IsStrictlySortedBy
@@ -54,13 +50,17 @@ below_middle first (row ∷ done) e more h = below_middle first done e more h.1
 pub put_last_row : (done : List Row) (e : Row) (more : List Row) → AreInOrder (done ++ e ∷ more) → put_row e done ≡ done ++ e ∷ []
 unfolding IsStrictlySortedBy
 put_last_row [] e more h = refl
-put_last_row (first ∷ done) e more h = rw (above first.path e.path (below_middle first done e more h.0)) (ap (λ rows. first ∷ rows) (put_last_row done e more h.1))
+put_last_row (first ∷ done) e more h = rw (less_turned first.path e.path (below_middle first done e more h.0)) (ap (λ rows. first ∷ rows) (put_last_row done e more h.1))
+
+pub none_past : (path : List Seg) (rows : List Row) → AllPast path rows → value_at path rows ≡ None
+none_past path [] past = refl
+none_past path (row ∷ rows) past = rw past.0 (none_past path rows past.1)
 
 -- and isn't among them
 pub not_there_yet : (done : List Row) (e : Row) (more : List Row) → AreInOrder (done ++ e ∷ more) → value_at e.path done ≡ None
 unfolding IsStrictlySortedBy
 not_there_yet [] e more h = refl
-not_there_yet (first ∷ done) e more h = rw (above first.path e.path (below_middle first done e more h.0)) (not_there_yet done e more h.1)
+not_there_yet (first ∷ done) e more h = rw (less_turned first.path e.path (below_middle first done e more h.0)) (not_there_yet done e more h.1)
 
 -- a row that is before the others goes first
 pub put_first : (new : Row) (rows : List Row) → AllPast new.path rows → put_row new rows ≡ new ∷ rows
@@ -85,7 +85,7 @@ put_keeps_order new (row ∷ rows) h =
     elim (path_cmp new.path row.path) as (λ r. path_cmp new.path row.path ≡ r → IsStrictlySortedBy path_cmp (map path_of (match_ordering r (new ∷ row ∷ rows) (record row { value = new.value } ∷ rows) (row ∷ put_row new rows)))) [
       | Less ↦ λ e. ((e, all_past new.path row.path rows e h.0), h)
       | Equal ↦ λ e. h
-      | Greater ↦ λ e. (put_above row.path new rows (below new.path row.path e) h.0, put_keeps_order new rows h.1)
+      | Greater ↦ λ e. (put_above row.path new rows (greater_turned new.path row.path e) h.0, put_keeps_order new rows h.1)
     ] refl
 
 -- and with more
@@ -191,7 +191,7 @@ value_at_put path new (row ∷ rows) =
           elim (is_eq (path_cmp path row.path)) as (λ b. is_eq (path_cmp path row.path) ≡ b → cond b (Some row.value) (value_at path (put_row new rows)) ≡ cond (is_eq (path_cmp path new.path)) (Some new.value) (cond b (Some row.value) (value_at path rows))) [
             | true ↦ λ h.
                 let same = tells_apart paths_exact path row.path h in
-                let apart : path_cmp path new.path ≡ Less = ap (λ p. path_cmp p new.path) same ∙ below new.path row.path e in
+                let apart : path_cmp path new.path ≡ Less = ap (λ p. path_cmp p new.path) same ∙ greater_turned new.path row.path e in
                 rw apart refl
             | false ↦ λ h. value_at_put path new rows
           ] refl

@@ -1,7 +1,7 @@
 -- JSON of values (RFC 7951 section 6): which is read, and what is written.
 use Rattle.std.specs.Prelude.{unsigned_abs, ℕ, ◌-◌, ◌^◌, ◌==◌, ℤ, List, Bool, true, false, Option, Some, None, option_map, option_and_then, is_some, if◌then◌else◌}
-use Rattle.serde_json.specs.Data.{unsigned, Data, null, boolean, number, string, array, Items, no_items, item}
-use Rattle.serde_json.specs.Find.{get, as_null, as_bool, as_number, as_str, as_integer, of_integer}
+use Rattle.serde_json.specs.Data.{unsigned, Data, null, boolean, number, string, array, Items, no_items, item, Members}
+use Rattle.serde_json.specs.Find.{get, get_member, as_null, as_bool, as_number, as_str, as_integer, of_integer}
 use Rattle.yp_base.specs.declared.atom.Atom.{Atom}
 use Rattle.yp_base.specs.declared.atom.Atom.TheVariants.{Bool as Truth, Int, Uint, Dec, Text}
 use Rattle.yp_base.specs.declared.leaf_type.LeafType.{LeafType}
@@ -13,6 +13,10 @@ use Rattle.yp_base.specs.Texts.{atom_in, atom_text, fits, is_between}
 -- the member of an object that has this name
 abbrev pub member_of : List ℕ → Data → Option Data
 member_of name json = get name json
+
+-- the text that a member of this name is
+abbrev pub text_member : List ℕ → Members → Option (List ℕ)
+text_member name members = option_and_then as_str (get_member name members)
 
 -- a whole number from -low to high, held as one: `1.0`, `1e3` and `-0` are floats
 abbrev pub whole_in : ℕ → ℕ → Data → Option ℤ

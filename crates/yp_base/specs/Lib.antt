@@ -1,9 +1,12 @@
 pub mod Coding
+pub mod Cuts
 pub mod Held
 pub mod Json
 pub mod Order
 pub mod OrderLaws
+pub mod Paths
 pub mod Payloads
+pub mod Results
 pub mod Rows
 pub mod Texts
 pub mod Types

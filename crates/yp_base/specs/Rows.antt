@@ -5,10 +5,18 @@ use Rattle.std.specs.List.Sorted.{IsStrictlySortedBy}
 use Rattle.yp_base.specs.declared.path.Seg.{Seg}
 use Rattle.yp_base.specs.declared.row.Value.{Value}
 use Rattle.yp_base.specs.declared.row.Row.{Row}
+use Rattle.yp_base.specs.declared.notice.Change.{Change}
 use Rattle.yp_base.specs.Order.{path_cmp, is_within}
 
 abbrev pub path_of : Row → List Seg
 path_of row = row.path
+
+-- a path and its value, as a row
+abbrev pub row_of : List Seg × Value → Row
+row_of entry = record { path = entry.0; value = entry.1 }
+
+abbrev pub rows_of : List (List Seg × Value) → List Row
+rows_of entries = map row_of entries
 
 -- rows in the order of their paths, with no path twice
 abbrev pub AreInOrder : List Row → Type 0
@@ -45,3 +53,8 @@ rows_without path rows = filter (λ row. not (is_within path row.path)) rows
 abbrev pub has_within : List Seg → List Row → Bool
 has_within path [] = false
 has_within path (row ∷ rows) = is_within path row.path || has_within path rows
+
+-- the rows after changes: each takes away what is at or below its target, and puts its rows (RFC 8641 section 3.7)
+abbrev pub changed_by : List Change → List Row → List Row
+changed_by [] rows = rows
+changed_by (change ∷ changes) rows = changed_by changes (put_rows change.rows (rows_without change.target rows))

@@ -27,6 +27,18 @@ pub enum Atom {
 /// The keys of a list entry, in the order of the schema, or the one value of a leaf-list entry.
 pub type Keys = Series<Atom>;
 
+impl Atom {
+    /// The same value, whose copies take no memory.
+    pub fn share(self, alloc: Global) -> Result<Atom, NoMemory>
+        ensures { IfOk result (λ atom. atom ≡ self) }
+    {
+        match self {
+            Atom::Text(text) => Ok(Atom::Text(text.share(alloc)?)),
+            other => Ok(other),
+        }
+    }
+}
+
 impl Duplicate for Atom {
     fn copy(&self, alloc: Global) -> Result<Atom, NoMemory> {
         Ok(match self {

@@ -133,7 +133,6 @@ fn are_one_null(items: &[Json]) -> bool
 
 /// Writes a value of a type as JSON (RFC 7951 section 6).
 pub fn write_json(alloc: Global, ty: &LeafType, value: &Value) -> Result<Json, NoMemory>
-    requires { value_fits ty.now value.now ≡ true }
     ensures { IfOk result (λ json. view json ≡ value_data ty.now value.now) }
 {
     Ok(match value {

@@ -23,6 +23,22 @@ pub struct Seg {
     pub keys: Keys,
 }
 
+impl Seg {
+    /// The same step, whose copies share its keys.
+    pub fn share(self, alloc: Global) -> Result<Seg, NoMemory>
+        ensures { IfOk result (λ segment. segment ≡ self) }
+    {
+        let Seg { node, keys } = self;
+        if keys.items().is_empty() {
+            return Ok(Seg { node, keys });
+        }
+        Ok(Seg {
+            node,
+            keys: keys.share(alloc)?,
+        })
+    }
+}
+
 /// The way from the top to a node, an entry or a leaf. The empty path is the whole datastore.
 ///
 /// Contracts see the list of its segments.
@@ -60,13 +76,13 @@ impl Path {
         })
     }
 
-    /// The path of a node or an entry below this one, to be kept: its copies share its segments, and it
-    /// shares the keys of this one that are shared.
+    /// The path of a node or an entry below this one, to be kept: its copies share its segments, and the
+    /// paths below it share its last keys.
     pub fn below(&self, alloc: Global, segment: Seg) -> Result<Path, NoMemory>
         ensures { IfOk result (λ path. path ≡ self.now ++ segment ∷ []) }
     {
         let mut segments = copies_of(alloc, self.items(), 1)?;
-        segments.push(segment)?;
+        segments.push(segment.share(alloc)?)?;
         Path::from_vec(segments).share(alloc)
     }
 

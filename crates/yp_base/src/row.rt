@@ -30,6 +30,31 @@ pub struct Row {
 /// Rows, in order.
 pub type Rows = Series<Row>;
 
+impl Value {
+    /// The same value, whose copies take no memory.
+    pub fn share(self, alloc: Global) -> Result<Value, NoMemory>
+        ensures { IfOk result (λ value. value ≡ self) }
+    {
+        match self {
+            Value::Atom(atom) => Ok(Value::Atom(atom.share(alloc)?)),
+            other => Ok(other),
+        }
+    }
+}
+
+impl Row {
+    /// The same row, whose copies take no memory.
+    pub fn share(self, alloc: Global) -> Result<Row, NoMemory>
+        ensures { IfOk result (λ row. row ≡ self) }
+    {
+        let Row { path, value } = self;
+        Ok(Row {
+            path: path.share(alloc)?,
+            value: value.share(alloc)?,
+        })
+    }
+}
+
 impl Duplicate for Value {
     fn copy(&self, alloc: Global) -> Result<Value, NoMemory> {
         Ok(match self {

@@ -151,7 +151,6 @@ fn is_named(names: &Names, text: &str) -> bool
 
 /// Writes the canonical text of a value (RFC 7950 sections 9.2 to 9.6).
 pub fn write_text(alloc: Global, atom: &Atom) -> Result<Txt, NoMemory>
-    requires { is_writable atom.now ≡ true }
     ensures { IfOk result (λ text. text ≡ atom_text atom.now) }
 {
     Ok(Txt::from_string(string_of(alloc, atom)?))

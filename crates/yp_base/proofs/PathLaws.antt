@@ -1,0 +1,54 @@
+-- What holds of paths, and of the texts and numbers in them.
+use Rattle.std.proofs.Common.{◌≡◌, ℕ, List, [], ◌∷◌, Bool, true, false, ◌&&◌, Option, Some, None, refl, sym, ap, ◌∙◌}
+use Rattle.std.proofs.lemmas.Bool.{and_parts, and_from, eqb-true}
+use Rattle.std.proofs.lemmas.Cmp.{tied_itself}
+use Rattle.std.proofs.lemmas.Slice.Eq.{bytes_eq-Decides}
+use Rattle.std.specs.Ordering.{is_eq, is_gt, ordering_reverse}
+use Rattle.std.specs.declared.cmp.Ordering.TheVariants.{Less, Equal, Greater}
+use Rattle.yp_base.specs.declared.path.Seg.{Seg}
+use Rattle.yp_base.specs.Order.{is_within, segment_cmp, path_cmp}
+use Rattle.yp_base.specs.OrderLaws.{segments_total, paths_total}
+use Rattle.yp_base.specs.Types.{same_text}
+use Rattle.yp_base.specs.Paths.{same_number}
+use Rattle.yp_base.proofs.Prefixes.{front_not_after, fronts_together}
+
+pub less_turned : (one two : List Seg) → path_cmp one two ≡ Less → path_cmp two one ≡ Greater
+less_turned one two h = paths_total.antisymm two one ∙ ap ordering_reverse h
+
+pub greater_turned : (one two : List Seg) → path_cmp one two ≡ Greater → path_cmp two one ≡ Less
+greater_turned one two h = paths_total.antisymm two one ∙ ap ordering_reverse h
+
+pub within_itself : (path : List Seg) → is_within path path ≡ true
+within_itself [] = refl
+within_itself (seg ∷ path) = and_from _ _ (ap is_eq (tied_itself segments_total seg)) (within_itself path)
+
+pub within_through : (one two three : List Seg) → is_within one two ≡ true → is_within two three ≡ true → is_within one three ≡ true
+within_through [] two three h k = refl
+within_through (a ∷ one) [] three h k = cc
+within_through (a ∷ one) (b ∷ two) [] h k = cc
+within_through (a ∷ one) (b ∷ two) (c ∷ three) h k =
+    let upper = and_parts _ _ h in
+    let lower = and_parts _ _ k in
+    elim (segment_cmp a b) as (λ r. segment_cmp a b ≡ r → is_eq r ≡ true → is_within (a ∷ one) (c ∷ three) ≡ true) [
+      | Less ↦ λ e m. cc
+      | Equal ↦ λ e m. and_from _ _ (ap is_eq (segments_total.congr a b c e) ∙ lower.0) (within_through one two three upper.1 lower.1)
+      | Greater ↦ λ e m. cc
+    ] refl upper.0
+
+pub within_not_after : (above path : List Seg) → is_within above path ≡ true → is_gt (path_cmp above path) ≡ false
+within_not_after above path h = front_not_after segment_cmp above path h
+
+pub within_together : (above path later : List Seg) → is_gt (path_cmp above path) ≡ false → is_within above path ≡ false → is_gt (path_cmp path later) ≡ false → is_within above later ≡ false
+within_together above path later from apart after = fronts_together segments_total above path later from apart after
+
+pub texts_same : (one two : List ℕ) → same_text one two ≡ true → one ≡ two
+texts_same one two = (bytes_eq-Decides one two).0
+
+pub texts_told : (one two : List ℕ) → one ≡ two → same_text one two ≡ true
+texts_told one two = (bytes_eq-Decides one two).1
+
+pub numbers_same : (one two : Option ℕ) → same_number one two ≡ true → one ≡ two
+numbers_same None None h = refl
+numbers_same None (Some y) h = cc
+numbers_same (Some x) None h = cc
+numbers_same (Some x) (Some y) h = ap (λ n. Some n) (eqb-true x y h)

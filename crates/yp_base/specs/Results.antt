@@ -1,0 +1,13 @@
+-- Steps that may fail.
+use Rattle.std.specs.Prelude.{Option, Some, None, Result, Ok, Err}
+
+-- a step, and the next one with what it gave; the first fault stands
+infixl 10 ◌>>=◌
+abbrev pub ◌>>=◌ : {A B F : Type 0} → Result A F → (A → Result B F) → Result B F
+(Ok x) >>= f = f x
+(Err e) >>= f = Err e
+
+-- what is there, or this fault
+abbrev pub or_fault : {A F : Type 0} → F → Option A → Result A F
+or_fault e None = Err e
+or_fault e (Some x) = Ok x
