@@ -1,5 +1,5 @@
 //! Rows in an ordered map.
-ghost use Rattle.std.specs.Prelude.{◌≡◌, ◌+◌, ◌^◌, ◌<◌, ◌≤◌, [], None, true, is_some, length, slice_get, map, option_map, option_copied, OnOk, OnErr, IfOk};
+ghost use Rattle.std.specs.Prelude.{◌≡◌, ◌+◌, ◌^◌, ◌<◌, ◌≤◌, [], None, true, is_some, length, slice_get, map, option_map, option_copied, OnOk, OnErr, IfOk, IfSome};
 ghost use Rattle.std.specs.Bound.{bound_map};
 ghost use Rattle.yp_base.specs.Rows.{path_of, value_at, put_row, put_rows, next_row, has_within, rows_within, rows_without, AreInOrder};
 ghost use Rattle.yp_tree.specs.Begins.{Begins};
@@ -184,9 +184,8 @@ impl Tree {
         let paths = self.paths_within(alloc, path)?;
         let mut rows = Vec::with_capacity(alloc, paths.len())?;
         for each in paths {
-            match self.remove(&each) {
-                Some(value) => rows.push(Row { path: each, value })?,
-                None => {}
+            if let Some(row) = self.take_row(each) {
+                rows.push(row)?;
             }
         }
         Ok(Series::from_vec(rows))
@@ -207,6 +206,16 @@ impl Tree {
         ensures rest { self.new ≡ without_row path.now self.old }
     {
         self.kept.remove(path)
+    }
+
+    // Takes out the row that has this path.
+    fn take_row(&mut self, path: Path) -> Option<Row>
+        ensures path { IfSome result (λ row. row.path ≡ path) }
+        ensures value { option_map (λ row. row.value) result ≡ value_at path self.old }
+        ensures rest { self.new ≡ without_row path self.old }
+    {
+        let value = self.remove(&path)?;
+        Some(Row { path, value })
     }
 
     // Takes out the rows at or below a path, unless each of them is to get another value.
