@@ -7,6 +7,11 @@ pub record ReadsWhole (limit : ℕ) (before : List ℕ) (after : Option (List �
   pub rest : after ≡ Some (drop (limit + 1) before)
   pub too_many : IsTrue over ↔ (limit < length before)
 
+-- at most one byte more than the limit was read, and `over` says that it was
+pub record IsLimited (limit : ℕ) (bytes : List ℕ) (over : Bool) : Type 0 where
+  pub most : length bytes ≤ limit + 1
+  pub too_many : IsTrue over ↔ (length bytes ≡ limit + 1)
+
 -- some of the bytes were taken, from the first on
 abbrev pub LeavesRest : List ℕ → Option (List ℕ) → Type 0
 LeavesRest before after = (n : ℕ) × (n ≤ length before) × (after ≡ Some (drop n before))

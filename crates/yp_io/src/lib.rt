@@ -8,10 +8,12 @@
 //! `read_whole` reads a source to its end or one byte past a limit, and `write_whole` writes a list of
 //! bytes. `MemSource` and `MemSink` stand in memory and fail at chosen calls; `SafeSource` and
 //! `SafeSink` never fail; `StdSource` and `StdSink` wrap std's readers and writers and tell the bytes that
-//! these tell: none of a file's, a socket's or a terminal's.
+//! these tell: none of a file's, a socket's or a terminal's. `Persistent` is a reader or writer of std whose
+//! calls are made again where a signal interrupted them.
 #![tactic(auto)]
 
 pub mod memory;
+pub mod persistent;
 pub mod sink;
 pub mod source;
 pub mod streams;

@@ -217,7 +217,6 @@ impl SafeSource {
     pub fn new(bytes: Vec<u8>) -> SafeSource
         ensures state { result ≡ bytes.items }
         ensures left { ⟦<SafeSource as Source>⟧.left result ≡ Some bytes.items }
-        ensures faults { ⟦<SafeSource as Source>⟧.faults result ≡ 0 }
     {
         SafeSource { kept: bytes, at: 0 }
     }
@@ -237,7 +236,6 @@ impl Source for SafeSource {
             (⟦<SafeSource as Source>⟧.faults self.new) result }
         ensures answer { result ≡ got (min (length self.old) (length into.new)) }
         ensures state { self.new ≡ drop (min (length self.old) (length into.new)) self.old }
-        ensures faults { ⟦<SafeSource as Source>⟧.faults self.new ≡ 0 }
     {
         let rest = self.kept.len() - self.at;
         let count = rest.min(into.len());
@@ -259,7 +257,6 @@ impl SafeSink {
     /// A sink that tells nothing of what was written.
     pub fn new() -> SafeSink
         ensures written { ⟦<SafeSink as Sink>⟧.written result ≡ None }
-        ensures faults { ⟦<SafeSink as Sink>⟧.faults result ≡ 0 }
     {
         SafeSink
     }
@@ -279,7 +276,6 @@ impl Sink for SafeSink {
         ensures cause { PutCause (⟦<SafeSink as Sink>⟧.faults self.old)
             (⟦<SafeSink as Sink>⟧.faults self.new) result }
         ensures answer { result ≡ Put.Took (length piece.now) }
-        ensures faults { ⟦<SafeSink as Sink>⟧.faults self.new ≡ 0 }
     {
         Put::Took(piece.len())
     }

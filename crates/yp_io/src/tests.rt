@@ -1,4 +1,5 @@
 use crate::memory::{MemSink, MemSource, SafeSink, SafeSource};
+use crate::persistent::Persistent;
 use crate::sink::{Put, Sink};
 use crate::source::{Got, Source};
 use crate::streams::{StdSink, StdSource};
@@ -25,6 +26,62 @@ impl Write for Broken {
     fn flush(&mut self) -> std::io::Result<()> {
         Ok(())
     }
+}
+
+// Bytes given one at a time, and an error of a signal before each of the first calls that are left.
+#[derive(Drop)]
+struct Interrupted {
+    given: u8,
+    signals: u8,
+}
+
+impl Interrupted {
+    fn signal(&mut self) -> std::io::Result<()> {
+        if self.given == 1 && self.signals > 0 {
+            self.signals -= 1;
+            return Err(Error::from(ErrorKind::Interrupted));
+        }
+        Ok(())
+    }
+}
+
+impl Read for Interrupted {
+    fn read(&mut self, into: &mut [u8]) -> std::io::Result<usize> {
+        self.signal()?;
+        if self.given == 3 || into.is_empty() {
+            return Ok(0);
+        }
+        into[0] = self.given;
+        self.given += 1;
+        Ok(1)
+    }
+}
+
+impl Write for Interrupted {
+    fn write(&mut self, piece: &[u8]) -> std::io::Result<usize> {
+        self.signal()?;
+        self.given = self.given.saturating_add(1);
+        Ok(piece.len().min(1))
+    }
+
+    fn flush(&mut self) -> std::io::Result<()> {
+        Ok(())
+    }
+}
+
+#[test]
+fn a_signal_ends_neither_reading_nor_writing(rt: HostRuntime) -> Result<(), Fail> {
+    let alloc = rt.alloc();
+    let interrupted = Interrupted { given: 0, signals: 2 };
+    let mut source = StdSource::new(Persistent::reader(interrupted));
+    let whole = read_whole(alloc, &mut source, 100)?;
+    assert_eq!(rt; whole.bytes.items(), [0u8, 1, 2].as_slice());
+    let interrupted = Interrupted { given: 0, signals: 2 };
+    let mut sink = StdSink::new(Persistent::writer(interrupted));
+    assert!(rt; write_whole(&mut sink, b"abc").is_ok());
+    let broken = read_whole(alloc, &mut StdSource::new(Persistent::reader(Broken)), 100);
+    assert!(rt; matches!(&broken, Err(ReadError::Fault)));
+    Ok(())
 }
 
 #[test]

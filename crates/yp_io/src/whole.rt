@@ -1,6 +1,6 @@
 //! Reading a source to its end, and writing a list of bytes.
-ghost use Rattle.std.specs.Prelude.{◌≡◌, ℕ, ◌+◌, ◌<◌, ◌≤◌, ◌↔◌, ◌++◌, length, take, drop, Some, IfSome, IfOk, OnOk, OnErr, false};
-ghost use Rattle.yp_io.specs.Whole.{ReadsWhole, LeavesRest, Appends, AppendsPrefix};
+ghost use Rattle.std.specs.Prelude.{◌≡◌, ℕ, ◌+◌, ◌<◌, ◌++◌, length, take, drop, Some, IfSome, IfOk, OnOk, OnErr};
+ghost use Rattle.yp_io.specs.Whole.{ReadsWhole, IsLimited, LeavesRest, Appends, AppendsPrefix};
 ghost use Rattle.yp_io.specs.Faults.{ReadCause, WriteCause};
 
 use crate::sink::{Put, Sink};
@@ -47,7 +47,7 @@ impl From<AllocError> for ReadError {
 pub struct WriteFault;
 
 /// Reads a source to its end, or one byte past the limit where more bytes were left; `over` is true
-/// exactly there. `Fault` comes only where the source's count of faults rose, and a rise always gives
+/// exactly there, so what was read tells it also of a source that doesn't tell its bytes. `Fault` comes only where the source's count of faults rose, and a rise always gives
 /// it. After `Fault` and `Memory` some of the first bytes were taken and are gone.
 pub fn read_whole<S: Source>(
     alloc: Global,
@@ -56,7 +56,7 @@ pub fn read_whole<S: Source>(
 ) -> Result<Whole, ReadError>
     ensures whole { IfOk result (λ whole. IfSome (S.left source.old)
         (λ before. ReadsWhole limit before (S.left source.new) whole.bytes whole.over)) }
-    ensures fits { IfOk result (λ whole. whole.over ≡ false → length whole.bytes ≤ limit) }
+    ensures limited { IfOk result (λ whole. IsLimited limit whole.bytes whole.over) }
     ensures part { OnErr result (IfSome (S.left source.old)
         (λ before. LeavesRest before (S.left source.new))) }
     ensures cause { ReadCause (S.faults source.old) (S.faults source.new) result }
