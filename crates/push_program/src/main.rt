@@ -15,10 +15,11 @@ pub mod top;
 mod updates;
 
 use crate::top::{Status, push_main};
-use std::io::ErrorKind;
+use std::env::{Env, FillError};
 use std::process::ExitCode;
-use std::{env, io};
+use std::{io, str};
 use yp_base::txt::Txt;
+use yp_io::persistent::Persistent;
 use yp_io::streams::{StdSink, StdSource};
 
 /// Tells standard error how a run ended, and gives the exit code.
@@ -49,20 +50,35 @@ fn tell(rt: &HostRuntime, status: Status) -> anyhow::Result<u8> {
     })
 }
 
-/// The words after the program's name. One that isn't UTF-8 is a bad word.
-fn words_of(rt: &HostRuntime) -> Result<Vec<Txt>, Status> {
-    let args = match env::args(rt) {
-        Ok(args) => args,
-        Err(error) => {
-            return Err(match error.kind() {
-                ErrorKind::OutOfMemory => Status::NoMemory,
-                _ => Status::BadWords,
-            });
-        }
+// Longer than each word that the program knows.
+const ROOM: usize = 64;
+
+/// The word of a number, and `None` after the last one. One that isn't UTF-8, or is longer than each
+/// word that the program knows, is a bad word.
+fn word_at(rt: &HostRuntime, number: usize) -> Result<Option<Txt>, Status> {
+    let mut room = [0u8; ROOM];
+    let length = match rt.arg(number, &mut room) {
+        Ok(length) => length,
+        Err(FillError::NotPresent) => return Ok(None),
+        Err(FillError::TooLong) => return Err(Status::BadWords),
     };
+    let Ok(word) = str::from_utf8(&room[..length]) else {
+        return Err(Status::BadWords);
+    };
+    match String::from_str(rt.alloc(), word) {
+        Ok(word) => Ok(Some(Txt::from_string(word))),
+        Err(_) => Err(Status::NoMemory),
+    }
+}
+
+/// The words after the program's name, whose own bytes are never read.
+fn words_of(rt: &HostRuntime) -> Result<Vec<Txt>, Status> {
     let mut words = Vec::new(rt.alloc());
-    for word in args.skip(1) {
-        if words.push(Txt::from_string(word)).is_err() {
+    for number in 1..usize::MAX {
+        let Some(word) = word_at(rt, number)? else {
+            break;
+        };
+        if words.push(word).is_err() {
             return Err(Status::NoMemory);
         }
     }
@@ -75,8 +91,8 @@ fn run_program(rt: &HostRuntime) -> Status {
         Ok(words) => words,
         Err(status) => return status,
     };
-    let mut source = StdSource::new(rt.reader());
-    let mut sink = StdSink::new(io::writer(rt));
+    let mut source = StdSource::new(Persistent::reader(rt.reader()));
+    let mut sink = StdSink::new(Persistent::writer(io::writer(rt)));
     push_main(rt.alloc(), words.as_slice(), &mut source, &mut sink)
 }
 
