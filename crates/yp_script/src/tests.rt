@@ -140,18 +140,6 @@ fn an_early_end_is_a_fault_of_the_line_after_the_last(rt: HostRuntime) -> Result
 }
 
 #[test]
-fn texts_that_are_no_json_are_told(rt: HostRuntime) -> Result<(), Fail> {
-    assert!(rt;
-        are_faults(
-            rt.alloc(),
-            &["x\n", "{\"tick\":1\n", "{\"tick\":1} {}\n"],
-            ScriptKind::NotJson
-        )?
-    );
-    Ok(())
-}
-
-#[test]
 fn lines_of_no_form_are_told(rt: HostRuntime) -> Result<(), Fail> {
     let lines = [
         "[]\n",
@@ -276,19 +264,6 @@ fn numbers_outside_their_range_are_told(rt: HostRuntime) -> Result<(), Fail> {
             ],
             4,
             ScriptKind::Limit
-        )?
-    );
-    Ok(())
-}
-
-#[test]
-fn a_start_that_is_no_instant_is_told(rt: HostRuntime) -> Result<(), Fail> {
-    assert!(rt;
-        is_fault(
-            rt.alloc(),
-            &["{\"start\":\"2026-02-29T00:00:00Z\"}\n"],
-            1,
-            ScriptKind::Instant
         )?
     );
     Ok(())

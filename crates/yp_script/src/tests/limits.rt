@@ -1,7 +1,6 @@
-// Each limit of a script, on both sides.
-use super::{RECEIVER, SCHEMA, START, is_fault, is_read, text_of};
-use crate::fault::{ScriptFault, ScriptKind};
-use crate::reading::read_script;
+// Limits of a script, on both sides; those of its lines and bytes are tested with the whole program.
+use super::{RECEIVER, SCHEMA, START, is_fault, is_read};
+use crate::fault::ScriptKind;
 use std::alloc::Global;
 use std::test::Fail;
 use yp_base::memory::NoMemory;
@@ -56,12 +55,14 @@ fn is_wrong_receiver(alloc: Global, name: u32, user: u32) -> Result<bool, NoMemo
 }
 
 #[test]
-fn a_name_has_1_to_32_bytes(rt: HostRuntime) -> Result<(), Fail> {
+fn a_name_has_1_to_32_bytes_and_a_user_1_to_64(rt: HostRuntime) -> Result<(), Fail> {
     let alloc = rt.alloc();
     assert!(rt; is_wrong_receiver(alloc, 0, 1)?);
     assert!(rt; is_receiver(alloc, 1, 1)?);
-    assert!(rt; is_receiver(alloc, 32, 1)?);
+    assert!(rt; is_receiver(alloc, 32, 64)?);
     assert!(rt; is_wrong_receiver(alloc, 33, 1)?);
+    assert!(rt; is_wrong_receiver(alloc, 1, 0)?);
+    assert!(rt; is_wrong_receiver(alloc, 1, 65)?);
     Ok(())
 }
 
@@ -100,15 +101,6 @@ fn a_name_has_letters_digits_and_three_signs(rt: HostRuntime) -> Result<(), Fail
 }
 
 #[test]
-fn a_user_has_1_to_64_bytes(rt: HostRuntime) -> Result<(), Fail> {
-    let alloc = rt.alloc();
-    assert!(rt; is_wrong_receiver(alloc, 1, 0)?);
-    assert!(rt; is_receiver(alloc, 1, 64)?);
-    assert!(rt; is_wrong_receiver(alloc, 1, 65)?);
-    Ok(())
-}
-
-#[test]
 fn a_script_has_at_most_16_receivers(rt: HostRuntime) -> Result<(), Fail> {
     let alloc = rt.alloc();
     let lines = receivers(alloc, 16)?;
@@ -137,25 +129,6 @@ fn at_most_256_subscriptions_are_read(rt: HostRuntime) -> Result<(), Fail> {
             &[START, SCHEMA, RECEIVER, lines.as_str()],
             260,
             ScriptKind::UnknownCommand
-        )?
-    );
-    Ok(())
-}
-
-#[test]
-fn numbers_at_the_ends_of_their_ranges_are_read(rt: HostRuntime) -> Result<(), Fail> {
-    let alloc = rt.alloc();
-    let queue = "{\"receiver\":{\"name\":\"r2\",\"user\":\"bob\",\"queue\":1,\"take\":\"auto\"}}\n";
-    assert!(rt; is_read(alloc, &[START, SCHEMA, queue])?);
-    assert!(rt;
-        is_read(
-            alloc,
-            &[
-                START,
-                SCHEMA,
-                "{\"tick\":0}\n",
-                "{\"tick\":1000000000000}\n"
-            ]
         )?
     );
     Ok(())
@@ -217,56 +190,5 @@ fn a_line_has_at_most_65536_bytes(rt: HostRuntime) -> Result<(), Fail> {
         )?
     );
     assert!(rt; is_read(alloc, &[START, SCHEMA, blanks.as_str(), blanks.as_str()])?);
-    Ok(())
-}
-
-#[test]
-fn a_script_has_at_most_100000_lines(rt: HostRuntime) -> Result<(), Fail> {
-    let alloc = rt.alloc();
-    let lines = repeated(alloc, "\n", 99_998)?;
-    assert!(rt; is_read(alloc, &[START, SCHEMA, lines.as_str()])?);
-    assert!(rt;
-        is_fault(
-            alloc,
-            &[START, SCHEMA, lines.as_str(), "\n"],
-            100_001,
-            ScriptKind::Limit
-        )?
-    );
-    assert!(rt;
-        is_fault(
-            alloc,
-            &[START, SCHEMA, lines.as_str(), "x"],
-            100_001,
-            ScriptKind::Limit
-        )?
-    );
-    Ok(())
-}
-
-// A start and a schema, and so many blanks.
-fn filled(alloc: Global, blanks: u32) -> Result<String, NoMemory> {
-    let mut text = text_of(alloc, &[START, SCHEMA])?;
-    let block = repeated(alloc, " ", 65_536)?;
-    text.push_str(repeated(alloc, block.as_str(), blanks / 65_536)?.as_str())?;
-    text.push_str(repeated(alloc, " ", blanks % 65_536)?.as_str())?;
-    Ok(text)
-}
-
-#[test]
-fn a_script_has_at_most_67108864_bytes(rt: HostRuntime) -> Result<(), Fail> {
-    let alloc = rt.alloc();
-    let mut text = filled(alloc, 67_108_864 - 97)?;
-    assert_eq!(rt; text.len(), 67_108_864);
-    assert!(rt; read_script(alloc, text.as_bytes()).is_ok());
-    text.push_str("\n")?;
-    let limit = ScriptFault::At {
-        line: 3,
-        kind: ScriptKind::Limit,
-    };
-    match read_script(alloc, text.as_bytes()) {
-        Ok(_) => assert!(rt; false),
-        Err(fault) => assert!(rt; fault == limit),
-    }
     Ok(())
 }
