@@ -4,7 +4,8 @@
 //! Contracts see a `Tree` as the list of its rows, in the order of their paths and with no path twice.
 //! It needn't hold the rows above a row. `get`, `next` and `first_within` read it and count one visit
 //! each, `within` and `rows_within` count one for each row that they give and one more, and there is no
-//! other way to read its rows; `put`, `cut`, `remove` and `renew` change it.
+//! other way to read the rows that stay in it; `put`, `replace`, `cut`, `remove` and `renew` change it, and
+//! `into_rows` gives its rows away.
 #![tactic(auto)]
 
 #[cfg(test)]

@@ -154,14 +154,27 @@ impl Tree {
 
     /// Adds the row, or gives its value to the row that has its path. After `NoMemory` the tree is as
     /// it was, and the row is gone; it comes only where no row has the path.
-    pub fn put(&mut self, _alloc: Global, row: Row) -> Result<(), NoMemory>
+    pub fn put(&mut self, alloc: Global, row: Row) -> Result<(), NoMemory>
         ensures rows { OnOk result (self.new ≡ put_row row self.old) }
         ensures unchanged { OnErr result (self.new ≡ self.old) }
         ensures room { OnErr result (value_at row.path self.old ≡ None) }
     {
-        let Row { path, value } = row;
-        self.kept.insert(path, value)?;
+        self.replace(alloc, row)?;
         Ok(())
+    }
+
+    /// Adds the row, or gives its value to the row that has its path. It gives back the value that this
+    /// row had before, and `None` exactly where there was no such row. After `NoMemory` the tree is as it
+    /// was, and the row is gone; it comes only where no row has the path.
+    pub fn replace(&mut self, _alloc: Global, row: Row) -> Result<Option<Value>, NoMemory>
+        ensures rows { OnOk result (self.new ≡ put_row row self.old) }
+        ensures before { IfOk result (λ before. before ≡ value_at row.path self.old) }
+        ensures unchanged { OnErr result (self.new ≡ self.old) }
+        ensures room { OnErr result (value_at row.path self.old ≡ None) }
+    {
+        let Row { path, value } = row;
+        let before = self.kept.insert(path, value)?;
+        Ok(before)
     }
 
     /// Gives a value to the row that has this path; without such a row the tree stays as it is. It takes
@@ -216,6 +229,17 @@ impl Tree {
     {
         let value = self.remove(&path)?;
         Some(Row { path, value })
+    }
+
+    /// Its rows, in order, given away.
+    pub fn into_rows(self, alloc: Global) -> Result<Rows, NoMemory>
+        ensures { IfOk result (λ rows. rows ≡ self) }
+    {
+        let mut rows = Vec::with_capacity(alloc, self.kept.len())?;
+        for (path, value) in self.kept {
+            rows.push(Row { path, value })?;
+        }
+        Ok(Series::from_vec(rows))
     }
 
     // Takes out the rows at or below a path, unless each of them is to get another value.
