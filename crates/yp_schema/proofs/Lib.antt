@@ -5,6 +5,7 @@ pub mod Cuts
 pub mod Distinct
 pub mod Ends
 pub mod Entries
+pub mod Flags
 pub mod Indexes
 pub mod Kept
 pub mod Numbering

@@ -8,7 +8,7 @@ use Rattle.yp_schema.specs.declared.fault.SchemaFault.{SchemaFault}
 use Rattle.yp_schema.specs.declared.fault.SchemaFault.TheVariants.{At, Memory}
 use Rattle.yp_schema.specs.declared.listing.Listed.{Listed}
 use Rattle.yp_schema.specs.Names.{Names, names_cmp, front, last}
-use Rattle.yp_schema.specs.Rounds.{Nodes, parts_in, ◌>>=◌}
+use Rattle.yp_schema.specs.Rounds.{Nodes, Fault, fault_at, parts_in, ◌>>=◌}
 
 -- the ways to the nodes, with their numbers
 abbrev pub Numbers : Type 0
@@ -46,18 +46,21 @@ numbered_node numbers e = record {
 abbrev pub numbered : Nodes → List SchemaNode
 numbered nodes = map (numbered_node (numbers_from 0 nodes)) nodes
 
--- the schema of some parts
-abbrev pub schema_of : List Data → Result (List SchemaNode) SchemaFault
+-- the schema of some parts, or the first fault
+abbrev pub schema_of : List Data → Result (List SchemaNode) Fault
 schema_of parts = parts_in 0 parts [] >>= λ nodes. Ok (numbered nodes)
 
--- what is answered is what the definition gives, unless memory ran out
-abbrev pub Reads : {X : Type 0} → Result X SchemaFault → Result X SchemaFault → Type 0
+-- an error is this fault, unless memory ran out
+abbrev pub Tells : {X : Type 0} → SchemaFault → Result X Fault → Type 0
+Tells (At part place kind) read = read ≡ Err (fault_at part place kind)
+Tells Memory read = Unit {0}
+
+-- what is answered is what the definition gives
+abbrev pub Reads : {X : Type 0} → Result X SchemaFault → Result X Fault → Type 0
 Reads (Ok x) read = read ≡ Ok x
-Reads (Err Memory) read = Unit {0}
-Reads (Err (At part place kind)) read = read ≡ Err (At part place kind)
+Reads (Err error) read = Tells error read
 
 -- the same of what is left behind
-abbrev pub Leaves : {X Y : Type 0} → Result Y SchemaFault → X → Result X SchemaFault → Type 0
+abbrev pub Leaves : {X Y : Type 0} → Result Y SchemaFault → X → Result X Fault → Type 0
 Leaves (Ok y) after read = read ≡ Ok after
-Leaves (Err Memory) after read = Unit {0}
-Leaves (Err (At part place kind)) after read = read ≡ Err (At part place kind)
+Leaves (Err error) after read = Tells error read

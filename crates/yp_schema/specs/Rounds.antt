@@ -11,8 +11,6 @@ use Rattle.yp_schema.specs.declared.schema.Kind.TheVariants.{Container, Presence
 use Rattle.yp_schema.specs.declared.stated.Stated.{Stated}
 use Rattle.yp_schema.specs.declared.fault.SchemaKind.{SchemaKind}
 use Rattle.yp_schema.specs.declared.fault.SchemaKind.TheVariants as faults
-use Rattle.yp_schema.specs.declared.fault.SchemaFault.{SchemaFault}
-use Rattle.yp_schema.specs.declared.fault.SchemaFault.TheVariants.{At}
 use Rattle.yp_schema.specs.declared.listing.Listed.{Listed}
 use Rattle.yp_schema.specs.Names.{Names, names_cmp, front}
 use Rattle.yp_schema.specs.Nodes.{may_hold}
@@ -79,12 +77,21 @@ abbrev pub added : Option Stated → Nodes → Result Nodes SchemaKind
 added None nodes = Err faults.Member
 added (Some node) nodes = in_module node (module_in node.path node.home nodes) nodes
 
--- a fault at its place
-abbrev pub at_place : {A : Type 0} → ℕ → ℕ → Result A SchemaKind → Result A SchemaFault
-at_place part place (Ok x) = Ok x
-at_place part place (Err kind) = Err (At part place kind)
+-- a fault: its part, the place of its node there, both counted from 0, and what is wrong
+pub record Fault : Type 0 where
+  pub part : ℕ
+  pub place : ℕ
+  pub kind : SchemaKind
 
-abbrev pub first_round : ℕ → ℕ → Items → Nodes → Result Nodes SchemaFault
+abbrev pub fault_at : ℕ → ℕ → SchemaKind → Fault
+fault_at part place kind = record { part = part; place = place; kind = kind }
+
+-- a fault at its place
+abbrev pub at_place : {A : Type 0} → ℕ → ℕ → Result A SchemaKind → Result A Fault
+at_place part place (Ok x) = Ok x
+at_place part place (Err kind) = Err (fault_at part place kind)
+
+abbrev pub first_round : ℕ → ℕ → Items → Nodes → Result Nodes Fault
 first_round part place no_items nodes = Ok nodes
 first_round part place (item d ds) nodes = at_place part place (added (node_in d) nodes) >>= λ after. first_round part (place + 1) ds after
 
@@ -117,16 +124,16 @@ checked (Some node) nodes =
     if not (keys_there node.path node.body.keys nodes) then Err faults.NoKey
     else (if not (keys_fit node.path node.body.keys nodes) then Err faults.KeyNotLeaf else Ok nodes)
 
-abbrev pub second_round : ℕ → ℕ → Items → Nodes → Result Nodes SchemaFault
+abbrev pub second_round : ℕ → ℕ → Items → Nodes → Result Nodes Fault
 second_round part place no_items nodes = Ok nodes
 second_round part place (item d ds) nodes = at_place part place (checked (node_in d) nodes) >>= λ after. second_round part (place + 1) ds after
 
 -- ---- the parts
 
-abbrev pub part_in : ℕ → Option Items → Nodes → Result Nodes SchemaFault
-part_in part None nodes = Err (At part 0 faults.Member)
+abbrev pub part_in : ℕ → Option Items → Nodes → Result Nodes Fault
+part_in part None nodes = Err (fault_at part 0 faults.Member)
 part_in part (Some ds) nodes = first_round part 0 ds nodes >>= λ after. second_round part 0 ds after
 
-abbrev pub parts_in : ℕ → List Data → Nodes → Result Nodes SchemaFault
+abbrev pub parts_in : ℕ → List Data → Nodes → Result Nodes Fault
 parts_in part [] nodes = Ok nodes
 parts_in part (d ∷ ds) nodes = part_in part (as_array d) nodes >>= λ after. parts_in (part + 1) ds after

@@ -1,5 +1,5 @@
 -- What follows of a compiled schema, and of its paths.
-use Rattle.std.proofs.Common.{◌≡◌, ℕ, ◌<◌, List, [], ◌∷◌, length, true, false, true≢false, refl, sym, ap, ◌∙◌, Option, Some, None, IfSome}
+use Rattle.std.proofs.Common.{◌≡◌, ℕ, ◌<◌, List, [], ◌∷◌, ◌++◌, length, Bool, true, false, true≢false, refl, sym, ap, ◌∙◌, Option, Some, None, IfSome}
 use Rattle.std.specs.Prelude.{not, All}
 use Rattle.std.proofs.lemmas.Bool.{and_parts, and_from, ltb-true}
 use Rattle.std.proofs.lemmas.List.Elements.{All-nil, All-cons, All-weaker}
@@ -13,7 +13,7 @@ use Rattle.yp_schema.specs.declared.schema.Kind.{Kind}
 use Rattle.yp_schema.specs.declared.schema.Kind.TheVariants.{Container, Presence, List as Listing, Leaf, LeafList}
 use Rattle.yp_schema.specs.Nodes.{node_at}
 use Rattle.yp_schema.specs.WellFormed.{IsSchema, is_parent_of, kind_stands, has_none, has_type, has_atom_type, is_empty, is_key_leaf, are_key_leaves}
-use Rattle.yp_schema.specs.Datastore.{is_segment, goes_down, is_path_of, last_node, is_key_at, ends_in_key, is_place, holds_value, IsRowOf}
+use Rattle.yp_schema.specs.Datastore.{is_segment, goes_down, is_path_of, last_node, is_key_node, is_key_at, ends_in_key, is_place, holds_value, IsRowOf}
 
 -- ---- the nodes of a schema
 
@@ -95,14 +95,24 @@ down_end nodes parent (seg ∷ next ∷ path) h = down_end nodes (Some seg.node)
 pub path_end : (nodes : List SchemaNode) (path : List Seg) → is_path_of nodes path ≡ true → IfSome (last_node path) (λ n. n < length nodes)
 path_end nodes path h = down_end nodes None path (path_down nodes path h)
 
--- data may stand at a path that ends in no key leaf
-pub open_place : (nodes : List SchemaNode) (path : List Seg) → is_path_of nodes path ≡ true → not (ends_in_key nodes path) ≡ true → is_place nodes path ≡ true
-open_place nodes [] is open_end = refl
-open_place nodes (seg ∷ path) is open_end = and_from _ _ is open_end
+-- a path ends in the node of its last segment
+pub last_node_append : (above : List Seg) (seg : Seg) → last_node (above ++ seg ∷ []) ≡ Some seg.node
+last_node_append [] seg = refl
+last_node_append (first ∷ []) seg = refl
+last_node_append (first ∷ next ∷ above) seg = last_node_append (next ∷ above) seg
 
-open_row : (nodes : List SchemaNode) (end : Option ℕ) (value : Value) → holds_value nodes end value ≡ true → not (is_key_at nodes end) ≡ true
+-- data may stand at a path that ends in no key leaf
+pub open_place : (nodes : List SchemaNode) (path : List Seg) → is_path_of nodes path ≡ true → ends_in_key nodes path ≡ false → is_place nodes path ≡ true
+open_place nodes [] is open_end = refl
+open_place nodes (seg ∷ path) is open_end = and_from _ _ is (ap not open_end)
+
+not_true : (t : Bool) → not t ≡ true → t ≡ false
+not_true true h = absurd (true≢false (sym h))
+not_true false h = refl
+
+open_row : (nodes : List SchemaNode) (end : Option ℕ) (value : Value) → holds_value nodes end value ≡ true → is_key_at nodes end ≡ false
 open_row nodes None value h = refl
-open_row nodes (Some n) value h = (and_parts _ _ h).0
+open_row nodes (Some n) value h = not_true (is_key_node nodes n) (and_parts _ _ h).0
 
 -- and so at the path of each row
 pub row_place : (nodes : List SchemaNode) (row : Row) → IsRowOf nodes row → is_place nodes row.path ≡ true

@@ -1,8 +1,9 @@
-//! The children of each node by their member forms.
+//! The children of each node by their member forms, and which nodes are keys.
 ghost use Rattle.std.specs.BTreeMap.{get_by_text};
 ghost use Rattle.std.specs.Prelude.{◌≡◌, ◌<◌, ◌+◌, ◌^◌, ◌&&◌, ℕ, List, Some, None, OnOk, IfOk, length, if◌then◌else◌, nat_eq, vec_len};
 ghost use Rattle.yp_base.specs.Types.{same_text};
-ghost use Rattle.yp_schema.specs.Index.{indexed_at, slot_of, IsIndex};
+ghost use Rattle.yp_schema.specs.Index.{indexed_at, slot_of, IsIndex, TellsKeys};
+ghost use Rattle.yp_schema.specs.Nodes.{node_at, is_in, is_key};
 ghost use Rattle.yp_schema.specs.WellFormed.{IsSchema};
 
 use crate::schema::SchemaNode;
@@ -90,4 +91,40 @@ pub fn index_nodes(alloc: Global, nodes: &[SchemaNode]) -> Result<Vec<Children>,
         )?;
     }
     Ok(index)
+}
+
+fn is_among(node: u32, nodes: &[u32]) -> bool
+    ensures { result ≡ is_in node nodes.now }
+{
+    for other in nodes {
+        if node == *other {
+            return true;
+        }
+    }
+    false
+}
+
+/// Whether a node is a key of its parent.
+#[tactic(auto, using(crate::specs::SchemaLaws::parent_before))]
+fn is_key_at(nodes: &[SchemaNode], at: usize) -> bool
+    requires schema { IsSchema nodes.now }
+    requires within { at < length nodes.now }
+    ensures { result ≡ is_key at (node_at at nodes.now).parent nodes.now }
+{
+    match nodes[at].parent {
+        Some(parent) => is_among(at as u32, nodes[parent as usize].keys.items()),
+        None => false,
+    }
+}
+
+/// Which nodes of a schema are keys.
+pub fn tell_keys(alloc: Global, nodes: &[SchemaNode]) -> Result<Vec<bool>, NoMemory>
+    requires { IsSchema nodes.now }
+    ensures { IfOk result (λ flags. TellsKeys flags.items nodes.now) }
+{
+    let mut flags = Vec::new(alloc);
+    while flags.len() < nodes.len() {
+        flags.push(is_key_at(nodes, flags.len()))?;
+    }
+    Ok(flags)
 }

@@ -6,7 +6,7 @@ ghost use Rattle.serde_json.specs.Find.{as_array};
 ghost use Rattle.yp_schema.specs.Names.{names_cmp, front};
 ghost use Rattle.yp_schema.specs.Nodes.{may_hold};
 ghost use Rattle.yp_schema.specs.Reading.{Leaves, Reads, numbered};
-ghost use Rattle.yp_schema.specs.Rounds.{listed_at, parent_module, own_module, module_in, atoms_in, is_typed, placed, in_module, added, at_place, first_round, keys_there, is_key_type, may_be_key, keys_fit, checked, second_round, part_in, parts_in};
+ghost use Rattle.yp_schema.specs.Rounds.{listed_at, parent_module, own_module, module_in, atoms_in, is_typed, placed, in_module, added, at_place, first_round, keys_there, may_be_key, keys_fit, checked, second_round, part_in, parts_in};
 ghost use Rattle.yp_schema.specs.Stated.{node_in};
 ghost use Rattle.yp_schema.specs.WellFormed.{IsSchema};
 
@@ -78,13 +78,6 @@ impl Listing {
         let Listing { kept } = self;
         kept
     }
-
-    /// The nodes, each behind the names on the way to it.
-    pub fn map(&self) -> &BTreeMap<Names, Listed>
-        ensures { result.now.entries ≡ self.now }
-    {
-        &self.kept
-    }
 }
 
 /// Whether a node of this kind has children.
@@ -112,16 +105,6 @@ fn is_typed(kind: Kind, ty: &Option<LeafType>) -> bool
         Kind::Container | Kind::Presence | Kind::List => true,
         Kind::Leaf => ty.is_some(),
         Kind::LeafList => atoms_in(ty),
-    }
-}
-
-/// Whether it is a leaf that isn't empty.
-fn is_key_type(kind: Kind, ty: &Option<LeafType>) -> bool
-    ensures { result ≡ is_key_type kind ty.now }
-{
-    match kind {
-        Kind::Leaf => atoms_in(ty),
-        Kind::Container | Kind::Presence | Kind::List | Kind::LeafList => false,
     }
 }
 
@@ -204,33 +187,9 @@ fn place_node(
             kind: SchemaKind::TooMany,
         });
     }
-    nodes.kept.insert(path, node)?;
-    Ok(())
-}
-
-/// Takes up a node.
-fn add_node(
-    alloc: Global,
-    part: usize,
-    place: usize,
-    node: Stated,
-    nodes: &mut Listing,
-) -> Result<(), SchemaFault>
-    ensures { Leaves result nodes.new (at_place part place (added (Some node) nodes.old)) }
-{
-    let Stated {
-        path,
-        home,
-        name,
-        body,
-    } = node;
-    match module_of(alloc, &path, home, nodes)? {
-        Some(home) => place_node(part, place, path, Listed { home, name, body }, nodes),
-        None => Err(SchemaFault::At {
-            part,
-            place,
-            kind: SchemaKind::Member,
-        }),
+    match nodes.kept.insert(path, node) {
+        Ok(_) => Ok(()),
+        Err(_) => Err(SchemaFault::Memory),
     }
 }
 
@@ -244,14 +203,22 @@ fn take_node(
 ) -> Result<(), SchemaFault>
     ensures { Leaves result nodes.new (at_place part place (added (node_in (view json.now)) nodes.old)) }
 {
-    match read_node(alloc, json)? {
-        Some(node) => add_node(alloc, part, place, node, nodes),
-        None => Err(SchemaFault::At {
-            part,
-            place,
-            kind: SchemaKind::Member,
-        }),
+    if let Some(node) = read_node(alloc, json)? {
+        let Stated {
+            path,
+            home,
+            name,
+            body,
+        } = node;
+        if let Some(home) = module_of(alloc, &path, home, nodes)? {
+            return place_node(part, place, path, Listed { home, name, body }, nodes);
+        }
     }
+    Err(SchemaFault::At {
+        part,
+        place,
+        kind: SchemaKind::Member,
+    })
 }
 
 /// The first round of a part: each node in order.
@@ -271,20 +238,29 @@ fn take_nodes(
     Ok(())
 }
 
-fn is_key_listed(alloc: Global, path: &Names, key: &Txt, nodes: &Listing) -> Result<bool, NoMemory>
-    ensures { IfOk result (λ there. there ≡ is_some (listed_at (path.now ++ key.now ∷ []) nodes.now)) }
+/// The node that a key of the list at a path names.
+fn listed_key<'a>(
+    alloc: Global,
+    path: &Names,
+    key: &Txt,
+    nodes: &'a Listing,
+) -> Result<Option<&'a Listed>, NoMemory>
+    ensures { IfOk result (λ node. option_copied node ≡ listed_at (path.now ++ key.now ∷ []) nodes.now) }
 {
     let names = with_name(alloc, path, key)?;
-    Ok(nodes.get(&names).is_some())
+    Ok(nodes.get(&names))
 }
 
-fn is_key_fit(alloc: Global, path: &Names, key: &Txt, nodes: &Listing) -> Result<bool, NoMemory>
-    ensures { IfOk result (λ fit. fit ≡ may_be_key (listed_at (path.now ++ key.now ∷ []) nodes.now)) }
+/// Whether it is a leaf that isn't empty.
+fn may_be_key(node: Option<&Listed>) -> bool
+    ensures { result ≡ may_be_key (option_copied node.entry) }
 {
-    let names = with_name(alloc, path, key)?;
-    match nodes.get(&names) {
-        Some(node) => Ok(is_key_type(node.body.kind, &node.body.ty)),
-        None => Ok(false),
+    match node {
+        Some(node) => match node.body.kind {
+            Kind::Leaf => atoms_in(&node.body.ty),
+            Kind::Container | Kind::Presence | Kind::List | Kind::LeafList => false,
+        },
+        None => false,
     }
 }
 
@@ -293,7 +269,7 @@ fn keys_there(alloc: Global, path: &Names, keys: &Names, nodes: &Listing) -> Res
     ensures { IfOk result (λ there. there ≡ keys_there path.now keys.now nodes.now) }
 {
     for key in keys.items() {
-        if !is_key_listed(alloc, path, key, nodes)? {
+        if listed_key(alloc, path, key, nodes)?.is_none() {
             return Ok(false);
         }
     }
@@ -305,7 +281,7 @@ fn keys_fit(alloc: Global, path: &Names, keys: &Names, nodes: &Listing) -> Resul
     ensures { IfOk result (λ fit. fit ≡ keys_fit path.now keys.now nodes.now) }
 {
     for key in keys.items() {
-        if !is_key_fit(alloc, path, key, nodes)? {
+        if !may_be_key(listed_key(alloc, path, key, nodes)?) {
             return Ok(false);
         }
     }

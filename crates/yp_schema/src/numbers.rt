@@ -1,11 +1,10 @@
 //! The numbers of nodes: in pre-order, siblings in byte order of their member forms.
 ghost use Rattle.std.specs.Prelude.{◌≡◌, ◌<◌, ◌^◌, ◌++◌, ◌∷◌, [], length, IfOk, map};
-ghost use Rattle.yp_schema.specs.Names.{front, last};
 ghost use Rattle.yp_schema.specs.WellFormed.{IsSchema};
 ghost use Rattle.yp_schema.specs.Reading.{numbers_from, number_of, key_numbers, numbered_node, numbered};
 
 use crate::listing::{Listed, Listing};
-use crate::names::{Names, front_of, with_name};
+use crate::names::{Names, front_of, last_of, text_of, with_name};
 use crate::schema::SchemaNode;
 use std::alloc::Global;
 use std::collections::BTreeMap;
@@ -30,13 +29,13 @@ impl Model for Numbers {
 
 impl Numbers {
     /// The places of listed nodes.
-    fn of_listing(alloc: Global, nodes: &Listing) -> Result<Numbers, NoMemory>
-        requires { length nodes.now < 2 ^ 32 }
-        ensures { IfOk result (λ numbers. numbers ≡ numbers_from 0 nodes.now) }
+    fn of_nodes(alloc: Global, nodes: &BTreeMap<Names, Listed>) -> Result<Numbers, NoMemory>
+        requires { length nodes.now.entries < 2 ^ 32 }
+        ensures { IfOk result (λ numbers. numbers ≡ numbers_from 0 nodes.now.entries) }
     {
         let mut kept = BTreeMap::new(alloc);
         let mut place = 0;
-        for (path, _) in nodes.map().iter() {
+        for (path, _) in nodes.iter() {
             kept.insert(path.copy(alloc)?, place)?;
             place += 1;
         }
@@ -82,16 +81,6 @@ fn key_numbers(
     Ok(Series::from_vec(made))
 }
 
-/// The last name.
-fn take_last(alloc: Global, path: Names) -> Result<Txt, NoMemory>
-    ensures { IfOk result (λ name. name ≡ last path) }
-{
-    match path.into_vec(alloc)?.pop() {
-        Some(name) => Ok(name),
-        None => Ok(Txt::from_string(String::new(alloc))),
-    }
-}
-
 /// A listed node with the numbers of its parent and keys.
 fn number_node(
     alloc: Global,
@@ -105,7 +94,7 @@ fn number_node(
     let above = front_of(alloc, &path)?;
     let parent = numbers.get(&above);
     let keys = key_numbers(alloc, &path, &body.keys, numbers)?;
-    let member = take_last(alloc, path)?;
+    let member = text_of(alloc, last_of(&path))?;
     Ok(SchemaNode {
         parent,
         kind: body.kind,
@@ -118,11 +107,15 @@ fn number_node(
     })
 }
 
-fn number_all(alloc: Global, nodes: Listing, numbers: &Numbers) -> Result<Vec<SchemaNode>, NoMemory>
-    ensures { IfOk result (λ made. made.items ≡ map (numbered_node numbers.now) nodes) }
+fn number_all(
+    alloc: Global,
+    nodes: BTreeMap<Names, Listed>,
+    numbers: &Numbers,
+) -> Result<Vec<SchemaNode>, NoMemory>
+    ensures { IfOk result (λ made. made.items ≡ map (numbered_node numbers.now) nodes.entries) }
 {
     let mut made = Vec::new(alloc);
-    for (path, node) in nodes.into_map() {
+    for (path, node) in nodes {
         made.push(number_node(alloc, path, node, numbers)?)?;
     }
     Ok(made)
@@ -133,6 +126,7 @@ pub fn number_nodes(alloc: Global, nodes: Listing) -> Result<Vec<SchemaNode>, No
     requires { IsSchema (numbered nodes) }
     ensures { IfOk result (λ made. made.items ≡ numbered nodes) }
 {
-    let numbers = Numbers::of_listing(alloc, &nodes)?;
-    number_all(alloc, nodes, &numbers)
+    let kept = nodes.into_map();
+    let numbers = Numbers::of_nodes(alloc, &kept)?;
+    number_all(alloc, kept, &numbers)
 }

@@ -1,18 +1,19 @@
 //! The schema and its accessors.
-ghost use Rattle.std.specs.Prelude.{◌≡◌, ◌<◌, ◌↔◌, ℕ, List, length, map, All, IfSome, Ok, option_copied, true};
+ghost use Rattle.std.specs.Prelude.{◌≡◌, ◌<◌, ◌↔◌, ℕ, List, length, map, All, IfSome, Ok, option_copied, true, false};
 ghost use Rattle.serde_json.specs.Data.{Data};
 ghost use Rattle.serde_json.specs.View.{view};
 ghost use Rattle.yp_base.specs.Texts.{ReadsAs};
 ghost use Rattle.yp_base.specs.Types.{is_type};
 ghost use Rattle.yp_schema.specs.declared.schema.SchemaNode.{SchemaNode};
 ghost use Rattle.yp_schema.specs.Compiled.{Compiles};
-ghost use Rattle.yp_schema.specs.Nodes.{node_at, child_of, is_key, is_in};
+ghost use Rattle.yp_schema.specs.Datastore.{is_key_node, ends_in_key, is_path_of, is_place};
+ghost use Rattle.yp_schema.specs.Nodes.{node_at, child_of, is_key};
 ghost use Rattle.yp_schema.specs.Reading.{Reads, schema_of};
 ghost use Rattle.yp_schema.specs.Values.{typed_value, typed_atom};
 ghost use Rattle.yp_schema.specs.WellFormed.{IsSchema, is_key_leaf};
 
 use crate::fault::SchemaFault;
-use crate::index::{Children, index_nodes, look_up, slot_of};
+use crate::index::{Children, index_nodes, look_up, slot_of, tell_keys};
 use crate::listing::read_parts;
 use crate::numbers::number_nodes;
 use serde_json::Value as Json;
@@ -21,6 +22,7 @@ use std::marker::Model;
 use yp_base::atom::Atom;
 use yp_base::json::read_json;
 use yp_base::leaf_type::LeafType;
+use yp_base::path::Path;
 use yp_base::row::Value;
 use yp_base::series::Series;
 use yp_base::text::TextFault;
@@ -56,19 +58,20 @@ pub struct SchemaNode {
 pub struct Schema {
     nodes: Vec<SchemaNode>,
     index: Vec<Children>,
+    keys: Vec<bool>,
 }
 
 impl Model for Schema {
     ghost use Rattle.std.specs.Prelude.{List};
     ghost use Rattle.yp_schema.specs.declared.schema.SchemaNode.{SchemaNode};
-    ghost use Rattle.yp_schema.specs.Index.{IsIndex};
+    ghost use Rattle.yp_schema.specs.Index.{IsIndex, TellsKeys};
     ghost use Rattle.yp_schema.specs.WellFormed.{IsSchema};
 
     ghost Value = { List SchemaNode };
 
     ghost view = { λ s. s.nodes.items };
 
-    ghost invariant = { λ s. IsSchema s.nodes.items × IsIndex s.index.items s.nodes.items };
+    ghost invariant = { λ s. IsSchema s.nodes.items × IsIndex s.index.items s.nodes.items × TellsKeys s.keys.items s.nodes.items };
 }
 
 impl Schema {
@@ -82,7 +85,8 @@ impl Schema {
         let listing = read_parts(alloc, parts)?;
         let nodes = number_nodes(alloc, listing)?;
         let index = index_nodes(alloc, nodes.as_slice())?;
-        Ok(Schema { nodes, index })
+        let keys = tell_keys(alloc, nodes.as_slice())?;
+        Ok(Schema { nodes, index, keys })
     }
 
     /// How many nodes there are. Each number below it is a node's.
@@ -185,8 +189,30 @@ impl Schema {
         requires { IfSome parent (λ parent. parent < length self.now) }
         ensures { result ≡ is_key node parent self.now }
     {
+        self.stands();
         match parent {
-            Some(parent) => is_among(node, self.keys(parent)),
+            Some(above) => self.is_key_node(node) && self.node(node).parent == Some(above),
+            None => false,
+        }
+    }
+
+    /// Whether a node is a key of the node above. No number past the nodes is.
+    pub fn is_key_node(&self, node: u32) -> bool
+        ensures { result ≡ is_key_node self.now node }
+    {
+        match self.keys.get(node as usize) {
+            Some(told) => *told,
+            None => false,
+        }
+    }
+
+    /// Whether a path ends in a key leaf. Data may stand at one of the schema that doesn't.
+    pub fn ends_in_key(&self, path: &Path) -> bool
+        ensures ends { result ≡ ends_in_key self.now path.now }
+        ensures place { is_path_of self.now path.now ≡ true → result ≡ false → is_place self.now path.now ≡ true }
+    {
+        match path.items().split_last() {
+            Some((end, _)) => self.is_key_node(end.node),
             None => false,
         }
     }
@@ -229,17 +255,6 @@ impl Schema {
 pub fn accepted_schema_is_compiled()
     ensures compiled { (parts : List Data) (nodes : List SchemaNode) → schema_of parts ≡ Ok nodes ↔ Compiles parts nodes }
 {}
-
-fn is_among(node: u32, nodes: &[u32]) -> bool
-    ensures { result ≡ is_in node nodes.now }
-{
-    for other in nodes {
-        if node == *other {
-            return true;
-        }
-    }
-    false
-}
 
 #[cfg(test)]
 mod tests;

@@ -4,7 +4,7 @@ ghost use Rattle.serde_json.specs.View.{view, items_view, members_view};
 ghost use Rattle.serde_json.specs.Find.{get_member};
 ghost use Rattle.yp_base.specs.Types.{are_names, are_distinct, are_short};
 ghost use Rattle.yp_schema.specs.Names.{around_colon};
-ghost use Rattle.yp_schema.specs.Stated.{is_own, may_have, has_only, text_member, flag_of, flag_member, texts_in, texts_member, places_in, decimal_at, integer_in, type_in, all_names, are_key_names, container_kind, container_in, list_in, enumeration_in, typed_in, leaf_in, of_kind, body_in, form_of, form_in, stated_in, node_in, tested};
+ghost use Rattle.yp_schema.specs.Stated.{may_have, is_own, has_only, text_member, flag_of, flag_member, texts_in, texts_member, places_in, decimal_at, integer_in, type_in, all_names, are_key_names, container_kind, container_in, list_in, enumeration_in, typed_in, leaf_in, of_kind, body_in, form_of, form_in, stated_in, node_in, tested};
 
 use crate::names::{Names, around_colon, is_name, last_of, read_path, text_of};
 use crate::schema::Kind;
@@ -49,22 +49,19 @@ pub struct Stated {
     pub body: Body,
 }
 
-fn is_own(shape: Shape, name: &str) -> bool
-    ensures { result ≡ is_own shape name.now }
+/// Whether a node may have a member.
+fn may_have(shape: Shape, name: &str) -> bool
+    ensures { result ≡ may_have shape name.now }
 {
+    if name == "path" || name == "kind" || name == "deny-all" {
+        return true;
+    }
     match shape {
         Shape::Container => name == "presence",
         Shape::List => name == "keys",
         Shape::Leaf => name == "type",
         Shape::Enumeration => name == "type" || name == "names",
     }
-}
-
-/// Whether a node may have a member.
-fn may_have(shape: Shape, name: &str) -> bool
-    ensures { result ≡ may_have shape name.now }
-{
-    name == "path" || name == "kind" || name == "deny-all" || is_own(shape, name)
 }
 
 /// Whether an object has only the members of a shape.

@@ -9,8 +9,7 @@ use Rattle.serde_json.specs.Data.{Data, Members}
 use Rattle.serde_json.specs.Find.{get_member}
 use Rattle.yp_base.specs.Types.{same_text, is_among, are_distinct}
 use Rattle.yp_schema.specs.declared.schema.SchemaNode.{SchemaNode}
-use Rattle.yp_schema.specs.declared.fault.SchemaFault.{SchemaFault}
-use Rattle.yp_schema.specs.Rounds.{Nodes, parts_in, ◌>>=◌}
+use Rattle.yp_schema.specs.Rounds.{Nodes, Fault, parts_in, ◌>>=◌}
 use Rattle.yp_schema.specs.Reading.{numbered, schema_of}
 use Rattle.yp_schema.specs.WellFormed.{IsSchema}
 use Rattle.yp_schema.proofs.Schemas.{parts_are_schema}
@@ -195,14 +194,14 @@ pub record Keeps (script : Script) : Type 0 where
 abbrev Keep : Progress → Type 0
 Keep progress = Keeps progress.script
 
-schema_at : (r : Result Nodes SchemaFault) (parts : List Data) (nodes : List SchemaNode) → parts_in 0 parts [] ≡ r → (r >>= λ made. Ok (numbered made)) ≡ Ok nodes → IsSchema nodes
+schema_at : (r : Result Nodes Fault) (parts : List Data) (nodes : List SchemaNode) → parts_in 0 parts [] ≡ r → (r >>= λ made. Ok (numbered made)) ≡ Ok nodes → IsSchema nodes
 schema_at (Ok made) parts nodes read is = let same : numbered made ≡ nodes = cc in subst IsSchema same (parts_are_schema parts made read)
 schema_at (Err fault) parts nodes read is = absurd (cc)
 
 schema_is : (parts : List Data) (nodes : List SchemaNode) → schema_of parts ≡ Ok nodes → IsSchema nodes
 schema_is parts nodes is = schema_at (parts_in 0 parts []) parts nodes refl is
 
-schema_said_is : (r : Result (List SchemaNode) SchemaFault) → IfOk (schema_said r) (λ nodes. r ≡ Ok nodes)
+schema_said_is : (r : Result (List SchemaNode) Fault) → IfOk (schema_said r) (λ nodes. r ≡ Ok nodes)
 schema_said_is (Ok nodes) = refl
 schema_said_is (Err fault) = tt
 

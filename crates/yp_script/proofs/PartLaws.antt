@@ -6,9 +6,7 @@ use Rattle.serde_json.specs.Data.{Data, Items, no_items, item}
 use Rattle.serde_json.specs.Find.{as_array}
 use Rattle.yp_schema.specs.declared.schema.SchemaNode.{SchemaNode}
 use Rattle.yp_schema.specs.declared.fault.SchemaKind.{SchemaKind}
-use Rattle.yp_schema.specs.declared.fault.SchemaFault.{SchemaFault}
-use Rattle.yp_schema.specs.declared.fault.SchemaFault.TheVariants.{At, Memory}
-use Rattle.yp_schema.specs.Rounds.{Nodes, ◌>>=◌, added, checked, at_place, first_round, second_round, part_in, parts_in}
+use Rattle.yp_schema.specs.Rounds.{Nodes, Fault, ◌>>=◌, added, checked, at_place, first_round, second_round, part_in, parts_in}
 use Rattle.yp_schema.specs.Stated.{node_in}
 use Rattle.yp_schema.specs.Reading.{numbered, schema_of}
 use Rattle.yp_script.specs.declared.fault.ScriptKind.TheVariants as kinds
@@ -19,12 +17,11 @@ use Rattle.yp_script.specs.Script.{at_line, schema_said}
 -- ---- the part that a fault names
 
 -- a fault names this part
-abbrev IsOf : {X : Type 0} → ℕ → Result X SchemaFault → Type 0
+abbrev IsOf : {X : Type 0} → ℕ → Result X Fault → Type 0
 IsOf part (Ok x) = Unit {0}
-IsOf part (Err (At own place kind)) = own ≡ part
-IsOf part (Err Memory) = ⊥
+IsOf part (Err fault) = fault.part ≡ part
 
-of_place : (part place : ℕ) (r : Result Nodes SchemaKind) (f : Nodes → Result Nodes SchemaFault) → ((nodes : Nodes) → IsOf part (f nodes)) → IsOf part (at_place part place r >>= f)
+of_place : (part place : ℕ) (r : Result Nodes SchemaKind) (f : Nodes → Result Nodes Fault) → ((nodes : Nodes) → IsOf part (f nodes)) → IsOf part (at_place part place r >>= f)
 of_place part place (Ok nodes) f each = each nodes
 of_place part place (Err kind) f each = refl
 
@@ -36,25 +33,22 @@ second_of : (part place : ℕ) (ds : Items) (nodes : Nodes) → IsOf part (secon
 second_of part place no_items nodes = tt
 second_of part place (item d ds) nodes = of_place part place (checked (node_in d) nodes) (λ after. second_round part (place + 1) ds after) (λ after. second_of part (place + 1) ds after)
 
-of_both : (part : ℕ) (r : Result Nodes SchemaFault) (f : Nodes → Result Nodes SchemaFault) → IsOf part r → ((nodes : Nodes) → IsOf part (f nodes)) → IsOf part (r >>= f)
+of_both : (part : ℕ) (r : Result Nodes Fault) (f : Nodes → Result Nodes Fault) → IsOf part r → ((nodes : Nodes) → IsOf part (f nodes)) → IsOf part (r >>= f)
 of_both part (Ok nodes) f is each = each nodes
-of_both part (Err (At own place kind)) f is each = is
-of_both part (Err Memory) f is each = is
+of_both part (Err fault) f is each = is
 
 part_of : (part : ℕ) (ds : Option Items) (nodes : Nodes) → IsOf part (part_in part ds nodes)
 part_of part None nodes = refl
 part_of part (Some ds) nodes = of_both part (first_round part 0 ds nodes) (λ after. second_round part 0 ds after) (first_of part 0 ds nodes) (λ after. second_of part 0 ds after)
 
 -- a fault names a part before this one
-abbrev IsBefore : {X : Type 0} → ℕ → Result X SchemaFault → Type 0
+abbrev IsBefore : {X : Type 0} → ℕ → Result X Fault → Type 0
 IsBefore part (Ok x) = Unit {0}
-IsBefore part (Err (At own place kind)) = own < part
-IsBefore part (Err Memory) = ⊥
+IsBefore part (Err fault) = fault.part < part
 
-before_then : (part end : ℕ) (r : Result Nodes SchemaFault) (f : Nodes → Result Nodes SchemaFault) → part < end → IsOf part r → ((nodes : Nodes) → IsBefore end (f nodes)) → IsBefore end (r >>= f)
+before_then : (part end : ℕ) (r : Result Nodes Fault) (f : Nodes → Result Nodes Fault) → part < end → IsOf part r → ((nodes : Nodes) → IsBefore end (f nodes)) → IsBefore end (r >>= f)
 before_then part end (Ok nodes) f less is each = each nodes
-before_then part end (Err (At own place kind)) f less is each = omega (arith, is)
-before_then part end (Err Memory) f less is each = is
+before_then part end (Err fault) f less is each = omega (arith, is)
 
 parts_before : (part : ℕ) (ds : List Data) (nodes : Nodes) → IsBefore (part + length ds) (parts_in part ds nodes)
 parts_before part [] nodes = tt
@@ -64,15 +58,15 @@ parts_before part (d ∷ ds) nodes =
 
 -- ---- one part more
 
-bound_twice : {A B C : Type 0} (r : Result A SchemaFault) (f : A → Result B SchemaFault) (g : B → Result C SchemaFault) → ((r >>= f) >>= g) ≡ (r >>= λ x. f x >>= g)
+bound_twice : {A B C : Type 0} (r : Result A Fault) (f : A → Result B Fault) (g : B → Result C Fault) → ((r >>= f) >>= g) ≡ (r >>= λ x. f x >>= g)
 bound_twice (Ok x) f g = refl
 bound_twice (Err fault) f g = refl
 
-bound_alike : {A B : Type 0} (r : Result A SchemaFault) (f g : A → Result B SchemaFault) → ((x : A) → f x ≡ g x) → (r >>= f) ≡ (r >>= g)
+bound_alike : {A B : Type 0} (r : Result A Fault) (f g : A → Result B Fault) → ((x : A) → f x ≡ g x) → (r >>= f) ≡ (r >>= g)
 bound_alike (Ok x) f g same = same x
 bound_alike (Err fault) f g same = refl
 
-bound_whole : (r : Result Nodes SchemaFault) → (r >>= λ after. Ok after) ≡ r
+bound_whole : (r : Result Nodes Fault) → (r >>= λ after. Ok after) ≡ r
 bound_whole (Ok x) = refl
 bound_whole (Err fault) = refl
 
@@ -86,20 +80,18 @@ parts_more part (e ∷ ds) d nodes =
 
 -- ---- the lines of faults
 
-abbrev numbered_in : Result Nodes SchemaFault → Result (List SchemaNode) SchemaFault
+abbrev numbered_in : Result Nodes Fault → Result (List SchemaNode) Fault
 numbered_in r = r >>= λ nodes. Ok (numbered nodes)
 
-last_line : (r : Result Nodes SchemaFault) (numbers : List ℕ) (line : ℕ) → IsOf (length numbers) r → at_part (numbers ++ line ∷ []) (numbered_in r) ≡ at_line line (schema_said (numbered_in r))
+last_line : (r : Result Nodes Fault) (numbers : List ℕ) (line : ℕ) → IsOf (length numbers) r → at_part (numbers ++ line ∷ []) (numbered_in r) ≡ at_line line (schema_said (numbered_in r))
 last_line (Ok nodes) numbers line is = refl
-last_line (Err (At part place kind)) numbers line is =
+last_line (Err fault) numbers line is =
     ap (λ n. Err (told.At n kinds.Schema)) (ap (λ k. get_or (numbers ++ line ∷ []) k 0) is ∙ get_or-append_seam numbers line [] 0)
-last_line (Err Memory) numbers line is = absurd is
 
-each_line : (r : Result Nodes SchemaFault) (p : Nodes → Result Nodes SchemaFault) (numbers : List ℕ) (line : ℕ) → IsBefore (length numbers) r → ((after : Nodes) → IsOf (length numbers) (p after))
+each_line : (r : Result Nodes Fault) (p : Nodes → Result Nodes Fault) (numbers : List ℕ) (line : ℕ) → IsBefore (length numbers) r → ((after : Nodes) → IsOf (length numbers) (p after))
     → at_part (numbers ++ line ∷ []) (numbered_in (r >>= p)) ≡ (at_part numbers (numbered_in r) >>= λ nodes. at_line line (schema_said (numbered_in (r >>= p))))
 each_line (Ok nodes) p numbers line is each = last_line (p nodes) numbers line (each nodes)
-each_line (Err (At part place kind)) p numbers line is each = ap (λ n. Err (told.At n kinds.Schema)) (get_or_append_left numbers (line ∷ []) 0 part is)
-each_line (Err Memory) p numbers line is each = absurd is
+each_line (Err fault) p numbers line is each = ap (λ n. Err (told.At n kinds.Schema)) (get_or_append_left numbers (line ∷ []) 0 fault.part is)
 
 -- a fault of parts and one more is that of a part before it, or its own
 pub part_grows : (numbers : List ℕ) (line : ℕ) (ds : List Data) (d : Data) → length numbers ≡ length ds
@@ -108,5 +100,5 @@ part_grows numbers line ds d many =
     let more : parts_in 0 (ds ++ d ∷ []) [] ≡ (parts_in 0 ds [] >>= λ after. part_in (0 + length ds) (as_array d) after) = parts_more 0 ds d [] in
     let before : IsBefore (length numbers) (parts_in 0 ds []) = subst (λ n. IsBefore n (parts_in 0 ds [])) (let e : 0 + length ds ≡ length numbers = omega arith in e) (parts_before 0 ds []) in
     let own : (after : Nodes) → IsOf (length numbers) (part_in (0 + length ds) (as_array d) after) = λ after. subst (λ n. IsOf n (part_in (0 + length ds) (as_array d) after)) (let e : 0 + length ds ≡ length numbers = omega arith in e) (part_of (0 + length ds) (as_array d) after) in
-    subst (λ (r : Result Nodes SchemaFault). at_part (numbers ++ line ∷ []) (numbered_in r) ≡ (at_part numbers (schema_of ds) >>= λ nodes. at_line line (schema_said (numbered_in r)))) (sym more)
+    subst (λ (r : Result Nodes Fault). at_part (numbers ++ line ∷ []) (numbered_in r) ≡ (at_part numbers (schema_of ds) >>= λ nodes. at_line line (schema_said (numbered_in r)))) (sym more)
     (each_line (parts_in 0 ds []) (λ after. part_in (0 + length ds) (as_array d) after) numbers line before own)

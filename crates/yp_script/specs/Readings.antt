@@ -4,8 +4,7 @@ use Rattle.serde_json.specs.Data.{Data}
 use Rattle.serde_json.specs.declared.value.Value.{Value}
 use Rattle.serde_json.specs.View.{view}
 use Rattle.yp_schema.specs.declared.schema.SchemaNode.{SchemaNode}
-use Rattle.yp_schema.specs.declared.fault.SchemaFault.{SchemaFault}
-use Rattle.yp_schema.specs.declared.fault.SchemaFault.TheVariants as faults
+use Rattle.yp_schema.specs.Rounds.{Fault}
 use Rattle.yp_script.specs.declared.fault.ScriptKind.TheVariants as kinds
 use Rattle.yp_script.specs.declared.fault.ScriptFault.{ScriptFault}
 use Rattle.yp_script.specs.declared.fault.ScriptFault.TheVariants.{At, Memory}
@@ -51,7 +50,6 @@ fault_of line stands (halts.Fault own) = At line (if stands then own else least 
 fault_of line stands halts.Memory = Memory
 
 -- a fault of a part of the schema is one of its line
-abbrev pub at_part : List ℕ → Result (List SchemaNode) SchemaFault → Result (List SchemaNode) ScriptFault
+abbrev pub at_part : List ℕ → Result (List SchemaNode) Fault → Result (List SchemaNode) ScriptFault
 at_part numbers (Ok nodes) = Ok nodes
-at_part numbers (Err (faults.At part place fault)) = Err (At (get_or numbers part 0) kinds.Schema)
-at_part numbers (Err faults.Memory) = Err Memory
+at_part numbers (Err fault) = Err (At (get_or numbers fault.part 0) kinds.Schema)

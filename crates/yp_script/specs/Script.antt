@@ -4,9 +4,8 @@ use Rattle.std.specs.Result.{result_ok}
 use Rattle.serde_json.specs.Data.{Data}
 use Rattle.yp_base.specs.Types.{are_distinct}
 use Rattle.yp_schema.specs.declared.schema.SchemaNode.{SchemaNode}
-use Rattle.yp_schema.specs.declared.fault.SchemaFault.{SchemaFault}
 use Rattle.yp_schema.specs.Reading.{schema_of}
-use Rattle.yp_schema.specs.Rounds.{◌>>=◌}
+use Rattle.yp_schema.specs.Rounds.{Fault, ◌>>=◌}
 use Rattle.yp_journal.specs.declared.command.Command.{Command}
 use Rattle.yp_journal.specs.declared.receiver.ReceiverInfo.{ReceiverInfo}
 use Rattle.yp_journal.specs.History.{MayCome}
@@ -99,7 +98,7 @@ with_join progress = record progress { stage = After }
 -- ---- what a line says
 
 -- the schema of some parts; a fault of it is that of the last part, since those before it have none
-abbrev pub schema_said : Result (List SchemaNode) SchemaFault → Said (List SchemaNode)
+abbrev pub schema_said : Result (List SchemaNode) Fault → Said (List SchemaNode)
 schema_said (Ok nodes) = Ok nodes
 schema_said (Err fault) = Err kinds.Schema
 
