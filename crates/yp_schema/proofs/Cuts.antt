@@ -1,6 +1,7 @@
-use Rattle.std.proofs.Common.{◌≡◌, ℕ, suc, ◌<◌, ◌+◌, ◌==◌, List, [], ◌∷◌, ◌++◌, length, take, drop, Bool, true, false, refl, sym, ap, ◌∙◌, arith, append_assoc}
+use Rattle.std.proofs.Common.{◌≡◌, ℕ, suc, ◌<◌, ◌+◌, ◌==◌, List, [], ◌∷◌, ◌++◌, length, take, drop, Bool, true, false, cond, Some, refl, sym, ap, ◌∙◌, arith, append_assoc}
 use Rattle.std.specs.List.{position_or_len, before_first, after_first}
-use Rattle.yp_schema.specs.Names.{Names, cut}
+use Rattle.std.proofs.lemmas.Bool.{eqb-true}
+use Rattle.yp_schema.specs.Names.{Names, onto_first, cut, rooted, names_in}
 
 abbrev slash : ℕ → Bool
 slash b = b == 47
@@ -38,3 +39,22 @@ cut_none (b ∷ bs) h = none_at (b == 47) b bs refl h (cut_none bs)
 
 pub put_between : (done : Names) (name : List ℕ) (rest : Names) → (done ++ name ∷ []) ++ rest ≡ done ++ (name ∷ rest)
 put_between done name rest = append_assoc done (name ∷ []) rest
+
+onto_some : (b : ℕ) (names : Names) → rooted ([] ∷ onto_first b names) ≡ Some (onto_first b names)
+onto_some b [] = refl
+onto_some b (name ∷ names) = refl
+
+-- a text after a `/` is a path
+pub cut_some : (bs : List ℕ) → rooted ([] ∷ cut bs) ≡ Some (cut bs)
+cut_some [] = refl
+cut_some (b ∷ bs) = elim (b == 47) as (λ t. rooted ([] ∷ cond t ([] ∷ cut bs) (onto_first b (cut bs))) ≡ Some (cond t ([] ∷ cut bs) (onto_first b (cut bs)))) [ true ↦ refl | false ↦ onto_some b (cut bs) ]
+
+pub no_text : (bs : List ℕ) (empty : Bool) → empty ≡ (length bs == 0) → empty ≡ true → bs ≡ []
+no_text [] empty is h = refl
+no_text (b ∷ bs) empty is h = absurd (omega (arith, eqb-true (length (b ∷ bs)) 0 (sym is ∙ h)))
+
+-- where nothing stands before the first `/`, what follows it is a path
+pub rooted_path : (text first rest : List ℕ) (names : Names) → first ≡ before_first (λ b. b == 47) text → rest ≡ after_first (λ b. b == 47) text → position_or_len (λ b. b == 47) text < length text
+    → first ≡ [] → names ≡ cut rest → Some names ≡ names_in text
+rooted_path text first rest names before after within none is =
+    ap Some is ∙ sym (cut_some rest) ∙ ap (λ (bs : List ℕ). rooted (bs ∷ cut rest)) (sym none) ∙ (λ i. rooted (before i ∷ cut (after i))) ∙ ap rooted (sym (cut_found text within))

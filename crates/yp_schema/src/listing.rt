@@ -1,6 +1,6 @@
 //! The nodes of the parts so far, by the names on the way to them.
 ghost use Rattle.std.specs.BTreeMap.{insert_entry};
-ghost use Rattle.std.specs.Prelude.{◌≡◌, ◌++◌, ◌∷◌, [], IfOk, OnOk, OnErr, map, length, is_some, option_copied, option_map};
+ghost use Rattle.std.specs.Prelude.{◌≡◌, ◌++◌, ◌∷◌, [], IfOk, MatchOption, Ok, Err, map, length, is_some, option_copied, option_map};
 ghost use Rattle.serde_json.specs.View.{view, items_view};
 ghost use Rattle.serde_json.specs.Find.{as_array};
 ghost use Rattle.yp_schema.specs.Names.{names_cmp, front};
@@ -33,7 +33,7 @@ pub struct Listed {
 /// The nodes so far, by the names on the way to them.
 #[derive(Drop)]
 pub struct Listing {
-    kept: BTreeMap<Names, Listed>,
+    pub(crate) kept: BTreeMap<Names, Listed>,
 }
 
 impl Model for Listing {
@@ -69,14 +69,6 @@ impl Listing {
             }
             None => None,
         }
-    }
-
-    /// The nodes, each behind the names on the way to it.
-    pub fn into_map(self) -> BTreeMap<Names, Listed>
-        ensures { result.entries ≡ self }
-    {
-        let Listing { kept } = self;
-        kept
     }
 }
 
@@ -149,6 +141,23 @@ fn module_of(
     }
 }
 
+/// What is wrong with a node of a module that is known, if anything is.
+fn fault_in(path: &Names, node: &Listed, nodes: &Listing) -> Option<SchemaKind>
+    ensures { MatchOption result (placed path.now node.now nodes.now ≡ Ok (insert_entry names_cmp nodes.now path.now node.now)) (λ kind. placed path.now node.now nodes.now ≡ Err kind) }
+{
+    if nodes.get(path).is_some() {
+        Some(SchemaKind::Duplicate)
+    } else if !is_typed(node.body.kind, &node.body.ty) {
+        Some(SchemaKind::UnknownType)
+    } else if path.len() > 16 {
+        Some(SchemaKind::TooDeep)
+    } else if nodes.kept.len() >= 4096 {
+        Some(SchemaKind::TooMany)
+    } else {
+        None
+    }
+}
+
 /// Takes up a node of a module that is known.
 fn place_node(
     part: usize,
@@ -159,37 +168,12 @@ fn place_node(
 ) -> Result<(), SchemaFault>
     ensures { Leaves result nodes.new (at_place part place (placed path node nodes.old)) }
 {
-    if nodes.get(&path).is_some() {
-        return Err(SchemaFault::At {
-            part,
-            place,
-            kind: SchemaKind::Duplicate,
-        });
-    }
-    if !is_typed(node.body.kind, &node.body.ty) {
-        return Err(SchemaFault::At {
-            part,
-            place,
-            kind: SchemaKind::UnknownType,
-        });
-    }
-    if path.len() > 16 {
-        return Err(SchemaFault::At {
-            part,
-            place,
-            kind: SchemaKind::TooDeep,
-        });
-    }
-    if nodes.kept.len() >= 4096 {
-        return Err(SchemaFault::At {
-            part,
-            place,
-            kind: SchemaKind::TooMany,
-        });
-    }
-    match nodes.kept.insert(path, node) {
-        Ok(_) => Ok(()),
-        Err(_) => Err(SchemaFault::Memory),
+    match fault_in(&path, &node, nodes) {
+        Some(kind) => Err(SchemaFault::At { part, place, kind }),
+        None => match nodes.kept.insert(path, node) {
+            Ok(_) => Ok(()),
+            Err(_) => Err(SchemaFault::Memory),
+        },
     }
 }
 

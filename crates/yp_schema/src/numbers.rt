@@ -126,7 +126,7 @@ pub fn number_nodes(alloc: Global, nodes: Listing) -> Result<Vec<SchemaNode>, No
     requires { IsSchema (numbered nodes) }
     ensures { IfOk result (λ made. made.items ≡ numbered nodes) }
 {
-    let kept = nodes.into_map();
+    let Listing { kept } = nodes;
     let numbers = Numbers::of_nodes(alloc, &kept)?;
     number_all(alloc, kept, &numbers)
 }
