@@ -1,52 +1,40 @@
-mod lanes;
-mod limits;
-mod malformed;
-mod order;
-mod refusals;
-mod rows;
-mod several_faults;
-mod shapes;
-mod streams;
-mod subscribing;
-mod telling;
-mod ticks;
-
+//! What no script shows: the arguments, and sources and sinks that fail at each of their calls in turn.
+//! Whole scripts, each with its report, stand in the folder `cases` at the top; the built program runs them.
 use crate::top::{Status, push_main};
 use std::alloc::Global;
-use std::process::Abort;
 use std::test::Fail;
 use yp_base::memory::NoMemory;
 use yp_base::txt::Txt;
 use yp_io::memory::{MemSink, MemSource};
+use yp_io::source::{Got, Source};
 use yp_script::fault::ScriptKind;
 
-pub(crate) const START: &str = r#"{"start":"2026-01-01T00:00:00Z"}
+const START: &str = r#"{"start":"2026-01-01T00:00:00Z"}
 "#;
 
-pub(crate) const SCHEMA: &str =
+const SCHEMA: &str =
     r#"{"schema":[{"path":"/acme:interfaces","kind":"container"},{"path":"/acme:interfaces/interface","kind":"list","keys":["name"]},{"path":"/acme:interfaces/interface/name","kind":"leaf","type":"string"},{"path":"/acme:interfaces/interface/mtu","kind":"leaf","type":"uint16"},{"path":"/acme:interfaces/interface/enabled","kind":"leaf","type":"boolean"},{"path":"/acme:interfaces/interface/secret","kind":"leaf","type":"string","deny-all":true},{"path":"/acme:interfaces/interface/stats","kind":"container"},{"path":"/acme:interfaces/interface/stats/in","kind":"leaf","type":"uint64"}]}
 "#;
 
-pub(crate) const RECEIVER: &str = r#"{"receiver":{"name":"r1","user":"ann","queue":4,"take":"auto"}}
+const RECEIVER: &str = r#"{"receiver":{"name":"r1","user":"ann","queue":4,"take":"auto"}}
 "#;
 
-pub(crate) const SECOND_RECEIVER: &str =
-    r#"{"receiver":{"name":"r2","user":"bob","queue":4,"take":"auto"}}
-"#;
-
-pub(crate) const ESTABLISH: &str =
+const ESTABLISH: &str =
     r#"{"establish":{"by":"r1","datastore":"ietf-datastores:operational","on-change":{}}}
 "#;
 
-pub(crate) const CREATE: &str =
+const CREATE: &str =
     r#"{"patch":{"ietf-yang-patch:yang-patch":{"patch-id":"p","edit":[{"edit-id":"e","operation":"create","target":"/acme:interfaces/interface=eth0","value":{"acme:interface":[{"name":"eth0","mtu":1500}]}}]}}}
 "#;
 
-pub(crate) const TICK: &str = r#"{"tick":5}
+const REPORT: &str = r#"reply 1 0 1 {"id":2147483648}
+to r1 {"ietf-restconf:notification":{"eventTime":"2026-01-01T00:00:00.00Z","ietf-yang-push:push-update":{"datastore-contents":{},"id":2147483648}}}
+tree r1 2147483648 {}
+end
 "#;
 
 // Lines one after another.
-pub(crate) fn joined(alloc: Global, lines: &[&str]) -> Result<String, NoMemory> {
+fn joined(alloc: Global, lines: &[&str]) -> Result<String, NoMemory> {
     let mut text = String::new(alloc);
     for line in lines {
         text.push_str(*line)?;
@@ -54,55 +42,16 @@ pub(crate) fn joined(alloc: Global, lines: &[&str]) -> Result<String, NoMemory> 
     Ok(text)
 }
 
-// The line of a patch with these edits.
-pub(crate) fn patch(alloc: Global, edits: &str) -> Result<String, NoMemory> {
-    let start = r#"{"patch":{"ietf-yang-patch:yang-patch":{"patch-id":"p","edit":["#;
-    joined(alloc, &[start, edits, "]}}}\n"])
-}
-
-// A text so many times.
-pub(crate) fn repeated(alloc: Global, text: &str, count: u32) -> Result<String, NoMemory> {
-    let mut all = String::new(alloc);
-    for _ in 0..count {
-        all.push_str(text)?;
-    }
-    Ok(all)
-}
-
-// The word `run`.
-pub(crate) fn run_words(alloc: Global) -> Result<Vec<Txt>, NoMemory> {
+// The one argument `run`.
+fn run_words(alloc: Global) -> Result<Vec<Txt>, NoMemory> {
     let word = Txt::from_string(String::from_str(alloc, "run")?);
     let mut words = Vec::new(alloc);
     words.push(word)?;
     Ok(words)
 }
 
-// Whether a run of these bytes ends so, with nothing written.
-pub(crate) fn bytes_end(alloc: Global, bytes: Vec<u8>, want: Status) -> Result<bool, NoMemory> {
-    let mut source = MemSource::new(bytes, 65_536, Vec::new(alloc));
-    let mut sink = MemSink::with_room(alloc, 1000, 1000, Vec::new(alloc))?;
-    let words = run_words(alloc)?;
-    let status = push_main(alloc, words.as_slice(), &mut source, &mut sink);
-    Ok(status == want && sink.bytes().is_empty())
-}
-
-// Whether a run of these lines ends so, with nothing written.
-pub(crate) fn ends(alloc: Global, lines: &[&str], want: Status) -> Result<bool, NoMemory> {
-    bytes_end(alloc, joined(alloc, lines)?.into_bytes(), want)
-}
-
-// Whether a line of these has a fault of this kind, and nothing is written.
-pub(crate) fn is_fault(
-    alloc: Global,
-    lines: &[&str],
-    line: u32,
-    kind: ScriptKind,
-) -> Result<bool, NoMemory> {
-    ends(alloc, lines, Status::BadScript { line, kind })
-}
-
 // Whether a run of these lines writes this report.
-pub(crate) fn reports(alloc: Global, lines: &[&str], want: &[&str]) -> Result<bool, NoMemory> {
+fn reports(alloc: Global, lines: &[&str], want: &[&str]) -> Result<bool, NoMemory> {
     let text = joined(alloc, lines)?;
     let want = joined(alloc, want)?;
     let mut source = MemSource::new(text.into_bytes(), 4096, Vec::new(alloc));
@@ -112,58 +61,169 @@ pub(crate) fn reports(alloc: Global, lines: &[&str], want: &[&str]) -> Result<bo
     Ok(status == Status::Done && sink.bytes() == want.as_bytes())
 }
 
-// Whether a run of this text writes a report that ends so.
-pub(crate) fn has_end(alloc: Global, text: String, end: &str) -> Result<bool, NoMemory> {
-    let mut source = MemSource::new(text.into_bytes(), 65_536, Vec::new(alloc));
-    let mut sink = MemSink::with_room(alloc, 200_000, 200_000, Vec::new(alloc))?;
+// The text of a script with one subscription.
+fn script(alloc: Global) -> Result<Vec<u8>, NoMemory> {
+    Ok(joined(alloc, &[START, SCHEMA, RECEIVER, ESTABLISH])?.into_bytes())
+}
+
+// How a run ends whose source gives at most so many bytes at a call and fails at a call, and whether
+// the whole report was written, or nothing where it fails.
+fn reads(alloc: Global, most: usize, failing: u64, want: Status) -> Result<bool, NoMemory> {
+    let failing = vec![in alloc; failing]?;
+    let mut source = MemSource::new(script(alloc)?, most.max(1), failing);
+    let mut sink = MemSink::with_room(alloc, 1000, 1000, Vec::new(alloc))?;
     let words = run_words(alloc)?;
     let status = push_main(alloc, words.as_slice(), &mut source, &mut sink);
-    Ok(status == Status::Done && sink.bytes().ends_with(end.as_bytes()))
+    let whole = if want == Status::Done { REPORT } else { "" };
+    Ok(status == want && sink.bytes() == whole.as_bytes())
 }
 
 #[test]
-fn the_first_line_with_a_fault_is_told(rt: HostRuntime) -> Result<(), Fail> {
+fn pieces_of_any_length_make_the_same_script(rt: HostRuntime) -> Result<(), Fail> {
     let alloc = rt.alloc();
-    let lines = [START, SCHEMA, RECEIVER, "x\n", "{}\n", "\"\n"];
-    assert!(rt; is_fault(alloc, &lines, 4, ScriptKind::NotJson)?);
-    let lines = [START, SCHEMA, RECEIVER, "{}\n", "x\n", "\"\n"];
-    assert!(rt; is_fault(alloc, &lines, 4, ScriptKind::UnknownCommand)?);
-    let lines = [START, SCHEMA, RECEIVER, CREATE, ESTABLISH, "x\n", CREATE];
-    assert!(rt; is_fault(alloc, &lines, 6, ScriptKind::NotJson)?);
-    Ok(())
-}
-
-#[test]
-fn a_blank_line_is_skipped_and_counted(rt: HostRuntime) -> Result<(), Fail> {
-    let alloc = rt.alloc();
-    let lines = [
-        "\n", START, " \t\r\n", SCHEMA, "\r\n", RECEIVER, "\t\n", "x\n",
-    ];
-    assert!(rt; is_fault(alloc, &lines, 8, ScriptKind::NotJson)?);
-    let lines = [
-        "\n", START, " \t\r\n", SCHEMA, "\r\n", RECEIVER, "\t\n", " \t\r",
-    ];
-    assert!(rt; reports(alloc, &lines, &["end\n"])?);
-    let lines = [START, SCHEMA, "\u{c}\n"];
-    assert!(rt; is_fault(alloc, &lines, 3, ScriptKind::NotJson)?);
-    let lines = [START, SCHEMA, "\u{a0}\n"];
-    assert!(rt; is_fault(alloc, &lines, 3, ScriptKind::NotJson)?);
-    Ok(())
-}
-
-// Sees that each of these lines has a fault of this kind behind the lines before it.
-pub(crate) fn see_faults(
-    rt: &impl Abort,
-    alloc: Global,
-    before: &[&str],
-    line: u32,
-    kind: ScriptKind,
-    texts: &[&str],
-) -> Result<(), NoMemory> {
-    let before = joined(alloc, before)?;
-    for text in texts {
-        let lines = [before.as_str(), *text, "\n"];
-        assert!(rt; is_fault(alloc, &lines, line, kind)?, "{text}");
+    let lines = [START, SCHEMA, RECEIVER, ESTABLISH];
+    assert!(rt; reports(alloc, &lines, &[REPORT])?);
+    for most in [1, 2, 3, 31, 760, 761, 5000] {
+        assert!(rt;
+            reads(alloc, most, 10_000, Status::Done)?,
+            "{most} bytes at a call"
+        );
     }
+    Ok(())
+}
+
+#[test]
+fn each_read_that_fails_is_told_and_nothing_is_written(rt: HostRuntime) -> Result<(), Fail> {
+    let alloc = rt.alloc();
+    assert_eq!(rt; script(alloc)?.len(), 761);
+    for call in 1..=9 {
+        assert!(rt; reads(alloc, 100, call, Status::ReadFault)?, "call {call}");
+    }
+    assert!(rt; reads(alloc, 100, 10, Status::Done)?);
+    assert!(rt; reads(alloc, 761, 2, Status::ReadFault)?);
+    assert!(rt; reads(alloc, 761, 3, Status::Done)?);
+    assert!(rt; reads(alloc, 1, 762, Status::ReadFault)?);
+    assert!(rt; reads(alloc, 1, 763, Status::Done)?);
+    Ok(())
+}
+
+// How a run ends whose sink takes at most so many bytes at a call and fails at a call, and whether so
+// many bytes of the report were written.
+fn writes(
+    alloc: Global,
+    most: usize,
+    failing: u64,
+    want: Status,
+    written: usize,
+) -> Result<bool, NoMemory> {
+    let mut source = MemSource::new(script(alloc)?, 4096, Vec::new(alloc));
+    let failing = vec![in alloc; failing]?;
+    let mut sink = MemSink::with_room(alloc, 1000, most.max(1), failing)?;
+    let words = run_words(alloc)?;
+    let status = push_main(alloc, words.as_slice(), &mut source, &mut sink);
+    let bytes = sink.bytes();
+    Ok(status == want && bytes.len() == written && REPORT.as_bytes().starts_with(bytes))
+}
+
+#[test]
+fn each_write_that_fails_is_told_after_a_prefix_of_the_report(rt: HostRuntime) -> Result<(), Fail> {
+    let alloc = rt.alloc();
+    assert_eq!(rt; REPORT.len(), 204);
+    assert!(rt; writes(alloc, 40, 3, Status::WriteFault, 80)?);
+    for (call, written) in [(1, 0), (2, 40), (3, 80), (4, 120), (5, 160), (6, 200)] {
+        assert!(rt;
+            writes(alloc, 40, call, Status::WriteFault, written)?,
+            "call {call}"
+        );
+    }
+    assert!(rt; writes(alloc, 40, 7, Status::Done, 204)?);
+    assert!(rt; writes(alloc, 1, 204, Status::WriteFault, 203)?);
+    assert!(rt; writes(alloc, 1, 205, Status::Done, 204)?);
+    Ok(())
+}
+
+// How a run ends whose sink has room for so many bytes.
+fn fits(alloc: Global, room: usize, want: Status) -> Result<bool, NoMemory> {
+    let mut source = MemSource::new(script(alloc)?, 4096, Vec::new(alloc));
+    let mut sink = MemSink::with_room(alloc, room, 1000, Vec::new(alloc))?;
+    let words = run_words(alloc)?;
+    let status = push_main(alloc, words.as_slice(), &mut source, &mut sink);
+    let bytes = sink.bytes();
+    Ok(status == want && bytes.len() == room && REPORT.as_bytes().starts_with(bytes))
+}
+
+#[test]
+fn a_sink_that_is_full_fails_after_what_it_took(rt: HostRuntime) -> Result<(), Fail> {
+    let alloc = rt.alloc();
+    assert!(rt; fits(alloc, 0, Status::WriteFault)?);
+    assert!(rt; fits(alloc, 3, Status::WriteFault)?);
+    assert!(rt; fits(alloc, 203, Status::WriteFault)?);
+    assert!(rt; fits(alloc, 204, Status::Done)?);
+    Ok(())
+}
+
+#[test]
+fn reading_is_told_before_the_script_and_the_script_before_writing(
+    rt: HostRuntime,
+) -> Result<(), Fail> {
+    let alloc = rt.alloc();
+    let words = run_words(alloc)?;
+    let text = joined(alloc, &["x\n", START])?;
+    let mut source = MemSource::new(text.into_bytes(), 4096, vec![in alloc; 2u64]?);
+    let mut sink = MemSink::with_room(alloc, 0, 10, Vec::new(alloc))?;
+    let status = push_main(alloc, words.as_slice(), &mut source, &mut sink);
+    assert_eq!(rt; status, Status::ReadFault);
+    let text = joined(alloc, &[START, "x\n"])?;
+    let mut source = MemSource::new(text.into_bytes(), 4096, Vec::new(alloc));
+    let status = push_main(alloc, words.as_slice(), &mut source, &mut sink);
+    let kind = ScriptKind::NotJson;
+    assert_eq!(rt; status, Status::BadScript { line: 2, kind });
+    Ok(())
+}
+
+// Whether arguments are refused, with nothing read and nothing written.
+fn are_bad(alloc: Global, texts: &[&str]) -> Result<bool, NoMemory> {
+    let mut words = Vec::new(alloc);
+    for text in texts {
+        words.push(Txt::from_string(String::from_str(alloc, *text)?))?;
+    }
+    let mut source = MemSource::new(script(alloc)?, 4096, Vec::new(alloc));
+    let mut sink = MemSink::with_room(alloc, 1000, 1000, Vec::new(alloc))?;
+    let status = push_main(alloc, words.as_slice(), &mut source, &mut sink);
+    let mut first = [0u8; 9];
+    let unread = source.read(&mut first) == Got::Bytes(9)
+        && first.as_slice() == b"{\"start\":".as_slice();
+    Ok(status == Status::BadWords && unread && sink.bytes().is_empty())
+}
+
+#[test]
+fn other_arguments_are_refused_and_nothing_is_read(rt: HostRuntime) -> Result<(), Fail> {
+    let alloc = rt.alloc();
+    assert!(rt; are_bad(alloc, &[])?);
+    assert!(rt; are_bad(alloc, &["run", "--workers", "9"])?);
+    assert!(rt; are_bad(alloc, &["run", "run"])?);
+    assert!(rt; are_bad(alloc, &["run", ""])?);
+    for word in [
+        "", "Run", "RUN", " run", "run ", "runs", "ru", "start", "--run",
+    ] {
+        assert!(rt; are_bad(alloc, &[word])?, "{word}");
+    }
+    Ok(())
+}
+
+#[test]
+fn a_second_run_is_written_after_the_first(rt: HostRuntime) -> Result<(), Fail> {
+    let alloc = rt.alloc();
+    let words = run_words(alloc)?;
+    let mut sink = MemSink::with_room(alloc, 1000, 1000, Vec::new(alloc))?;
+    let mut source = MemSource::new(script(alloc)?, 4096, Vec::new(alloc));
+    let status = push_main(alloc, words.as_slice(), &mut source, &mut sink);
+    assert_eq!(rt; status, Status::Done);
+    let text = joined(alloc, &[START, SCHEMA, CREATE])?;
+    let mut source = MemSource::new(text.into_bytes(), 4096, Vec::new(alloc));
+    let status = push_main(alloc, words.as_slice(), &mut source, &mut sink);
+    assert_eq!(rt; status, Status::Done);
+    let want = joined(alloc, &[REPORT, "reply 1 0 1 {\"ok\":true}\n", "end\n"])?;
+    assert_eq!(rt; sink.bytes(), want.as_bytes());
     Ok(())
 }

@@ -1,0 +1,119 @@
+"""Runs the built program on each case and compares what it wrote, byte for byte.
+
+In cases/ each NAME.jsonl is a script. Beside it stands NAME.txt, the report that the program writes, or
+NAME.fault, which has the line on standard error and then the exit status. Where NAME.lines stands beside
+them, the script is run once for each line of that file, with that line after it, and each run ends so.
+The scripts that are too large to be kept are made by large_cases.py. Nothing here comes of a run: each
+expected text is worked out from the rules of docs/SCRIPT.md.
+"""
+
+from __future__ import annotations
+
+import itertools
+import pathlib
+import subprocess
+import tempfile
+from collections.abc import Iterator
+from dataclasses import dataclass
+
+from large_cases import large_cases
+
+BAD_ARGUMENTS: list[list[str]] = [
+    [], [""], ["Run"], ["RUN"], [" run"], ["run "], ["runs"], ["ru"], ["start"], ["--run"], ["--help"], ["run", ""],
+    ["run", "run"], ["run", "--workers", "9"]]
+
+
+@dataclass
+class Case:
+    """A script, and what the program writes and how it ends."""
+
+    name: str
+    script: bytes
+    out: bytes = b""
+    error: bytes = b""
+    status: int = 0
+
+
+def kept_cases(folder: pathlib.Path) -> Iterator[Case | str]:
+    """The cases of a folder; in place of one that lacks a file, what is wrong with it."""
+    for file in sorted(folder.rglob("*.jsonl")):
+        name = f"{folder.name}/{file.relative_to(folder).with_suffix('')}"
+        report, fault = file.with_suffix(".txt"), file.with_suffix(".fault")
+        if report.is_file() == fault.is_file():
+            yield f"{name}: either NAME.txt or NAME.fault stands beside it"
+            continue
+        before, lines = file.read_bytes(), file.with_suffix(".lines")
+        scripts = [(name, before)]
+        if lines.is_file():
+            scripts = [
+                (f"{name}, line {number}", before + line + b"\n")
+                for number, line in enumerate(lines.read_bytes().split(b"\n")[:-1], 1)]
+        for each, script in scripts:
+            yield Case(each, script, report.read_bytes()) if report.is_file() else faulty(each, script, fault.read_text())
+
+
+def faulty(name: str, script: bytes, fault: str) -> Case | str:
+    match fault.splitlines():
+        case [error, ending] if ending.startswith("status "):
+            return Case(name, script, b"", error.encode() + b"\n", int(ending.removeprefix("status ")))
+    return f"{name}: NAME.fault has two lines, the line on standard error and 'status N'"
+
+
+def made_cases() -> Iterator[Case]:
+    """The large scripts."""
+    for name, script, wanted in large_cases():
+        if isinstance(wanted, tuple):
+            line, fault = wanted
+            yield Case(f"large: {name}", script, b"", f"push: line {line}: fault {fault}\n".encode(), 3)
+        else:
+            yield Case(f"large: {name}", script, wanted)
+
+
+def wrong_cases(program: pathlib.Path, folder: pathlib.Path) -> Iterator[str]:
+    """What is wrong with the cases, and how many there are."""
+    count = 0
+    for case in itertools.chain(kept_cases(folder), made_cases()):
+        if isinstance(case, str):
+            yield case
+            continue
+        count += 1
+        ran = subprocess.run([str(program), "run"], input=case.script, capture_output=True, check=False)
+        if ran.returncode != case.status or ran.stderr != case.error:
+            yield f"{case.name}: status {ran.returncode} and '{ran.stderr.decode(errors='replace').strip()}'"
+        elif ran.stdout != case.out:
+            yield f"{case.name}: {first_difference(ran.stdout, case.out)}"
+    print(f"check_repository: {count} scripts of cases/ and large ones were run")
+
+
+def wrong_endings(program: pathlib.Path) -> Iterator[str]:
+    """The exit statuses that no script brings about."""
+    for words in BAD_ARGUMENTS:
+        with tempfile.TemporaryFile() as source:
+            source.write(b"{}\n")
+            source.seek(0)
+            yield from wrong_ending(program, words, source, subprocess.PIPE, 2, b"push: bad words\n")
+            if source.tell() != 0:
+                yield f"arguments {words}: standard input was read"
+    yield from wrong_ending(program, [b"run", b"\xff"], subprocess.DEVNULL, subprocess.PIPE, 2, b"push: bad words\n")
+    with tempfile.TemporaryFile("w+b") as source, open("/dev/full", "wb") as full:
+        source.write(b'{"start":"2026-01-01T00:00:00Z"}\n{"schema":[]}\n')
+        source.seek(0)
+        yield from wrong_ending(program, ["run"], source, full, 7, b"push: writing failed\n")
+    with open("/dev/null", "wb") as closed:
+        # it can be written but not read
+        yield from wrong_ending(program, ["run"], closed, subprocess.PIPE, 6, b"push: reading failed\n")
+
+
+def wrong_ending(program, words, source, sink, status: int, error: bytes) -> Iterator[str]:
+    ran = subprocess.run(
+        [str(program), *words], stdin=source, stdout=sink, stderr=subprocess.PIPE, check=False)
+    if ran.returncode != status or ran.stderr != error or ran.stdout:
+        yield f"arguments {words}: status {ran.returncode}, not {status}: {ran.stderr.decode(errors='replace').strip()}"
+
+
+def first_difference(got: bytes, wanted: bytes) -> str:
+    ours, theirs = got.splitlines(), wanted.splitlines()
+    for number, (one, other) in enumerate(zip(ours, theirs), 1):
+        if one != other:
+            return f"line {number} is '{one.decode(errors='replace')[:500]}'"
+    return f"{len(ours)} lines in place of {len(theirs)}"
