@@ -17,7 +17,7 @@ use Rattle.yp_schema.specs.declared.schema.SchemaNode.{SchemaNode}
 use Rattle.yp_schema.specs.Datastore.{is_path_of, is_place, ends_in_key, ends_in_entry, IsRowOf, has_row, IsDatastore, AreWhole}
 use Rattle.yp_path.specs.declared.fault.PathFault.{PathFault}
 use Rattle.yp_path.specs.Targets.{target_in}
-use Rattle.yp_path.specs.Cuts.{cut}
+use Rattle.yp_base.specs.Cuts.{cut}
 use Rattle.yp_path.specs.Targets.{segments_in}
 use Rattle.yp_path.proofs.Reading.{path_of_cut}
 use Rattle.yp_data_json.specs.declared.fault.DataFault.{DataFault}

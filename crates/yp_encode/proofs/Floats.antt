@@ -1,6 +1,7 @@
 -- No floating-point number is written.
-use Rattle.std.proofs.Common.{◌≡◌, ℕ, Bool, true, false, true≢false, ◌||◌, List, [], ◌∷◌, length, cond, refl, ap, ◌∙◌, Option, Some, None}
+use Rattle.std.proofs.Common.{◌≡◌, ℕ, Bool, true, false, ◌||◌, List, [], ◌∷◌, length, cond, refl, ap, ◌∙◌, Option, Some, None}
 use Rattle.std.specs.Prelude.{ℤ, pos, negsuc, nat_eq}
+use Rattle.std.proofs.lemmas.Bool.{or_from, or_parts}
 use Rattle.std.specs.Ordering.{nat_cmp, match_ordering}
 use Rattle.std.specs.Cmp.Lexicographic.{slice_cmp, pointwise}
 use Rattle.std.specs.declared.cmp.Ordering.{Ordering}
@@ -24,17 +25,6 @@ use Rattle.yp_schema.specs.declared.schema.Kind.TheVariants.{Container, Presence
 use Rattle.yp_schema.specs.Nodes.{node_at}
 use Rattle.yp_data_json.specs.Forest.{Forest, bare, branch, forest_at}
 use Rattle.yp_data_json.specs.Writing.{leaf_data, key_data, one_key_data, with_keys, item_in_front, item_data, branch_members, members_in, last_segment, place_data, data_at, rows_json}
-
-pub none : (a b : Bool) → a ≡ false → b ≡ false → (a || b) ≡ false
-none a b first second = ap (λ t. t || b) first ∙ second
-
-first_none : (a b : Bool) → (a || b) ≡ false → a ≡ false
-first_none true b h = absurd (true≢false h)
-first_none false b h = refl
-
-rest_none : (a b : Bool) → (a || b) ≡ false → b ≡ false
-rest_none true b h = absurd (true≢false h)
-rest_none false b h = h
 
 integer : (z : ℤ) → has_float (number (of_integer z)) ≡ false
 integer (pos n) = refl
@@ -68,16 +58,15 @@ one_key ty (key ∷ keys) = leaf ty (Some (Plain key))
 
 put_at : (o : Ordering) (k : List ℕ) (d : Data) (l : List ℕ) (e : Data) (ms more : Members) → has_float d ≡ false → has_float e ≡ false → members_have_float ms ≡ false → members_have_float more ≡ false
     → members_have_float (match_ordering o (member k d (member l e ms)) (member l d ms) (member l e more)) ≡ false
-put_at Less k d l e ms more one two rest later = none (has_float d) (has_float e || members_have_float ms) one (none (has_float e) (members_have_float ms) two rest)
-put_at Equal k d l e ms more one two rest later = none (has_float d) (members_have_float ms) one rest
-put_at Greater k d l e ms more one two rest later = none (has_float e) (members_have_float more) two later
+put_at Less k d l e ms more one two rest later = or_from (has_float d) (has_float e || members_have_float ms) one (or_from (has_float e) (members_have_float ms) two rest)
+put_at Equal k d l e ms more one two rest later = or_from (has_float d) (members_have_float ms) one rest
+put_at Greater k d l e ms more one two rest later = or_from (has_float e) (members_have_float more) two later
 
 put_none : (k : List ℕ) (d : Data) (ms : Members) → has_float d ≡ false → members_have_float ms ≡ false → members_have_float (put k d ms) ≡ false
-put_none k d no_members one rest = none (has_float d) false one refl
+put_none k d no_members one rest = or_from (has_float d) false one refl
 put_none k d (member l e ms) one rest =
-    let two = first_none (has_float e) (members_have_float ms) rest in
-    let later = rest_none (has_float e) (members_have_float ms) rest in
-    put_at (slice_cmp nat_cmp k l) k d l e ms (put k d ms) one two later (put_none k d ms one later)
+    let parts = or_parts (has_float e) (members_have_float ms) rest in
+    put_at (slice_cmp nat_cmp k l) k d l e ms (put k d ms) one parts.0 parts.1 (put_none k d ms one parts.1)
 
 keys_none : (nodes : List SchemaNode) (ks : List ℕ) (keys : List Atom) (ms : Members) → members_have_float ms ≡ false → members_have_float (with_keys nodes ks keys ms) ≡ false
 keys_none nodes [] keys ms rest = rest
@@ -86,13 +75,13 @@ keys_none nodes (k ∷ ks) (key ∷ keys) ms rest =
     keys_none nodes ks keys (put (node_at k nodes).member (key_data (node_at k nodes).ty key) ms) (put_none (node_at k nodes).member (key_data (node_at k nodes).ty key) ms (leaf (node_at k nodes).ty (Some (Plain key))) rest)
 
 new_item : (name : List ℕ) (d : Data) (ms : Members) → has_float d ≡ false → members_have_float ms ≡ false → members_have_float (member name (array (item d no_items)) ms) ≡ false
-new_item name d ms one rest = none (has_float d || false) (members_have_float ms) (none (has_float d) false one refl) rest
+new_item name d ms one rest = or_from (has_float d || false) (members_have_float ms) (or_from (has_float d) false one refl) rest
 
 item_at : (b : Bool) (name other : List ℕ) (d : Data) (ds : Items) (ms : Members) → has_float d ≡ false → members_have_float (member other (array ds) ms) ≡ false
     → members_have_float (cond b (member other (array (item d ds)) ms) (member name (array (item d no_items)) (member other (array ds) ms))) ≡ false
 item_at true name other d ds ms one rest =
-    none (has_float d || items_have_float ds) (members_have_float ms) (none (has_float d) (items_have_float ds) one (first_none (items_have_float ds) (members_have_float ms) rest))
-    (rest_none (items_have_float ds) (members_have_float ms) rest)
+    or_from (has_float d || items_have_float ds) (members_have_float ms) (or_from (has_float d) (items_have_float ds) one (or_parts (items_have_float ds) (members_have_float ms) rest).0)
+    (or_parts (items_have_float ds) (members_have_float ms) rest).1
 item_at false name other d ds ms one rest = new_item name d (member other (array ds) ms) one rest
 
 item_none : (name : List ℕ) (d : Data) (ms : Members) → has_float d ≡ false → members_have_float ms ≡ false → members_have_float (item_in_front name d ms) ≡ false
@@ -113,18 +102,18 @@ item_data_none nodes LeafList node seg kids below = one_key node.ty seg.keys
 
 branch_none : (nodes : List SchemaNode) (k : Kind) (name : List ℕ) (node : SchemaNode) (seg : Seg) (own : Option Value) (kids next : Members) → members_have_float kids ≡ false → members_have_float next ≡ false
     → members_have_float (branch_members nodes k name node seg own kids next) ≡ false
-branch_none nodes Container name node seg own kids next below later = none (members_have_float kids) (members_have_float next) below later
-branch_none nodes Presence name node seg own kids next below later = none (members_have_float kids) (members_have_float next) below later
+branch_none nodes Container name node seg own kids next below later = or_from (members_have_float kids) (members_have_float next) below later
+branch_none nodes Presence name node seg own kids next below later = or_from (members_have_float kids) (members_have_float next) below later
 branch_none nodes Listing name node seg own kids next below later = item_none name (item_data nodes Listing node seg kids) next (item_data_none nodes Listing node seg kids below) later
-branch_none nodes Leaf name node seg own kids next below later = none (has_float (leaf_data node.ty own)) (members_have_float next) (leaf node.ty own) later
+branch_none nodes Leaf name node seg own kids next below later = or_from (has_float (leaf_data node.ty own)) (members_have_float next) (leaf node.ty own) later
 branch_none nodes LeafList name node seg own kids next below later = item_none name (item_data nodes LeafList node seg kids) next (item_data_none nodes LeafList node seg kids below) later
 
 place_none : (nodes : List SchemaNode) (k : Kind) (node : SchemaNode) (seg : Seg) (own : Option Value) (kids : Members) → members_have_float kids ≡ false → has_float (place_data nodes k node seg own kids) ≡ false
 place_none nodes Container node seg own kids below = below
 place_none nodes Presence node seg own kids below = below
-place_none nodes Listing node seg own kids below = none (has_float (item_data nodes Listing node seg kids)) false (item_data_none nodes Listing node seg kids below) refl
+place_none nodes Listing node seg own kids below = or_from (has_float (item_data nodes Listing node seg kids)) false (item_data_none nodes Listing node seg kids below) refl
 place_none nodes Leaf node seg own kids below = leaf node.ty own
-place_none nodes LeafList node seg own kids below = none (has_float (item_data nodes LeafList node seg kids)) false (item_data_none nodes LeafList node seg kids below) refl
+place_none nodes LeafList node seg own kids below = or_from (has_float (item_data nodes LeafList node seg kids)) false (item_data_none nodes LeafList node seg kids below) refl
 
 members_none : (nodes : List SchemaNode) (f : Forest) → members_have_float (members_in nodes f) ≡ false
 members_none nodes bare = refl
@@ -136,6 +125,6 @@ pub rows_none : (nodes : List SchemaNode) (at : List Seg) (rows : List Row) → 
 rows_none nodes [] rows = members_none nodes (forest_at 0 rows)
 rows_none nodes (seg ∷ rest) rows =
     let last = last_segment seg rest in
-    none (has_float (data_at nodes last (seg ∷ rest) rows)) false
+    or_from (has_float (data_at nodes last (seg ∷ rest) rows)) false
     (place_none nodes (node_at last.node nodes).kind (node_at last.node nodes) last (value_at (seg ∷ rest) rows) (members_in nodes (forest_at (length (seg ∷ rest)) rows)) (members_none nodes (forest_at (length (seg ∷ rest)) rows)))
     refl

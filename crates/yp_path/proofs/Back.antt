@@ -3,7 +3,7 @@ use Rattle.std.proofs.Common.{◌≡◌, ℕ, zero, suc, ◌<◌, ◌≤◌, dro
 use Rattle.std.specs.List.{position_or_len, before_first}
 use Rattle.std.specs.Str.{is_utf8}
 use Rattle.std.proofs.lemmas.List.{drop_all}
-use Rattle.std.proofs.lemmas.Bool.{lt-ltb, eq-eqb, cases_Bool, cond-true, cond-false}
+use Rattle.std.proofs.lemmas.Bool.{lt-ltb, eq-eqb, cases_Bool, cond-true, cond-false, and_parts}
 use Rattle.percent_encoding.proofs.PercentLemmas.{round_trip}
 use Rattle.percent_encoding.specs.Percent.{percent_decode}
 use Rattle.yp_base.specs.declared.atom.Atom.{Atom}
@@ -19,14 +19,15 @@ use Rattle.yp_schema.specs.WellFormed.{IsSchema, is_name, is_at_home, is_empty}
 use Rattle.yp_schema.specs.Datastore.{is_path_of, goes_down, is_segment, keys_of_kind, keys_fit, one_fits, atom_fits}
 use Rattle.yp_path.specs.declared.escape.TheConstants.{ESCAPED}
 use Rattle.yp_path.specs.declared.fault.PathFault.TheVariants.{Syntax, UnknownNode, KeyCount, KeyValue}
-use Rattle.yp_path.specs.Cuts.{cut}
+use Rattle.yp_base.specs.Cuts.{cut}
 use Rattle.yp_path.specs.Escapes.{is_plain, capital_digit, escaped, is_hexadecimal, has_whole_escapes, key_read}
+use Rattle.yp_path.specs.Grammar.{is_free}
 use Rattle.yp_path.specs.Names.{child_named}
-use Rattle.yp_path.specs.Results.{◌>>=◌, or_fault}
+use Rattle.yp_base.specs.Results.{◌>>=◌, or_fault}
 use Rattle.yp_path.specs.Targets.{is_equals, value_of, values_read, as_many, asked_of_kind, asked, with_values, some_name, name_part, key_parts, keys_read, segment_in, segments_in, target_in, keys_text, target_text, are_texts, has_texts}
 use Rattle.yp_path.proofs.Bytes.{utf8_bytes}
 use Rattle.yp_path.proofs.Escapes.{escaped_is}
-use Rattle.yp_path.proofs.Free.{both, is_free, is_outside, position_free, position_inside, before_mark, after_mark, before_free, free_name, free_append, cut_free, cut_at}
+use Rattle.yp_path.proofs.Free.{is_outside, position_free, position_inside, before_mark, after_mark, before_free, free_name, free_append, cut_free, cut_at}
 use Rattle.yp_path.proofs.Names.{number_same, child_complete, named_bare, named_elsewhere, form_elsewhere, form_at_home}
 use Rattle.yp_path.proofs.Types.{type_stands, keys_stand}
 use Rattle.yp_path.proofs.Fits.{segment_below}
@@ -111,7 +112,7 @@ keys_free mark sign (key ∷ keys) m s c =
 keys_again : (keys : List Atom) → are_texts keys ≡ true → keys_read (key_texts keys) ≡ Some (plain_texts keys)
 keys_again [] e = refl
 keys_again (key ∷ keys) e =
-    let parts = both _ _ e in
+    let parts = and_parts _ _ e in
     rw (key_again (atom_text key) parts.0, keys_again keys parts.1) refl
 
 -- ---- a segment
@@ -187,7 +188,7 @@ module _ (nodes : List SchemaNode) (schema : IsSchema nodes) where
   values_again [] (key ∷ keys) below e = let wrong : false ≡ true = e in (cc, cc)
   values_again (k ∷ ks) [] below e = let wrong : false ≡ true = e in (cc, cc)
   values_again (k ∷ ks) (key ∷ keys) below e =
-      let parts = both _ _ e in
+      let parts = and_parts _ _ e in
       let rest = values_again ks keys (λ j d l. below (suc j) d (omega (arith, l))) parts.1 in
       let here = value_again k (node_at k nodes).ty key (below 0 0 (omega arith)) refl parts.0 in
       (omega (arith, rest.0), rw (here, rest.1) refl)
@@ -216,7 +217,7 @@ module _ (nodes : List SchemaNode) (schema : IsSchema nodes) where
   with_again : (seg : Seg) → is_segment nodes seg ≡ true → with_values nodes seg.node (asked seg.node nodes) (plain_texts seg.keys) ≡ Ok seg
   with_again seg e =
       let h = segment_below nodes seg e in
-      let fit = asked_again seg.node (node_at seg.node nodes).kind seg.keys h refl (both _ _ e).1 in
+      let fit = asked_again seg.node (node_at seg.node nodes).kind seg.keys h refl (and_parts _ _ e).1 in
       let values = values_again (asked seg.node nodes) seg.keys fit.1 fit.0 in
       let many : as_many (asked seg.node nodes) (plain_texts seg.keys) ≡ Some (plain_texts seg.keys) = cond-true _ _ _ (eq-eqb _ _ values.0) in
       ap (λ o. or_fault KeyCount o >>= λ counted. or_fault KeyValue (values_read nodes (asked seg.node nodes) counted) >>= λ keys. Ok (record { node = seg.node; keys = keys })) many
@@ -242,16 +243,16 @@ module _ (nodes : List SchemaNode) (schema : IsSchema nodes) where
   segments_again : (parent : Option ℕ) (seg : Seg) (segs : List Seg) → goes_down nodes parent (seg ∷ segs) ≡ true → has_texts (seg ∷ segs) ≡ true
       → segments_in nodes parent (cut 47 (part_text nodes seg ++ target_text nodes segs)) ≡ Ok (seg ∷ segs)
   segments_again parent seg [] e t =
-      let goes = both _ _ e in
-      let here = both _ _ goes.0 in
-      let read = segment_again parent seg here.0 here.1 (both _ _ t).0 in
+      let goes = and_parts _ _ e in
+      let here = and_parts _ _ goes.0 in
+      let read = segment_again parent seg here.0 here.1 (and_parts _ _ t).0 in
       ap (λ l. segments_in nodes parent (cut 47 l)) (append-nil (part_text nodes seg))
       ∙ ap (segments_in nodes parent) (cut_free 47 (part_text nodes seg) (part_free seg here.1))
       ∙ ap (λ r. r >>= λ (s : Seg). segments_in nodes (Some s.node) [] >>= λ rest. Ok (s ∷ rest)) read
   segments_again parent seg (next ∷ segs) e t =
-      let goes = both _ _ e in
-      let here = both _ _ goes.0 in
-      let texts = both _ _ t in
+      let goes = and_parts _ _ e in
+      let here = and_parts _ _ goes.0 in
+      let texts = and_parts _ _ t in
       let read = segment_again parent seg here.0 here.1 texts.0 in
       let parts = cut 47 (part_text nodes next ++ target_text nodes segs) in
       ap (segments_in nodes parent) (cut_at 47 (part_text nodes seg) (part_text nodes next ++ target_text nodes segs) (part_free seg here.1))

@@ -1,17 +1,17 @@
 -- Keys without escapes stand for themselves.
 use Rattle.std.proofs.Common.{◌≡◌, ◌≢◌, ℕ, zero, suc, ◌<◌, ◌≤◌, ◌+◌, ◌-◌, ◌==◌, cond, length-drop, List, [], ◌∷◌, length, take, drop, get_or, Bool, true, false, not, refl, sym, ap, ◌∙◌, arith, Some, IsUtf8, nat_lt}
 use Rattle.std.specs.List.{position_or_len, count_by}
-use Rattle.std.proofs.lemmas.Bool.{eqb-true, eq-eqb, ltb-true, ltb-false}
+use Rattle.std.proofs.lemmas.Bool.{eqb-true, eq-eqb, ltb-true, ltb-false, and_parts, not-true}
 use Rattle.std.proofs.lemmas.List.Recursion.{is_count_by}
 use Rattle.std.proofs.lemmas.List.Sums.{passes_at_first}
 use Rattle.std.proofs.lemmas.Str.{is_utf8-from_IsUtf8, IsUtf8-take, IsUtf8-drop, IsCharBoundary-before_ascii, IsCharBoundary-after_ascii}
 use Rattle.percent_encoding.specs.Percent.{percent_decode}
 use Rattle.percent_encoding.proofs.PercentLemmas.{percent_decode-nil, percent_decode_not_percent}
-use Rattle.yp_path.specs.Cuts.{cut, onto_first}
+use Rattle.yp_base.specs.Cuts.{cut, onto_first}
 use Rattle.yp_path.specs.Escapes.{has_whole_escapes, key_read}
 use Rattle.yp_path.specs.Targets.{keys_read}
 use Rattle.yp_path.proofs.Cuts.{cut_found, cut_none}
-use Rattle.yp_path.proofs.Free.{is_free, both, not_true}
+use Rattle.yp_path.specs.Grammar.{is_free}
 
 free_at : (t : Bool) (mark b : ℕ) (bs : List ℕ) → (b == mark) ≡ t → position_or_len (λ b. b == mark) (b ∷ bs) ≡ length (b ∷ bs)
     → (position_or_len (λ b. b == mark) bs ≡ length bs → is_free mark bs ≡ true) → is_free mark (b ∷ bs) ≡ true
@@ -35,24 +35,24 @@ position_within mark (b ∷ bs) = within_at (b == mark) mark b bs refl (position
 take_free : (mark n : ℕ) (bs : List ℕ) → is_free mark bs ≡ true → is_free mark (take n bs) ≡ true
 take_free mark zero bs e = refl
 take_free mark (suc n) [] e = refl
-take_free mark (suc n) (b ∷ bs) e = let parts = both (not (b == mark)) (is_free mark bs) e in rw (parts.0, take_free mark n bs parts.1) refl
+take_free mark (suc n) (b ∷ bs) e = let parts = and_parts (not (b == mark)) (is_free mark bs) e in rw (parts.0, take_free mark n bs parts.1) refl
 
 drop_free : (mark n : ℕ) (bs : List ℕ) → is_free mark bs ≡ true → is_free mark (drop n bs) ≡ true
 drop_free mark zero bs e = e
 drop_free mark (suc n) [] e = refl
-drop_free mark (suc n) (b ∷ bs) e = drop_free mark n bs (both (not (b == mark)) (is_free mark bs) e).1
+drop_free mark (suc n) (b ∷ bs) e = drop_free mark n bs (and_parts (not (b == mark)) (is_free mark bs) e).1
 
 whole_free : (bs : List ℕ) → is_free 37 bs ≡ true → has_whole_escapes bs ≡ true
 whole_free [] e = refl
-whole_free (b ∷ bs) e = let parts = both (not (b == 37)) (is_free 37 bs) e in rw (parts.0, whole_free bs parts.1) refl
+whole_free (b ∷ bs) e = let parts = and_parts (not (b == 37)) (is_free 37 bs) e in rw (parts.0, whole_free bs parts.1) refl
 
 other : (b : ℕ) → not (b == 37) ≡ true → b ≢ 37
-other b e same = let yes : (b == 37) ≡ true = eq-eqb b 37 same in let no : (b == 37) ≡ false = not_true _ e in cc
+other b e same = let yes : (b == 37) ≡ true = eq-eqb b 37 same in let no : (b == 37) ≡ false = not-true _ e in cc
 
 decoded_free : (bs : List ℕ) → is_free 37 bs ≡ true → percent_decode bs ≡ bs
 decoded_free [] e = percent_decode-nil
 decoded_free (b ∷ bs) e =
-    let parts = both (not (b == 37)) (is_free 37 bs) e in
+    let parts = and_parts (not (b == 37)) (is_free 37 bs) e in
     percent_decode_not_percent b bs (other b parts.0) ∙ ap (λ x. b ∷ x) (decoded_free bs parts.1)
 
 -- a key without an escape is the text that it stands for

@@ -2,11 +2,10 @@
 use Rattle.std.proofs.Common.{◌≡◌, ℕ, ◌<◌, ◌+◌, ◌/◌, List, [], ◌∷◌, Bool, true, false, cond, refl, subst, ⊎_elim, All, IsUtf8, arith, ltb}
 use Rattle.std.specs.Str.{is_utf8}
 use Rattle.std.proofs.Math.Utf8.{scalar, scalars, scalar_cases, next, encode, encodes}
-use Rattle.std.proofs.lemmas.Bool.{ltb-true}
+use Rattle.std.proofs.lemmas.Bool.{ltb-true, and_parts}
 use Rattle.std.proofs.lemmas.Str.{IsUtf8-from_is_utf8}
 use Rattle.std.proofs.lemmas.List.Elements.{All-nil, All-cons, All-append}
 use Rattle.percent_encoding.proofs.PercentLemmas.{IsByte}
-use Rattle.yp_path.proofs.Free.{both}
 
 one : (a : ℕ) → a < 256 → All IsByte (a ∷ [])
 one a h = All-cons IsByte a [] h (All-nil IsByte)
@@ -37,7 +36,7 @@ scalar_low c e = ⊎_elim (λ l. omega (arith, l)) (λ l. l.1) (scalar_cases c e
 encodes_bytes : (cs : List ℕ) → scalars cs ≡ true → All IsByte (encodes cs)
 encodes_bytes [] e = All-nil IsByte
 encodes_bytes (c ∷ cs) e =
-    let parts = both (scalar c) (scalars cs) e in
+    let parts = and_parts (scalar c) (scalars cs) e in
     All-append IsByte (encode c) (encodes cs) (encode_bytes c (scalar_low c parts.0)) (encodes_bytes cs parts.1)
 
 pub utf8_bytes : (bs : List ℕ) → is_utf8 bs ≡ true → All IsByte bs

@@ -6,7 +6,7 @@ use Rattle.std.proofs.lemmas.Grind.{common_steps}
 use Rattle.std.proofs.lemmas.List.Quantifiers.{position-Some}
 use Rattle.std.proofs.lemmas.List.Sums.{prefix_len-le-length}
 use Rattle.std.proofs.lemmas.Str.{IsCharBoundary-before_ascii, IsCharBoundary-after_ascii}
-use Rattle.yp_path.specs.Cuts.{cut}
+use Rattle.yp_base.specs.Cuts.{cut}
 
 abbrev is_mark : ℕ → ℕ → Bool
 is_mark mark b = b == mark

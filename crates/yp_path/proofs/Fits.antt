@@ -1,5 +1,5 @@
 use Rattle.std.proofs.Common.{◌≡◌, ℕ, zero, suc, ◌<◌, List, [], ◌∷◌, length, get_or, true, false, ◌&&◌, ◌||◌, refl, sym, ap, subst, ◌∙◌, ⊎_elim, Option, Some, None, arith, nat_le}
-use Rattle.std.proofs.lemmas.Bool.{ltb-true, eqb-true, cases_Bool}
+use Rattle.std.proofs.lemmas.Bool.{ltb-true, eqb-true, cases_Bool, and_parts}
 use Rattle.yp_base.specs.declared.atom.Atom.{Atom}
 use Rattle.yp_base.specs.declared.atom.Atom.TheVariants.{Bool as Truth, Int, Uint, Dec, Text}
 use Rattle.yp_base.specs.declared.leaf_type.LeafType.{LeafType}
@@ -13,7 +13,6 @@ use Rattle.yp_schema.specs.declared.schema.Kind.TheVariants.{Container, Presence
 use Rattle.yp_schema.specs.Nodes.{node_at}
 use Rattle.yp_schema.specs.WellFormed.{IsSchema, is_empty}
 use Rattle.yp_schema.specs.Datastore.{is_path_of, goes_down, is_segment, keys_of_kind, keys_fit, one_fits, atom_fits}
-use Rattle.yp_path.proofs.Free.{both}
 use Rattle.yp_path.proofs.Names.{text_same}
 use Rattle.yp_path.proofs.Types.{type_stands, keys_stand}
 
@@ -22,12 +21,12 @@ use Rattle.yp_path.proofs.Types.{type_stands, keys_stand}
 short_name : (text : List ℕ) (names : List (List ℕ)) → are_short names ≡ true → is_among text names ≡ true → is_short text ≡ true
 short_name text [] h e = let wrong : false ≡ true = e in cc
 short_name text (name ∷ names) h e =
-    let parts = both _ _ h in
+    let parts = and_parts _ _ h in
     ⊎_elim (λ t. ap is_short (text_same text name t) ∙ parts.0) (λ f. short_name text names parts.1 (sym (ap (λ b. b || is_among text names) f) ∙ e)) (cases_Bool (same_text text name))
 
 short_of : (text : List ℕ) (names : List (List ℕ)) → are_names names ≡ true → is_among text names ≡ true → is_short text ≡ true
 short_of text [] h e = let wrong : false ≡ true = e in cc
-short_of text (name ∷ names) h e = short_name text (name ∷ names) (both _ _ h).1 e
+short_of text (name ∷ names) h e = short_name text (name ∷ names) (and_parts _ _ h).1 e
 
 pub fits_writable : (ty : LeafType) (a : Atom) → is_type ty ≡ true → fits ty a ≡ true → is_writable a ≡ true
 fits_writable ty (Truth b) h e = refl
@@ -36,7 +35,7 @@ fits_writable ty (Uint n) h e = refl
 fits_writable TruthType (Dec units own) h e = let wrong : false ≡ true = e in cc
 fits_writable (IntType bits) (Dec units own) h e = let wrong : false ≡ true = e in cc
 fits_writable (UintType bits) (Dec units own) h e = let wrong : false ≡ true = e in cc
-fits_writable (DecType places) (Dec units own) h e = ap (λ n. nat_le 1 n && nat_le n 18) (eqb-true own places (both _ _ e).0) ∙ h
+fits_writable (DecType places) (Dec units own) h e = ap (λ n. nat_le 1 n && nat_le n 18) (eqb-true own places (and_parts _ _ e).0) ∙ h
 fits_writable TextType (Dec units own) h e = let wrong : false ≡ true = e in cc
 fits_writable (Names names) (Dec units own) h e = let wrong : false ≡ true = e in cc
 fits_writable Empty (Dec units own) h e = let wrong : false ≡ true = e in cc
@@ -65,9 +64,9 @@ module _ (nodes : List SchemaNode) (schema : IsSchema nodes) where
   all_written : (ks : List ℕ) (keys : List Atom) → ((k d : ℕ) → k < length ks → get_or ks k d < length nodes) → keys_fit nodes ks keys ≡ true → AreWritten keys
   all_written ks [] below e k d h = absurd (omega (arith, h))
   all_written [] (key ∷ keys) below e k d h = let wrong : false ≡ true = e in cc
-  all_written (n ∷ ns) (key ∷ keys) below e zero d h = atom_written n (node_at n nodes).ty key (below 0 0 (omega arith)) refl (both _ _ e).0
+  all_written (n ∷ ns) (key ∷ keys) below e zero d h = atom_written n (node_at n nodes).ty key (below 0 0 (omega arith)) refl (and_parts _ _ e).0
   all_written (n ∷ ns) (key ∷ keys) below e (suc k) d h =
-      all_written ns keys (λ j c l. below (suc j) c (omega (arith, l))) (both _ _ e).1 k d (omega (arith, h))
+      all_written ns keys (λ j c l. below (suc j) c (omega (arith, l))) (and_parts _ _ e).1 k d (omega (arith, h))
 
   one_written : (n : ℕ) (keys : List Atom) → n < length nodes → one_fits (node_at n nodes).ty keys ≡ true → AreWritten keys
   one_written n [] below e k d h = absurd (omega (arith, h))
@@ -83,15 +82,15 @@ module _ (nodes : List SchemaNode) (schema : IsSchema nodes) where
   kind_written n LeafList keys below is e = one_written n keys below e
 
 pub segment_below : (nodes : List SchemaNode) (seg : Seg) → is_segment nodes seg ≡ true → seg.node < length nodes
-segment_below nodes seg e = ltb-true _ _ (both _ _ e).0
+segment_below nodes seg e = ltb-true _ _ (and_parts _ _ e).0
 
 pub segment_written : (nodes : List SchemaNode) (seg : Seg) → IsSchema nodes → is_segment nodes seg ≡ true → AreWritten seg.keys
-segment_written nodes seg schema e = kind_written nodes schema seg.node (node_at seg.node nodes).kind seg.keys (segment_below nodes seg e) refl (both _ _ e).1
+segment_written nodes seg schema e = kind_written nodes schema seg.node (node_at seg.node nodes).kind seg.keys (segment_below nodes seg e) refl (and_parts _ _ e).1
 
 goes_at : (nodes : List SchemaNode) (parent : Option ℕ) (segs : List Seg) (i : ℕ) (d : Seg) → goes_down nodes parent segs ≡ true → i < length segs → is_segment nodes (get_or segs i d) ≡ true
 goes_at nodes parent [] i d e h = absurd (omega (arith, h))
-goes_at nodes parent (seg ∷ segs) zero d e h = (both _ _ (both _ _ e).0).1
-goes_at nodes parent (seg ∷ segs) (suc i) d e h = goes_at nodes (Some seg.node) segs i d (both _ _ e).1 (omega (arith, h))
+goes_at nodes parent (seg ∷ segs) zero d e h = (and_parts _ _ (and_parts _ _ e).0).1
+goes_at nodes parent (seg ∷ segs) (suc i) d e h = goes_at nodes (Some seg.node) segs i d (and_parts _ _ e).1 (omega (arith, h))
 
 pub path_goes : (nodes : List SchemaNode) (path : List Seg) → is_path_of nodes path ≡ true → goes_down nodes None path ≡ true
 path_goes nodes [] e = refl

@@ -1,36 +1,24 @@
 use Rattle.std.proofs.Common.{◌≡◌, ℕ, ◌<◌, ◌+◌, ◌==◌, List, [], ◌∷◌, ◌++◌, length, take, drop, Bool, true, false, not, ◌&&◌, ◌||◌, refl, sym, ap, ◌∙◌, arith}
+use Rattle.std.proofs.lemmas.Bool.{and_parts, not-true}
 use Rattle.std.specs.List.{position_or_len, before_first, after_first}
 use Rattle.std.proofs.Math.Seq.{take-append_seam, drop-append-add, take-length}
 use Rattle.yp_schema.specs.WellFormed.{is_name, go_on_name, goes_on_name, begins_name}
-use Rattle.yp_path.specs.Cuts.{cut}
-
--- a text in which this byte doesn't stand
-abbrev pub is_free : ℕ → List ℕ → Bool
-is_free mark [] = true
-is_free mark (b ∷ bs) = not (b == mark) && is_free mark bs
-
--- both parts of a test
-pub both : (a b : Bool) → (a && b) ≡ true → (a ≡ true) × (b ≡ true)
-both true b e = (refl, e)
-both false b e = (let wrong : false ≡ true = e in cc, let wrong : false ≡ true = e in cc)
-
-pub not_true : (a : Bool) → not a ≡ true → a ≡ false
-not_true true e = sym e
-not_true false e = refl
+use Rattle.yp_base.specs.Cuts.{cut}
+use Rattle.yp_path.specs.Grammar.{is_free}
 
 pub position_free : (mark : ℕ) (xs : List ℕ) → is_free mark xs ≡ true → position_or_len (λ b. b == mark) xs ≡ length xs
 position_free mark [] e = refl
 position_free mark (b ∷ bs) e =
-    let parts = both (not (b == mark)) (is_free mark bs) e in
+    let parts = and_parts (not (b == mark)) (is_free mark bs) e in
     let rest = position_free mark bs parts.1 in
-    rw (not_true _ parts.0, rest) (omega arith)
+    rw (not-true _ parts.0, rest) (omega arith)
 
 pub position_at : (mark : ℕ) (xs ys : List ℕ) → is_free mark xs ≡ true → position_or_len (λ b. b == mark) (xs ++ mark ∷ ys) ≡ length xs
 position_at mark [] ys e = let same : (mark == mark) ≡ true = grind arith in rw same refl
 position_at mark (b ∷ bs) ys e =
-    let parts = both (not (b == mark)) (is_free mark bs) e in
+    let parts = and_parts (not (b == mark)) (is_free mark bs) e in
     let rest = position_at mark bs ys parts.1 in
-    rw (not_true _ parts.0, rest) (omega arith)
+    rw (not-true _ parts.0, rest) (omega arith)
 
 pub before_mark : (mark : ℕ) (xs ys : List ℕ) → is_free mark xs ≡ true → before_first (λ b. b == mark) (xs ++ mark ∷ ys) ≡ xs
 before_mark mark xs ys e = ap (λ n. take n (xs ++ mark ∷ ys)) (position_at mark xs ys e) ∙ take-append_seam xs (mark ∷ ys)
@@ -60,31 +48,31 @@ outside_at mark b out goes = grind (arith, out, goes)
 pub free_go_on : (mark : ℕ) (text : List ℕ) → is_outside mark ≡ true → go_on_name text ≡ true → is_free mark text ≡ true
 free_go_on mark [] out goes = refl
 free_go_on mark (b ∷ bs) out goes =
-    let parts = both (goes_on_name b) (go_on_name bs) goes in
+    let parts = and_parts (goes_on_name b) (go_on_name bs) goes in
     rw (outside_at mark b out parts.0, free_go_on mark bs out parts.1) refl
 
 pub free_name : (mark : ℕ) (text : List ℕ) → is_outside mark ≡ true → is_name text ≡ true → is_free mark text ≡ true
 free_name mark [] out is = refl
 free_name mark (b ∷ bs) out is =
-    let parts = both (begins_name b && go_on_name bs) _ is in
-    let front = both (begins_name b) (go_on_name bs) parts.0 in
+    let parts = and_parts (begins_name b && go_on_name bs) _ is in
+    let front = and_parts (begins_name b) (go_on_name bs) parts.0 in
     let goes : goes_on_name b ≡ true = rw front.0 refl in
     rw (outside_at mark b out goes, free_go_on mark bs out front.1) refl
 
 pub free_append : (mark : ℕ) (xs ys : List ℕ) → is_free mark xs ≡ true → is_free mark ys ≡ true → is_free mark (xs ++ ys) ≡ true
 free_append mark [] ys h k = k
 free_append mark (x ∷ xs) ys h k =
-    let parts = both (not (x == mark)) (is_free mark xs) h in
+    let parts = and_parts (not (x == mark)) (is_free mark xs) h in
     rw (parts.0, free_append mark xs ys parts.1 k) refl
 
 pub cut_free : (mark : ℕ) (xs : List ℕ) → is_free mark xs ≡ true → cut mark xs ≡ xs ∷ []
 cut_free mark [] e = refl
 cut_free mark (b ∷ bs) e =
-    let parts = both (not (b == mark)) (is_free mark bs) e in
-    rw (not_true _ parts.0, cut_free mark bs parts.1) refl
+    let parts = and_parts (not (b == mark)) (is_free mark bs) e in
+    rw (not-true _ parts.0, cut_free mark bs parts.1) refl
 
 pub cut_at : (mark : ℕ) (xs ys : List ℕ) → is_free mark xs ≡ true → cut mark (xs ++ mark ∷ ys) ≡ xs ∷ cut mark ys
 cut_at mark [] ys e = let same : (mark == mark) ≡ true = grind arith in rw same refl
 cut_at mark (b ∷ bs) ys e =
-    let parts = both (not (b == mark)) (is_free mark bs) e in
-    rw (not_true _ parts.0, cut_at mark bs ys parts.1) refl
+    let parts = and_parts (not (b == mark)) (is_free mark bs) e in
+    rw (not-true _ parts.0, cut_at mark bs ys parts.1) refl

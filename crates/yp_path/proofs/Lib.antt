@@ -15,3 +15,8 @@ pub mod Marks
 pub mod Pieces
 pub mod RuleSegments
 pub mod Predicates
+pub mod Steps
+pub mod Passing
+pub mod Parsing
+pub mod TargetParts
+pub mod RuleReading

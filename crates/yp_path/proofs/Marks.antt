@@ -2,7 +2,7 @@ use Rattle.std.proofs.Common.{◌≡◌, ℕ, ◌<◌, ◌+◌, ◌==◌, List, 
 use Rattle.std.specs.Str.Pattern.{FindsCharPrefix}
 use Rattle.std.proofs.lemmas.Str.Pattern.{strip_prefix_char}
 use Rattle.std.proofs.lemmas.Bool.{eqb-true}
-use Rattle.yp_path.specs.Cuts.{begins}
+use Rattle.yp_base.specs.Cuts.{begins}
 
 no_begin_at : (t : Bool) (mark b : ℕ) (bs : List ℕ) → (b == mark) ≡ t → ((rest : List ℕ) → b ∷ bs ≡ mark ∷ rest → ⊥) → t ≡ false
 no_begin_at true mark b bs is not_so = absurd (not_so bs (ap (λ n. n ∷ bs) (eqb-true b mark is)))

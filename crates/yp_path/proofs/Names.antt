@@ -1,6 +1,6 @@
 use Rattle.std.proofs.Common.{◌≡◌, ℕ, zero, suc, ◌<◌, ◌+◌, ◌==◌, List, [], ◌∷◌, ◌++◌, length, get_or, Bool, true, false, ◌||◌, cond, refl, sym, ap, subst, ◌∙◌, ◌⊎◌, inl, inr, ⊎_elim, arith, length-append, Option, Some, None}
 use Rattle.std.specs.List.{position_or_len, before_first, after_first}
-use Rattle.std.proofs.lemmas.Bool.{cond-true, cond-false, cases_Bool, and_from, or_left, or_right, eqb-true}
+use Rattle.std.proofs.lemmas.Bool.{cond-true, cond-false, cases_Bool, and_from, or_left, or_right, eqb-true, and_parts}
 use Rattle.std.proofs.lemmas.List.Sums.{split_at_first, passes_at_first}
 use Rattle.std.proofs.lemmas.Slice.Eq.{bytes_eq-Decides}
 use Rattle.yp_base.specs.Types.{same_text}
@@ -8,7 +8,7 @@ use Rattle.yp_schema.specs.declared.schema.SchemaNode.{SchemaNode}
 use Rattle.yp_schema.specs.Nodes.{node_at, no_node, same_number, is_child, place_from, child_of, qualified_name}
 use Rattle.yp_schema.specs.WellFormed.{IsSchema, is_at_home}
 use Rattle.yp_path.specs.Names.{is_named, child_named, with_name, own_child}
-use Rattle.yp_path.proofs.Free.{both, position_free, before_mark, after_mark, position_inside, free_name}
+use Rattle.yp_path.proofs.Free.{position_free, before_mark, after_mark, position_inside, free_name}
 
 number_in : Option ℕ → ℕ
 number_in None = 0
@@ -84,7 +84,7 @@ child_sound nodes parent name n e =
     let same : at.0 ≡ n = omega (arith, at.1.0) in
     let P : ℕ → Type 0 = λ k. (k < length nodes) × (is_child parent name (node_at k nodes) ≡ true) in
     let here : P n = subst P same (at.1.1, at.1.2) in
-    let parts = both _ _ here.1 in
+    let parts = and_parts _ _ here.1 in
     (here.0, parts.0, text_same _ _ parts.1)
 
 pub child_complete : (nodes : List SchemaNode) (parent : Option ℕ) (name : List ℕ) (n : ℕ) → IsSchema nodes → n < length nodes → same_number (node_at n nodes).parent parent ≡ true → (node_at n nodes).member ≡ name → child_of parent name nodes ≡ Some n
@@ -100,10 +100,10 @@ abbrev IsColon : ℕ → Bool
 IsColon b = b == 58
 
 -- the two ways to be named
-named_ways : (nodes : List SchemaNode) (parent : Option ℕ) (name : List ℕ) (n : ℕ) → is_named parent name (node_at n nodes) ≡ true
+pub named_ways : (nodes : List SchemaNode) (parent : Option ℕ) (name : List ℕ) (n : ℕ) → is_named parent name (node_at n nodes) ≡ true
     → (same_number (node_at n nodes).parent parent ≡ true) × (((node_at n nodes).member ≡ name) ⊎ (qualified_name (node_at n nodes) ≡ name))
 named_ways nodes parent name n e =
-    let parts = both _ _ e in
+    let parts = and_parts _ _ e in
     let node = node_at n nodes in
     (parts.0, ⊎_elim (λ t. inl (text_same _ _ t)) (λ f. inr (text_same _ _ (sym (ap (λ b. b || same_text (qualified_name node) name) f) ∙ parts.1))) (cases_Bool (same_text node.member name)))
 

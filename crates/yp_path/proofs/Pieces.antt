@@ -2,7 +2,7 @@ use Rattle.std.proofs.Common.{◌≡◌, ℕ, suc, ◌<◌, ◌+◌, ◌==◌, L
 use Rattle.std.proofs.Math.Seq.{take-suc, drop-cons, take-length}
 use Rattle.yp_path.specs.declared.mark.Place.{Place}
 use Rattle.yp_path.specs.declared.mark.Place.TheVariants.{Outside}
-use Rattle.yp_path.specs.Cuts.{onto_first}
+use Rattle.yp_base.specs.Cuts.{onto_first}
 use Rattle.yp_path.specs.RulePaths.{next_place, is_bare, pieces}
 
 -- bytes in front of the first text
@@ -10,11 +10,11 @@ abbrev pub onto_all : List ℕ → List (List ℕ) → List (List ℕ)
 onto_all [] texts = texts
 onto_all (b ∷ bs) texts = onto_first b (onto_all bs texts)
 
-onto_one : (front : List ℕ) (b : ℕ) (texts : List (List ℕ)) → onto_all (front ++ b ∷ []) texts ≡ onto_all front (onto_first b texts)
+pub onto_one : (front : List ℕ) (b : ℕ) (texts : List (List ℕ)) → onto_all (front ++ b ∷ []) texts ≡ onto_all front (onto_first b texts)
 onto_one [] b texts = refl
 onto_one (c ∷ front) b texts = ap (onto_first c) (onto_one front b texts)
 
-onto_some : (front text : List ℕ) (texts : List (List ℕ)) → onto_all front (text ∷ texts) ≡ (front ++ text) ∷ texts
+pub onto_some : (front text : List ℕ) (texts : List (List ℕ)) → onto_all front (text ∷ texts) ≡ (front ++ text) ∷ texts
 onto_some [] text texts = refl
 onto_some (b ∷ front) text texts = ap (onto_first b) (onto_some front text texts)
 

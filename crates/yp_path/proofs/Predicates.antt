@@ -1,6 +1,6 @@
 use Rattle.std.proofs.Common.{◌≡◌, ℕ, ◌==◌, List, [], ◌∷◌, ◌++◌, length, Bool, true, false, ◌&&◌, cond, refl, sym, ap, ◌∙◌, arith, append_assoc, Option, Some, None, option_map, option_and_then}
 use Rattle.std.proofs.lemmas.Bool.{eqb-true}
-use Rattle.yp_path.specs.Cuts.{begins, onto_first}
+use Rattle.yp_base.specs.Cuts.{begins, onto_first}
 use Rattle.yp_path.specs.declared.mark.Place.{Place}
 use Rattle.yp_path.specs.declared.mark.Place.TheVariants.{Outside, Within}
 use Rattle.yp_path.specs.declared.predicate.Predicate.{Predicate}
@@ -24,19 +24,19 @@ after_broken : (body : List ℕ) (others : Option (List (List ℕ))) → predica
 after_broken body None e = refl
 after_broken body (Some l) e = ap (option_and_then (λ predicate. option_map (λ more. predicate ∷ more) (predicates_in l))) e
 
-after_read : (body : List ℕ) (others : Option (List (List ℕ))) (p : Predicate) → predicate_in body ≡ Some p → after_body body others ≡ option_map (λ more. p ∷ more) (option_and_then predicates_in others)
+pub after_read : (body : List ℕ) (others : Option (List (List ℕ))) (p : Predicate) → predicate_in body ≡ Some p → after_body body others ≡ option_map (λ more. p ∷ more) (option_and_then predicates_in others)
 after_read body None p e = refl
 after_read body (Some l) p e = ap (option_and_then (λ predicate. option_map (λ more. predicate ∷ more) (predicates_in l))) e
 
 -- pieces are never none
-abbrev Cut : List (List ℕ) → Type 0
+abbrev pub Cut : List (List ℕ) → Type 0
 Cut l = (piece : List ℕ) × ((more : List (List ℕ)) × (l ≡ piece ∷ more))
 
 cut_onto : (b : ℕ) (l : List (List ℕ)) → Cut (onto_first b l)
 cut_onto b [] = (b ∷ [], ([], refl))
 cut_onto b (piece ∷ more) = (b ∷ piece, (more, refl))
 
-some_pieces : (mark : ℕ) (place : Place) (bs : List ℕ) → Cut (pieces mark place bs)
+pub some_pieces : (mark : ℕ) (place : Place) (bs : List ℕ) → Cut (pieces mark place bs)
 some_pieces mark place [] = ([], ([], refl))
 some_pieces mark place (b ∷ bs) = at (b == mark && is_bare place) (pieces mark Outside bs) (pieces mark (next_place place b) bs)
   where
@@ -48,7 +48,7 @@ bodies_opened : (body : List ℕ) (l : List (List ℕ)) → Cut l → bodies bod
 bodies_opened body l (piece, (more, e)) = rw e refl
 
 -- behind a body another one is opened
-bodies_next : (body next : List ℕ) → bodies body (pieces 93 Outside (91 ∷ next)) ≡ option_map (λ others. body ∷ others) (all_bodies (pieces 93 Within next))
+pub bodies_next : (body next : List ℕ) → bodies body (pieces 93 Outside (91 ∷ next)) ≡ option_map (λ others. body ∷ others) (all_bodies (pieces 93 Within next))
 bodies_next body next = bodies_opened body (pieces 93 Within next) (some_pieces 93 Within next)
 
 bodies_wrong : (body : List ℕ) (b : ℕ) (l m : List (List ℕ)) (t : Bool) → Cut l → (b == 91) ≡ false → bodies body (cond t ([] ∷ l) (onto_first b m)) ≡ None

@@ -1,6 +1,6 @@
 -- What is read of a text is a path of the schema.
 use Rattle.std.proofs.Common.{◌≡◌, ℕ, ◌<◌, ◌==◌, List, [], ◌∷◌, length, Bool, true, false, cond, refl, sym, ap, subst, ◌∙◌, Option, Some, None, option_map, option_and_then, Result, Ok, Err, IfOk, arith}
-use Rattle.std.proofs.lemmas.Bool.{lt-ltb, eqb-true, and_from}
+use Rattle.std.proofs.lemmas.Bool.{lt-ltb, eqb-true, and_from, and_parts}
 use Rattle.yp_base.specs.declared.atom.Atom.{Atom}
 use Rattle.yp_base.specs.declared.leaf_type.LeafType.{LeafType}
 use Rattle.yp_base.specs.declared.path.Seg.{Seg}
@@ -13,33 +13,12 @@ use Rattle.yp_schema.specs.WellFormed.{is_empty}
 use Rattle.yp_schema.specs.Datastore.{is_path_of, goes_down, is_segment, keys_of_kind, keys_fit, one_fits, atom_fits}
 use Rattle.yp_path.specs.declared.fault.PathFault.{PathFault}
 use Rattle.yp_path.specs.declared.fault.PathFault.TheVariants.{Syntax, UnknownNode, KeyCount, KeyValue}
-use Rattle.yp_path.specs.Cuts.{cut, onto_first}
+use Rattle.yp_base.specs.Cuts.{cut, onto_first}
 use Rattle.yp_path.specs.Names.{child_named}
-use Rattle.yp_path.specs.Results.{◌>>=◌, or_fault}
+use Rattle.yp_base.specs.Results.{◌>>=◌, or_fault}
 use Rattle.yp_path.specs.Targets.{value_of, values_read, as_many, asked_of_kind, asked, with_values, some_name, name_part, key_parts, keys_read, segment_in, segments_in, Gives}
-use Rattle.yp_path.proofs.Free.{both}
 use Rattle.yp_path.proofs.Names.{named_at}
-
--- ---- steps that succeed
-
-pub step_ok : {A B F : Type 0} (x : Result A F) (f : A → Result B F) (b : B) → (x >>= f) ≡ Ok b → (a : A) × ((x ≡ Ok a) × (f a ≡ Ok b))
-step_ok (Ok a) f b e = (a, (refl, e))
-step_ok (Err w) f b e = cc
-
-pub ok_same : {A F : Type 0} (x : Result A F) (a b : A) → x ≡ Ok a → x ≡ Ok b → a ≡ b
-ok_same x a b h k = let same = sym h ∙ k in cc
-
-pub there : {A F : Type 0} (w : F) (o : Option A) (a : A) → or_fault w o ≡ Ok a → o ≡ Some a
-there w None a e = cc
-there w (Some x) a e = let same : x ≡ a = cc in ap (λ y. Some y) same
-
-pub and_then_some : {A B : Type 0} (o : Option A) (f : A → Option B) (b : B) → option_and_then f o ≡ Some b → (a : A) × ((o ≡ Some a) × (f a ≡ Some b))
-and_then_some None f b e = cc
-and_then_some (Some a) f b e = (a, (refl, e))
-
-pub map_some : {A B : Type 0} (o : Option A) (f : A → B) (b : B) → option_map f o ≡ Some b → (a : A) × ((o ≡ Some a) × (f a ≡ b))
-map_some None f b e = cc
-map_some (Some a) f b e = (a, (refl, cc))
+use Rattle.yp_path.proofs.Steps.{step_ok, ok_same, there, and_then_some, map_some}
 
 -- ---- keys
 
@@ -47,7 +26,7 @@ abbrev pub ReadFits : Type 0
 ReadFits = (ty : LeafType) (text : List ℕ) (a : Atom) → atom_in ty text ≡ Some a → fits ty a ≡ true
 
 module _ (read_fits : ReadFits) (nodes : List SchemaNode) where
-  value_fits : (t : Option LeafType) (text : List ℕ) (a : Atom) → value_of t text ≡ Some a → atom_fits t a ≡ true
+  pub value_fits : (t : Option LeafType) (text : List ℕ) (a : Atom) → value_of t text ≡ Some a → atom_fits t a ≡ true
   value_fits None text a e = cc
   value_fits (Some ty) text a e = read_fits ty text a e
 
@@ -69,8 +48,8 @@ module _ (read_fits : ReadFits) (nodes : List SchemaNode) where
 
   one_key_fits : (n : ℕ) (keys : List Atom) → keys_fit nodes (n ∷ []) keys ≡ true → one_fits (node_at n nodes).ty keys ≡ true
   one_key_fits n [] e = let wrong : false ≡ true = e in cc
-  one_key_fits n (key ∷ []) e = (both _ _ e).0
-  one_key_fits n (key ∷ next ∷ keys) e = let wrong : false ≡ true = (both _ _ e).1 in cc
+  one_key_fits n (key ∷ []) e = (and_parts _ _ e).0
+  one_key_fits n (key ∷ next ∷ keys) e = let wrong : false ≡ true = (and_parts _ _ e).1 in cc
 
   asked_fit : (n : ℕ) (kind : Kind) (keys : List Atom) → keys_fit nodes (asked_of_kind kind n (node_at n nodes)) keys ≡ true → keys_of_kind kind nodes (node_at n nodes) keys ≡ true
   asked_fit n Container keys e = no_key_fits keys e
@@ -104,7 +83,7 @@ module _ (read_fits : ReadFits) (nodes : List SchemaNode) where
       let at = named_at nodes parent named.0 found.0 (there UnknownNode _ _ found.1.0) in
       let fit = with_values_fit found.0 keyed.0 seg found.1.1 in
       let P : ℕ → Type 0 = λ n. (same_number (node_at n nodes).parent parent ≡ true) × ((n < length nodes) × (keys_of_kind (node_at n nodes).kind nodes (node_at n nodes) seg.keys ≡ true)) in
-      let here = subst P (sym fit.0) ((both _ _ at.1).0, (at.0, fit.1)) in
+      let here = subst P (sym fit.0) ((and_parts _ _ at.1).0, (at.0, fit.1)) in
       (here.0, and_from _ _ (lt-ltb _ _ here.1.0) here.1.1)
 
   segments_go : (parent : Option ℕ) (parts : List (List ℕ)) (segs : List Seg) → segments_in nodes parent parts ≡ Ok segs → (goes_down nodes parent segs ≡ true) × (length segs ≡ length parts)

@@ -4,8 +4,8 @@ use Rattle.yp_schema.specs.declared.schema.SchemaNode.{SchemaNode}
 use Rattle.yp_path.specs.declared.fault.PathFault.{PathFault}
 use Rattle.yp_path.specs.declared.fault.PathFault.TheVariants.{Syntax}
 use Rattle.yp_path.specs.declared.mark.Place.TheVariants.{Outside}
-use Rattle.yp_path.specs.Cuts.{begins}
-use Rattle.yp_path.specs.Results.{◌>>=◌}
+use Rattle.yp_base.specs.Cuts.{begins}
+use Rattle.yp_base.specs.Results.{◌>>=◌}
 use Rattle.yp_path.specs.Targets.{Gives}
 use Rattle.yp_path.specs.RulePaths.{pieces, rule_segment_in, rule_segments_in, rule_path_in}
 use Rattle.yp_path.proofs.Segments.{gives_fault}

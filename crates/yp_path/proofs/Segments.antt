@@ -4,8 +4,8 @@ use Rattle.yp_base.specs.declared.path.Seg.{Seg}
 use Rattle.yp_schema.specs.declared.schema.SchemaNode.{SchemaNode}
 use Rattle.yp_path.specs.declared.fault.PathFault.{PathFault}
 use Rattle.yp_path.specs.declared.fault.PathFault.TheVariants.{Syntax, UnknownNode, KeyCount, KeyValue, Memory}
-use Rattle.yp_path.specs.Cuts.{cut}
-use Rattle.yp_path.specs.Results.{◌>>=◌}
+use Rattle.yp_base.specs.Cuts.{cut}
+use Rattle.yp_base.specs.Results.{◌>>=◌}
 use Rattle.yp_path.specs.Targets.{Gives, segment_in, segments_in, target_in}
 use Rattle.yp_path.proofs.Cuts.{cut_found, cut_none}
 use Rattle.std.proofs.lemmas.Bool.{eqb-true}

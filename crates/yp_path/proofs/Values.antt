@@ -5,7 +5,7 @@ use Rattle.yp_base.specs.declared.atom.Atom.{Atom}
 use Rattle.yp_base.specs.declared.path.Seg.{Seg}
 use Rattle.yp_path.specs.declared.fault.PathFault.{PathFault}
 use Rattle.yp_schema.specs.declared.schema.SchemaNode.{SchemaNode}
-use Rattle.yp_path.specs.Cuts.{cut}
+use Rattle.yp_base.specs.Cuts.{cut}
 use Rattle.yp_path.proofs.Cuts.{cut_found, cut_none}
 use Rattle.yp_path.specs.Targets.{value_of, values_read}
 use Rattle.yp_schema.specs.Nodes.{node_at}

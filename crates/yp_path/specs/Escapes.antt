@@ -29,7 +29,7 @@ begins_with_digits [] = false
 begins_with_digits (b ∷ []) = false
 begins_with_digits (b ∷ c ∷ bs) = is_hexadecimal b && is_hexadecimal c
 
--- whether behind each `%` two hexadecimal digits stand
+-- whether after each `%` two hexadecimal digits stand
 abbrev pub has_whole_escapes : List ℕ → Bool
 has_whole_escapes [] = true
 has_whole_escapes (b ∷ bs) = (not (b == 37) || begins_with_digits bs) && has_whole_escapes bs

@@ -1,7 +1,7 @@
-pub mod Cuts
 pub mod Escapes
+pub mod Grammar
 pub mod Names
-pub mod Results
 pub mod RulePaths
+pub mod TargetGrammar
 pub mod Targets
 pub mod Texts

@@ -1,19 +1,21 @@
 -- Rule paths (RFC 8341 section 3.5.2): `/` and a name for each node, and predicates `[name='value']` for those of its keys that are given.
-use Rattle.std.specs.Prelude.{ℕ, List, [], ◌∷◌, Bool, true, false, ◌&&◌, ◌||◌, ◌==◌, length, nat_lt, if◌then◌else◌, codes, Option, Some, None, option_map, option_and_then, Result, Ok, Err}
+use Rattle.std.specs.Prelude.{ℕ, List, [], ◌∷◌, Bool, true, false, ◌&&◌, ◌||◌, ◌==◌, length, nat_lt, if◌then◌else◌, codes, Option, Some, None, option_map, option_and_then, is_none, Result, Ok, Err}
 use Rattle.std.specs.List.{position_or_len, before_first, after_first}
 use Rattle.yp_base.specs.Types.{same_text}
 use Rattle.yp_base.specs.declared.atom.Atom.{Atom}
 use Rattle.yp_schema.specs.declared.schema.SchemaNode.{SchemaNode}
 use Rattle.yp_schema.specs.declared.rule_path.RuleSeg.{RuleSeg}
 use Rattle.yp_schema.specs.Nodes.{node_at, same_number, is_in}
+use Rattle.yp_schema.specs.WellFormed.{is_empty}
 use Rattle.yp_path.specs.declared.fault.PathFault.{PathFault}
 use Rattle.yp_path.specs.declared.fault.PathFault.TheVariants.{Syntax, UnknownNode, KeyCount, KeyValue}
 use Rattle.yp_path.specs.declared.mark.Place.{Place}
 use Rattle.yp_path.specs.declared.mark.Place.TheVariants.{Outside, Within, Quoted}
 use Rattle.yp_path.specs.declared.predicate.Predicate.{Predicate}
-use Rattle.yp_path.specs.Cuts.{onto_first}
+use Rattle.yp_base.specs.Cuts.{onto_first}
+use Rattle.yp_path.specs.Grammar.{RulePart}
 use Rattle.yp_path.specs.Names.{child_named}
-use Rattle.yp_path.specs.Results.{◌>>=◌, or_fault}
+use Rattle.yp_base.specs.Results.{◌>>=◌, or_fault}
 use Rattle.yp_path.specs.Targets.{some_name, asked, value_of}
 
 -- ---- what stands between marks
@@ -34,26 +36,22 @@ is_bare Outside = true
 is_bare Within = true
 is_bare (Quoted q) = false
 
--- a text cut at each mark that stands in no value; behind it brackets begin anew
+-- a text cut at each mark that stands in no value; after it brackets begin anew
 abbrev pub pieces : ℕ → Place → List ℕ → List (List ℕ)
 pieces mark place [] = [] ∷ []
 pieces mark place (b ∷ bs) = if b == mark && is_bare place then [] ∷ pieces mark Outside bs else onto_first b (pieces mark (next_place place b) bs)
 
 -- ---- predicates
 
-abbrev pub is_nothing : {X : Type 0} → List X → Bool
-is_nothing [] = true
-is_nothing (x ∷ xs) = false
-
--- what stands behind an opening bracket
+-- what stands after an opening bracket
 abbrev pub opened : List ℕ → Option (List ℕ)
 opened [] = None
 opened (b ∷ bs) = if b == 91 then Some bs else None
 
--- what stands within brackets, by what stands behind the first opening one, cut at the closing ones
+-- what stands within brackets, by what stands after the first opening one, cut at the closing ones
 abbrev pub bodies : List ℕ → List (List ℕ) → Option (List (List ℕ))
 bodies body [] = None
-bodies body (piece ∷ more) = option_map (λ others. body ∷ others) (if is_nothing piece && is_nothing more then Some [] else option_and_then (λ next. bodies next more) (opened piece))
+bodies body (piece ∷ more) = option_map (λ others. body ∷ others) (if is_empty piece && is_empty more then Some [] else option_and_then (λ next. bodies next more) (opened piece))
 
 abbrev pub all_bodies : List (List ℕ) → Option (List (List ℕ))
 all_bodies [] = None
@@ -65,21 +63,21 @@ without_spaces [] = []
 without_spaces (b ∷ bs) = if b == 32 then without_spaces bs else b ∷ bs
 
 abbrev pub are_spaces : List ℕ → Bool
-are_spaces bs = is_nothing (without_spaces bs)
+are_spaces bs = is_empty (without_spaces bs)
 
--- what stands before the first mark and behind it, if there is one
+-- what stands before the first mark and after it, if there is one
 abbrev pub around : ℕ → List ℕ → Option (List ℕ × List ℕ)
 around mark bs = if nat_lt (position_or_len (λ b. b == mark) bs) (length bs) then Some (before_first (λ b. b == mark) bs, after_first (λ b. b == mark) bs) else None
 
--- a name, behind which only spaces stand
+-- a name, after which only spaces stand
 abbrev pub name_in : List ℕ → Option (List ℕ)
 name_in bs = if are_spaces (after_first (λ b. b == 32) bs) then some_name (before_first (λ b. b == 32) bs) else None
 
--- a value up to this quote, behind which only spaces stand
+-- a value up to this quote, after which only spaces stand
 abbrev pub closed : ℕ → List ℕ → Option (List ℕ)
 closed q bs = option_and_then (λ (value, rest). if are_spaces rest then Some value else None) (around q bs)
 
--- a value between two equal quotes, behind which only spaces stand
+-- a value between two equal quotes, after which only spaces stand
 abbrev pub value_in : List ℕ → Option (List ℕ)
 value_in [] = None
 value_in (q ∷ bs) = if is_quote q then closed q bs else None
@@ -95,14 +93,14 @@ abbrev pub predicates_in : List (List ℕ) → Option (List Predicate)
 predicates_in [] = Some []
 predicates_in (body ∷ others) = option_and_then (λ predicate. option_map (λ more. predicate ∷ more) (predicates_in others)) (predicate_in body)
 
--- the predicates behind the first opening bracket
+-- the predicates after the first opening bracket
 abbrev pub predicates_behind : List ℕ → Option (List Predicate)
 predicates_behind text = option_and_then predicates_in (all_bodies (pieces 93 Within text))
 
 abbrev pub is_bracket : ℕ → Bool
 is_bracket b = b == 91
 
--- the predicates behind a segment's name
+-- the predicates after a segment's name
 abbrev pub predicates_of : List ℕ → Option (List Predicate)
 predicates_of part = if nat_lt (position_or_len is_bracket part) (length part) then predicates_behind (after_first is_bracket part) else Some []
 
@@ -124,10 +122,6 @@ key_named nodes n ks name = among ks (node_named nodes n name)
 abbrev pub given_for : List SchemaNode → ℕ → List ℕ → ℕ → List Predicate → Option (List ℕ)
 given_for nodes n ks k [] = None
 given_for nodes n ks k (predicate ∷ others) = if same_number (key_named nodes n ks predicate.name) (Some k) then Some predicate.value else given_for nodes n ks k others
-
-abbrev pub is_none : {X : Type 0} → Option X → Bool
-is_none None = true
-is_none (Some x) = false
 
 -- whether there is a key, for which none of these predicates stands
 abbrev pub is_new : List SchemaNode → ℕ → List ℕ → List Predicate → Option ℕ → Bool
@@ -156,13 +150,21 @@ abbrev pub with_predicates : List SchemaNode → ℕ → List ℕ → List Predi
 with_predicates nodes n ks predicates =
     if each_once nodes n ks predicates then (or_fault KeyValue (rule_keys nodes n ks predicates ks) >>= λ keys. Ok (record { node = n; keys = keys })) else Err KeyCount
 
--- a segment below a node, or at the top; its least fault is the answer
+-- the segment that a part names below a node, or at the top; its least fault is the answer
+abbrev pub rule_part_in : List SchemaNode → Option ℕ → RulePart → Result RuleSeg PathFault
+rule_part_in nodes parent part = or_fault UnknownNode (child_named parent part.name nodes) >>= λ n. with_predicates nodes n (asked n nodes) part.predicates
+
+-- the segments that parts name, each below the one before; the leftmost with a fault decides
+abbrev pub rule_parts_in : List SchemaNode → Option ℕ → List RulePart → Result (List RuleSeg) PathFault
+rule_parts_in nodes parent [] = Ok []
+rule_parts_in nodes parent (part ∷ parts) = rule_part_in nodes parent part >>= λ seg. rule_parts_in nodes (Some seg.node) parts >>= λ segs. Ok (seg ∷ segs)
+
+-- the segment that a text without its `/` is; a text that is no part comes before all other faults
 abbrev pub rule_segment_in : List SchemaNode → Option ℕ → List ℕ → Result RuleSeg PathFault
 rule_segment_in nodes parent part =
     or_fault Syntax (some_name (before_first is_bracket part)) >>= λ name.
     or_fault Syntax (predicates_of part) >>= λ predicates.
-    or_fault UnknownNode (child_named parent name nodes) >>= λ n.
-    with_predicates nodes n (asked n nodes) predicates
+    rule_part_in nodes parent (record { name = name; predicates = predicates })
 
 -- segments from the left, each below the one before; the leftmost with a fault decides
 abbrev pub rule_segments_in : List SchemaNode → Option ℕ → List (List ℕ) → Result (List RuleSeg) PathFault

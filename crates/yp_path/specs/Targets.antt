@@ -12,10 +12,11 @@ use Rattle.yp_schema.specs.declared.schema.Kind.{Kind}
 use Rattle.yp_schema.specs.declared.schema.Kind.TheVariants.{Container, Presence, List as Listing, Leaf, LeafList}
 use Rattle.yp_path.specs.declared.fault.PathFault.{PathFault}
 use Rattle.yp_path.specs.declared.fault.PathFault.TheVariants.{Syntax, UnknownNode, KeyCount, KeyValue, Memory}
-use Rattle.yp_path.specs.Cuts.{cut}
+use Rattle.yp_base.specs.Cuts.{cut}
 use Rattle.yp_path.specs.Escapes.{escaped, key_read}
 use Rattle.yp_path.specs.Names.{child_named}
-use Rattle.yp_path.specs.Results.{◌>>=◌, or_fault}
+use Rattle.yp_path.specs.TargetGrammar.{TargetPart}
+use Rattle.yp_base.specs.Results.{◌>>=◌, or_fault}
 
 -- ---- reading
 
@@ -26,7 +27,7 @@ is_equals b = b == 61
 abbrev pub name_part : List ℕ → List ℕ
 name_part part = before_first is_equals part
 
--- the keys behind it, with commas between them; none where there is no `=`
+-- the keys after it, with commas between them; none where there is no `=`
 abbrev pub key_parts : List ℕ → List (List ℕ)
 key_parts part = if nat_lt (position_or_len is_equals part) (length part) then cut 44 (after_first is_equals part) else []
 
@@ -70,13 +71,21 @@ with_values nodes n ks texts =
     or_fault KeyValue (values_read nodes ks counted) >>= λ keys.
     Ok (record { node = n; keys = keys })
 
--- a segment below a node, or at the top; its least fault is the answer
+-- the segment that a part names below a node, or at the top; its least fault is the answer
+abbrev pub target_part_in : List SchemaNode → Option ℕ → TargetPart → Result Seg PathFault
+target_part_in nodes parent part = or_fault UnknownNode (child_named parent part.name nodes) >>= λ n. with_values nodes n (asked n nodes) part.keys
+
+-- the segments that parts name, each below the one before; the leftmost with a fault decides
+abbrev pub target_parts_in : List SchemaNode → Option ℕ → List TargetPart → Result (List Seg) PathFault
+target_parts_in nodes parent [] = Ok []
+target_parts_in nodes parent (part ∷ parts) = target_part_in nodes parent part >>= λ seg. target_parts_in nodes (Some seg.node) parts >>= λ segs. Ok (seg ∷ segs)
+
+-- the segment that a text without its `/` is; a text that is no part comes before all other faults
 abbrev pub segment_in : List SchemaNode → Option ℕ → List ℕ → Result Seg PathFault
 segment_in nodes parent part =
     or_fault Syntax (some_name (name_part part)) >>= λ name.
     or_fault Syntax (keys_read (key_parts part)) >>= λ texts.
-    or_fault UnknownNode (child_named parent name nodes) >>= λ n.
-    with_values nodes n (asked n nodes) texts
+    target_part_in nodes parent (record { name = name; keys = texts })
 
 -- segments from the left, each below the one before; the leftmost with a fault decides
 abbrev pub segments_in : List SchemaNode → Option ℕ → List (List ℕ) → Result (List Seg) PathFault
@@ -99,7 +108,7 @@ Gives (Err Memory) read = Unit {0}
 
 -- ---- writing
 
--- keys, the first behind `=` and each other behind a comma
+-- keys, the first after `=` and each other after a comma
 abbrev pub keys_text : ℕ → List Atom → List ℕ
 keys_text mark [] = []
 keys_text mark (key ∷ keys) = mark ∷ (escaped (atom_text key) ++ keys_text 44 keys)

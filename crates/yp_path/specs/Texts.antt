@@ -3,7 +3,7 @@ use Rattle.std.specs.Prelude.{ℕ, List, [], Option, Some, None}
 use Rattle.std.specs.Borrow.{Bor}
 use Rattle.yp_path.specs.declared.texts.Texts.{Texts}
 use Rattle.yp_path.specs.declared.texts.Texts.TheVariants.{Bare, Read}
-use Rattle.yp_path.specs.Cuts.{cut}
+use Rattle.yp_base.specs.Cuts.{cut}
 
 -- keys without escapes stand for themselves, between commas; others were read
 abbrev pub texts_of : Texts → List (List ℕ)

@@ -1,7 +1,7 @@
 //! Texts cut at a mark.
 ghost use Rattle.std.specs.Prelude.{◌≡◌, ◌<◌, ◌==◌, ◌∷◌, false, length, IfOk, MatchOption, position};
 ghost use Rattle.std.specs.List.{position_or_len, before_first, after_first};
-ghost use Rattle.yp_path.specs.Cuts.{begins, cut};
+ghost use Rattle.yp_base.specs.Cuts.{begins, cut};
 
 use std::alloc::Global;
 use yp_base::leaf_type::Names;
@@ -17,7 +17,7 @@ fn first_place(bytes: &[u8], mark: u8) -> Option<usize>
     bytes.iter().position(|byte| *byte == mark)
 }
 
-/// What stands before the first mark, and what stands behind it.
+/// What stands before the first mark, and what stands after it.
 pub fn cut_once(text: &str, mark: char) -> Option<(&str, &str)>
     requires { mark < 128 }
     ensures { MatchOption result (position_or_len (λ b. b == mark) text.now ≡ length text.now)
@@ -29,7 +29,7 @@ pub fn cut_once(text: &str, mark: char) -> Option<(&str, &str)>
     }
 }
 
-/// What stands behind a mark that comes first.
+/// What stands after a mark that comes first.
 pub fn behind(text: &str, mark: char) -> Option<&str>
     requires { mark < 128 }
     ensures { MatchOption result (begins mark text.now ≡ false) (λ x. text.now ≡ mark ∷ x.now) }

@@ -8,20 +8,20 @@ pub enum PathFault {
     /// No leading `/`, or an empty name. In a target also a `%` without two hexadecimal digits in a key,
     /// or a key that isn't UTF-8 after decoding; in a rule's path a predicate that is not of the form
     /// `[name='value']` or `[name="value"]`.
-    #[error("the path is malformed")]
+    #[error("the path has a syntax error")]
     Syntax,
     /// The name is neither the member form nor the qualified name of a child.
-    #[error("the path names an unknown node")]
+    #[error("the path names a node that the schema does not have")]
     UnknownNode,
     /// In a target there are more or fewer keys than the node has; in a rule's path a predicate names no
     /// key of the node, or a key twice.
-    #[error("the path has a wrong number of keys")]
+    #[error("the path has a wrong number of keys for a node")]
     KeyCount,
     /// A key isn't a value of its type.
-    #[error("the path has a key of a wrong value")]
+    #[error("a key of the path is not a value of its type")]
     KeyValue,
     /// Memory ran out.
-    #[error("no memory")]
+    #[error("out of memory")]
     Memory,
 }
 

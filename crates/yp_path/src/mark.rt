@@ -6,7 +6,7 @@ ghost use Rattle.yp_path.specs.declared.mark.Place.TheVariants.{Outside};
 /// Where a byte of a rule path's text stands.
 #[derive(Clone, Copy)]
 pub enum Place {
-    /// Before, between or behind brackets.
+    /// Before, between or after brackets.
     Outside,
     /// Within brackets, in no value.
     Within,
@@ -82,7 +82,7 @@ fn first_mark(text: &[u8], mark: u8, start: Place) -> Option<usize>
     None
 }
 
-/// What stands before the first mark that is in no value, and what stands behind it.
+/// What stands before the first mark that is in no value, and what stands after it.
 pub fn cut_bare(text: &str, mark: u8, start: Place) -> Option<(&str, &str)>
     requires { mark < 128 }
     ensures { MatchOption result (pieces mark start text.now ≡ text.now ∷ [])

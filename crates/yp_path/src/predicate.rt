@@ -21,7 +21,7 @@ pub struct Predicate {
 /// The predicates of a segment, in the order of its text.
 pub type Predicates = Series<Predicate>;
 
-/// What stands behind a text's spaces.
+/// What stands after a text's spaces.
 #[tactic(auto, using(crate::proofs::Predicates::no_spaces))]
 fn without_spaces(text: &str) -> &str
     ensures { result.now ≡ without_spaces text.now }
@@ -45,7 +45,7 @@ fn some_name(name: &str) -> Option<&str>
     if name.is_empty() { None } else { Some(name) }
 }
 
-/// A name, behind which only spaces stand.
+/// A name, after which only spaces stand.
 fn name_in(text: &str) -> Option<&str>
     ensures { MatchOption result (name_in text.now ≡ None) (λ x. name_in text.now ≡ Some x.now) }
 {
@@ -61,7 +61,7 @@ fn name_in(text: &str) -> Option<&str>
     }
 }
 
-/// A value up to this quote, behind which only spaces stand.
+/// A value up to this quote, after which only spaces stand.
 fn closed(text: &str, quote: char) -> Option<&str>
     requires { quote < 128 }
     ensures { MatchOption result (closed quote text.now ≡ None) (λ x. closed quote text.now ≡ Some x.now) }
@@ -72,7 +72,7 @@ fn closed(text: &str, quote: char) -> Option<&str>
     }
 }
 
-/// A value between two equal quotes, behind which only spaces stand.
+/// A value between two equal quotes, after which only spaces stand.
 fn value_in(text: &str) -> Option<&str>
     ensures { MatchOption result (value_in text.now ≡ None) (λ x. value_in text.now ≡ Some x.now) }
 {
@@ -110,7 +110,7 @@ fn read_predicate(alloc: Global, body: &str) -> Result<Option<Predicate>, NoMemo
     }
 }
 
-/// The predicates behind the first opening bracket.
+/// The predicates after the first opening bracket.
 #[tactic(auto, using(crate::proofs::Predicates::unclosed, crate::proofs::Predicates::broken, crate::proofs::Predicates::last_one, crate::proofs::Predicates::one_more, crate::proofs::Predicates::unopened))]
 fn read_behind(alloc: Global, text: &str) -> Result<Option<Predicates>, NoMemory>
     ensures { IfOk result (λ read. read ≡ predicates_behind text.now) }

@@ -1,6 +1,7 @@
 //! Rule paths: reading.
 ghost use Rattle.std.specs.Prelude.{◌≡◌, ◌<◌, length, All, IfOk, IfSome, Some, None, option_copied};
 ghost use Rattle.yp_schema.specs.Nodes.{node_at, same_number, is_in};
+ghost use Rattle.yp_schema.specs.RulePaths.{IsRulePathOf};
 ghost use Rattle.yp_path.specs.RulePaths.{pieces, node_named, key_named, given_for, is_new, each_once, key_value, rule_keys, with_predicates, rule_segment_in, rule_segments_in, rule_path_in};
 ghost use Rattle.yp_path.specs.Targets.{Gives, asked};
 ghost use Rattle.yp_path.specs.declared.mark.Place.TheVariants.{Outside};
@@ -15,6 +16,7 @@ use std::alloc::Global;
 use yp_base::atom::Atom;
 use yp_base::memory::NoMemory;
 use yp_base::series::Series;
+use yp_base::text::read_text_fits;
 use yp_schema::rule_path::{RuleKeys, RulePath, RuleSeg};
 use yp_schema::schema::{Kind, Schema};
 
@@ -262,8 +264,11 @@ fn read_segments(alloc: Global, schema: &Schema, text: &str) -> Result<RulePath,
 #[tactic(auto, using(crate::proofs::RuleSegments::unrooted))]
 pub fn read_rule_path(alloc: Global, schema: &Schema, text: &str) -> Result<RulePath, PathFault>
     ensures read { Gives result (rule_path_in schema.now text.now) }
+    ensures path { IfOk result (λ path. IsRulePathOf schema.now path) }
     ensures nodes { IfOk result (λ path. All (λ segment. segment.node < length schema.now) path) }
 {
+    // What is read of a text fits its type.
+    read_text_fits();
     match behind(text, '/') {
         Some(rest) => read_segments(alloc, schema, rest),
         None => Err(PathFault::Syntax),

@@ -1,10 +1,10 @@
 //! Targets: reading and writing.
 ghost use Rattle.std.specs.Prelude.{◌≡◌, ◌<◌, ◌++◌, ◌∷◌, [], length, All, IfOk, OnOk, IfSome, None, Ok, true, option_map, string_bytes};
 ghost use Rattle.yp_base.specs.Texts.{is_writable};
-ghost use Rattle.yp_path.specs.Cuts.{cut};
+ghost use Rattle.yp_base.specs.Cuts.{cut};
 ghost use Rattle.yp_schema.specs.Datastore.{is_path_of};
 ghost use Rattle.yp_schema.specs.Nodes.{node_at};
-ghost use Rattle.yp_path.specs.Results.{or_fault};
+ghost use Rattle.yp_base.specs.Results.{or_fault};
 ghost use Rattle.yp_path.specs.Texts.{texts_of, parts_of};
 ghost use Rattle.yp_path.specs.Targets.{Gives, value_of, values_read, with_values, asked, name_part, key_parts, segment_in, segments_in, target_in, keys_text, segment_text, target_text, are_texts, keys_read};
 
@@ -18,7 +18,7 @@ use yp_base::atom::{Atom, Keys};
 use yp_base::memory::NoMemory;
 use yp_base::path::{Path, Seg};
 use yp_base::series::Series;
-use yp_base::text::{TextFault, read_text, write_text};
+use yp_base::text::{TextFault, read_text, read_text_fits, write_text};
 use yp_base::txt::Txt;
 use yp_schema::schema::{Kind, Schema};
 
@@ -226,6 +226,20 @@ fn read_segment(
     }
 }
 
+/// The same, with keys that its copies share.
+fn read_shared(
+    alloc: Global,
+    schema: &Schema,
+    parent: Option<u32>,
+    part: &str,
+) -> Result<Seg, PathFault>
+    requires { IfSome parent (λ parent. parent < length schema.now) }
+    ensures read { Gives result (segment_in schema.now parent part.now) }
+    ensures node { IfOk result (λ segment. segment.node < length schema.now) }
+{
+    Ok(read_segment(alloc, schema, parent, part)?.share(alloc)?)
+}
+
 /// The segments of a text without its leading `/`, from the top down.
 #[tactic(auto, using(crate::proofs::Segments::one_segment, crate::proofs::Segments::last_segment, crate::proofs::Segments::one_fault, crate::proofs::Segments::last_fault))]
 fn read_segments(alloc: Global, schema: &Schema, text: &str) -> Result<Path, PathFault>
@@ -235,22 +249,23 @@ fn read_segments(alloc: Global, schema: &Schema, text: &str) -> Result<Path, Pat
     let mut parent = None;
     let mut rest = text;
     while let Some((part, more)) = cut_once(rest, '/') {
-        let segment = read_segment(alloc, schema, parent, part)?;
+        let segment = read_shared(alloc, schema, parent, part)?;
         parent = Some(segment.node);
         segments.push(segment)?;
         rest = more;
     }
-    segments.push(read_segment(alloc, schema, parent, rest)?)?;
+    segments.push(read_shared(alloc, schema, parent, rest)?)?;
     Ok(Path::from_vec(segments))
 }
 
-/// The path that a text is. Names are in member form or qualified, keys percent-decoded and read by
-/// their types. The fault is the first of the leftmost segment that has one.
+/// The path that a text is.
 #[tactic(auto, using(crate::proofs::Segments::rooted, crate::proofs::Segments::unrooted, crate::proofs::Segments::rootless))]
-pub fn read_target(alloc: Global, schema: &Schema, text: &str) -> Result<Path, PathFault>
+fn read_own(alloc: Global, schema: &Schema, text: &str) -> Result<Path, PathFault>
     ensures read { Gives result (target_in schema.now text.now) }
     ensures path { IfOk result (λ path. is_path_of schema.now path ≡ true) }
 {
+    // What is read of a text fits its type.
+    read_text_fits();
     match cut_once(text, '/') {
         Some((front, rest)) => {
             if front.is_empty() {
@@ -263,7 +278,17 @@ pub fn read_target(alloc: Global, schema: &Schema, text: &str) -> Result<Path, P
     }
 }
 
-/// Writes keys, the first behind this mark and each other behind a comma.
+/// The path that a text is; its copies share its segments and their keys. Names are in member form or
+/// qualified, keys percent-decoded and read by their types. The fault is the first of the leftmost
+/// segment that has one.
+pub fn read_target(alloc: Global, schema: &Schema, text: &str) -> Result<Path, PathFault>
+    ensures read { Gives result (target_in schema.now text.now) }
+    ensures path { IfOk result (λ path. is_path_of schema.now path ≡ true) }
+{
+    Ok(read_own(alloc, schema, text)?.share(alloc)?)
+}
+
+/// Writes keys, the first after this mark and each other after a comma.
 fn push_keys(alloc: Global, text: &mut String, keys: &Keys) -> Result<(), NoMemory>
     requires { All (λ key. is_writable key ≡ true) keys.now }
     ensures written { OnOk result (string_bytes text.new ≡ string_bytes text.old ++ keys_text 61 keys.now) }

@@ -166,7 +166,7 @@ fn a_key_has_at_most_256_bytes(rt: HostRuntime) -> Result<(), Fail> {
     Ok(())
 }
 
-/// Writes a segment's name, and behind it each of its keys in brackets, `*` for all values.
+/// Writes a segment's name, and after it each of its keys in brackets, `*` for all values.
 fn push_shown(
     rt: &impl Abort,
     alloc: Global,

@@ -1,6 +1,6 @@
 //! The texts of the keys of a segment.
 ghost use Rattle.std.specs.Prelude.{◌≡◌, ◌==◌, IfOk, length, count_by, option_map};
-ghost use Rattle.yp_path.specs.Cuts.{cut};
+ghost use Rattle.yp_base.specs.Cuts.{cut};
 ghost use Rattle.yp_path.specs.Targets.{keys_read};
 ghost use Rattle.yp_path.specs.Texts.{texts_of};
 

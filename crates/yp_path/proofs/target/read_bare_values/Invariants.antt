@@ -1,7 +1,7 @@
 use Rattle.std.proofs.Common.{◌≡◌, ◌++◌, drop, option_map}
 use denote.Text.{Utf8}
 use denote.Shadow.{shadow}
-use Rattle.yp_path.specs.Cuts.{cut}
+use Rattle.yp_base.specs.Cuts.{cut}
 use Rattle.yp_path.specs.Targets.{values_read}
 use Rattle.yp_path.proofs.target.read_bare_values.Given as goal
 

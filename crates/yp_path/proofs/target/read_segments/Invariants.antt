@@ -1,7 +1,7 @@
 use Rattle.std.proofs.Common.{◌≡◌, ◌<◌, length, IfSome, None}
 use denote.Text.{Utf8}
 use denote.Shadow.{shadow}
-use Rattle.yp_path.specs.Cuts.{cut}
+use Rattle.yp_base.specs.Cuts.{cut}
 use Rattle.yp_path.specs.Targets.{segments_in}
 use Rattle.yp_path.proofs.Segments.{behind}
 use Rattle.yp_path.proofs.target.read_segments.Given as goal

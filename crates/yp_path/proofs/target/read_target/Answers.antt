@@ -1,6 +1,0 @@
-use Rattle.yp_base.proofs.TextLaws.{read_fits}
-use Rattle.yp_path.proofs.Reading.{path_answered}
-use Rattle.yp_path.proofs.target.read_target.Goals as goal
-
-pub returns-then-is_empty-clause-path : goal.returns-then-is_empty-clause-path
-returns-then-is_empty-clause-path c = path_answered read_fits c.args.schema.now c.in-Some.rest.now c.read_segments.result c.read_segments.ensures
