@@ -15,7 +15,9 @@ use Rattle.std.proofs.lemmas.Bool.{and_parts}
 use Rattle.serde_json.specs.Data.{Data, null, boolean, number, string, array, object, Items, no_items, item, Members, no_members, member}
 use Rattle.serde_json.specs.Find.{get_member}
 use Rattle.yp_data_json.specs.declared.fault.DataFault.TheVariants.{UnknownElement, InvalidValue, RepeatedKey}
-use Rattle.yp_data_json.specs.Reading.{◌>>=◌, typed_value, typed_atom, keys_in, below, row_at, leaf_read, entered, value_read, values_read, in_object, in_array, in_plain, plain_read, for_child, members_read, node_read, entries_read, entry_read}
+use Rattle.yp_schema.specs.Values.{typed_value, typed_atom}
+use Rattle.yp_base.specs.Results.{◌>>=◌}
+use Rattle.yp_data_json.specs.Reading.{valid, keys_in, below, row_at, leaf_read, entered, value_read, values_read, in_object, in_array, in_plain, plain_read, for_child, members_read, node_read, entries_read, entry_read}
 use Rattle.yp_data_json.specs.Holding.{HasNamesOnce, ItemsHaveNamesOnce, MembersHaveNamesOnce, IsValue, IsEntryWith, IsAtomOf, NoneIs, AreApart, OfKind, AreAtomsOf, AreMembersOf, IsDataOf, AreEntriesOf, IsEntryOf, IsLeafRow, ValuesHold, MembersHold, DataHolds, EntriesHold, EntryHolds}
 use Rattle.yp_data_json.proofs.Readings.{bound, ok_rows, given, child_is}
 use Rattle.yp_data_json.proofs.ReadStands.{entered_is}
@@ -43,7 +45,7 @@ module _ (nodes : List SchemaNode) where
 
   leaf_accepted : (n : ℕ) (path : List Seg) (d : Data) (rows after : List Row) → Free path n rows → leaf_read nodes n path d rows ≡ Ok after → IsValue nodes n d × Adds (IsLeafRow nodes n path d) rows after
   leaf_accepted n path d rows after free h =
-      bound (typed_value (node_at n nodes).ty d) (λ value. Ok (put_row (row_at (below path n []) value) rows)) after h
+      bound (valid (typed_value (node_at n nodes).ty d)) (λ value. Ok (put_row (row_at (below path n []) value) rows)) after h
       (λ value e g.
       let is = typed_is (node_at n nodes).ty d value e in (
         (value, is),
@@ -79,7 +81,7 @@ module _ (nodes : List SchemaNode) where
 
   pub value_accepted : (n : ℕ) (path : List Seg) (d : Data) (rows after : List Row) → value_read nodes n path d rows ≡ Ok after → ValueRead n path d rows after
   value_accepted n path d rows after h =
-      bound (typed_atom (node_at n nodes).ty d) (λ atom. entered (below path n (atom ∷ [])) Member rows) after h
+      bound (valid (typed_atom (node_at n nodes).ty d)) (λ atom. entered (below path n (atom ∷ [])) Member rows) after h
       (λ atom e g.
       let is = atom_is (node_at n nodes).ty d atom e in
       record {

@@ -18,7 +18,9 @@ use Rattle.serde_json.specs.Data.{Data, null, boolean, number, string, array, ob
 use Rattle.serde_json.specs.Find.{get_member}
 use Rattle.yp_data_json.specs.declared.fault.DataFault.{DataFault}
 use Rattle.yp_data_json.specs.declared.fault.DataFault.TheVariants.{UnknownElement, InvalidValue}
-use Rattle.yp_data_json.specs.Reading.{◌>>=◌, typed_value, typed_atom, keys_in, below, row_at, leaf_read, entered, value_read, values_read, in_object, in_array, in_plain, plain_read, for_child, members_read, node_read, entries_read, entry_read}
+use Rattle.yp_schema.specs.Values.{typed_value, typed_atom}
+use Rattle.yp_base.specs.Results.{◌>>=◌}
+use Rattle.yp_data_json.specs.Reading.{valid, keys_in, below, row_at, leaf_read, entered, value_read, values_read, in_object, in_array, in_plain, plain_read, for_child, members_read, node_read, entries_read, entry_read}
 use Rattle.yp_data_json.specs.Holding.{HasNamesOnce, ItemsHaveNamesOnce, MembersHaveNamesOnce, IsOfType, IsValue, IsEntryWith, IsAtomOf, NoneIs, AreApart, OfKind, AreAtomsOf, AreMembersOf, IsDataOf, AreEntriesOf, IsEntryOf, EntryHolds}
 use Rattle.yp_data_json.proofs.Readings.{child_is}
 use Rattle.yp_data_json.proofs.Adding.{Adds, Free, still_none, same_keys, none_here}
@@ -84,7 +86,7 @@ path_keys path n keys other rest e = same_keys path n n keys other [] rest (appe
 module _ (nodes : List SchemaNode) where
   leaf_gives : (n : ℕ) (path : List Seg) (d : Data) (rows : List Row) → IsValue nodes n d → Gives (leaf_read nodes n path d rows)
   leaf_gives n path d rows is =
-      next (typed_value (node_at n nodes).ty d) is.0 (λ value. Ok (put_row (row_at (below path n []) value) rows)) (typed_of (node_at n nodes).ty d is.0 is.1) (put_row (row_at (below path n []) is.0) rows, refl)
+      next (valid (typed_value (node_at n nodes).ty d)) is.0 (λ value. Ok (put_row (row_at (below path n []) value) rows)) (typed_of (node_at n nodes).ty d is.0 is.1) (put_row (row_at (below path n []) is.0) rows, refl)
 
   plain_gives : (n : ℕ) (path : List Seg) (d : Data) (rows : List Row) → OfKind (node_at n nodes).kind ⊥ ⊥ (IsValue nodes n d) ⊥ → Gives (plain_read nodes n path d rows)
   plain_gives n path d rows is =
@@ -98,7 +100,7 @@ module _ (nodes : List SchemaNode) where
 
   pub value_gives : (n : ℕ) (path : List Seg) (d : Data) (rows : List Row) (a : Atom) → IsAtomOf nodes n d a → value_at (below path n (a ∷ [])) rows ≡ None → Gives (value_read nodes n path d rows)
   value_gives n path d rows a is none =
-      next (typed_atom (node_at n nodes).ty d) a (λ atom. entered (below path n (atom ∷ [])) Member rows) (atom_of (node_at n nodes).ty d a is)
+      next (valid (typed_atom (node_at n nodes).ty d)) a (λ atom. entered (below path n (atom ∷ [])) Member rows) (atom_of (node_at n nodes).ty d a is)
       (put_row (row_at (below path n (a ∷ [])) Member) rows, entered_free (below path n (a ∷ [])) Member rows none)
 
   values_gives : (n : ℕ) (path : List Seg) (ds : Items) (rows : List Row) → AreAtomsOf nodes n ds → AreApart (IsAtomOf nodes n) ds → Absent (IsAtomOf nodes n) (λ atom. below path n (atom ∷ [])) ds rows → Gives (values_read nodes n path ds rows)

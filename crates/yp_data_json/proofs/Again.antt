@@ -30,13 +30,16 @@ use Rattle.serde_json.specs.Find.{get_member, of_integer}
 use Rattle.serde_json.proofs.Views.{get_member-put, get_member-put_other}
 use Rattle.yp_data_json.specs.declared.fault.DataFault.{DataFault}
 use Rattle.yp_data_json.specs.declared.fault.DataFault.TheVariants.{UnknownElement}
-use Rattle.yp_data_json.specs.Reading.{◌>>=◌, valid, typed_value, only_atom, typed_atom, key_in, at_key, both, keys_found, fault_alone, keys_in, below, row_at, leaf_read, entered, value_read, values_read, for_child, members_read, node_read, entries_read, entry_read}
+use Rattle.yp_schema.specs.Values.{typed_value, typed_atom}
+use Rattle.yp_schema.specs.SchemaLaws.{type_is}
+use Rattle.yp_base.specs.Results.{◌>>=◌}
+use Rattle.yp_data_json.specs.Reading.{valid, key_in, at_key, both, keys_found, fault_alone, keys_in, below, row_at, leaf_read, entered, value_read, values_read, for_child, members_read, node_read, entries_read, entry_read}
 use Rattle.yp_data_json.specs.Forest.{Forest, bare, branch}
 use Rattle.yp_data_json.specs.Writing.{leaf_data, key_data, one_key_data, with_keys, item_in_front, branch_members, members_in}
-use Rattle.yp_data_json.proofs.LastRows.{put_last_row, not_there_yet}
+use Rattle.yp_data_json.proofs.Readings.{valid_atom}
+use Rattle.yp_base.proofs.RowLaws.{put_last_row, not_there_yet}
 use Rattle.yp_data_json.proofs.RowsIn.{rows_in, front_cmp}
 use Rattle.yp_data_json.proofs.Fits.{BranchFits, Fits, KeysStand, keys_stand}
-use Rattle.yp_data_json.proofs.Schemas.{type_is}
 
 -- one step after another
 then_assoc : {A B C : Type 0} (r : Result A DataFault) (f : A → Result B DataFault) (g : B → Result C DataFault) → ((r >>= f) >>= g) ≡ (r >>= λ x. f x >>= g)
@@ -56,19 +59,20 @@ Reading = Result (List Row) DataFault
 
 -- ---- values and keys
 
-value_again_at : (o : Option LeafType) (v : Value) → ((ty : LeafType) → o ≡ Some ty → is_type ty ≡ true) → typed_fits o v ≡ true → typed_value o (leaf_data o (Some v)) ≡ Ok v
+value_again_at : (o : Option LeafType) (v : Value) → ((ty : LeafType) → o ≡ Some ty → is_type ty ≡ true) → typed_fits o v ≡ true → valid (typed_value o (leaf_data o (Some v))) ≡ Ok v
 value_again_at None v typed h = absurd (true≢false (sym h))
 value_again_at (Some ty) v typed h = ap valid (json_again ty v (typed ty refl) h)
 
-pub value_again : (nodes : List SchemaNode) → IsSchema nodes → (n : ℕ) (v : Value) → n < length nodes → typed_fits (node_at n nodes).ty v ≡ true → typed_value (node_at n nodes).ty (leaf_data (node_at n nodes).ty (Some v)) ≡ Ok v
+pub value_again : (nodes : List SchemaNode) → IsSchema nodes → (n : ℕ) (v : Value) → n < length nodes → typed_fits (node_at n nodes).ty v ≡ true → valid (typed_value (node_at n nodes).ty (leaf_data (node_at n nodes).ty (Some v))) ≡ Ok v
 value_again nodes schema n v within h = value_again_at (node_at n nodes).ty v (λ ty e. type_is nodes n ty schema within e) h
 
 plain_fits : (o : Option LeafType) (a : Atom) → atom_fits o a ≡ true → typed_fits o (Plain a) ≡ true
 plain_fits None a h = h
 plain_fits (Some ty) a h = h
 
-pub atom_again : (nodes : List SchemaNode) → IsSchema nodes → (n : ℕ) (a : Atom) → n < length nodes → atom_fits (node_at n nodes).ty a ≡ true → typed_atom (node_at n nodes).ty (key_data (node_at n nodes).ty a) ≡ Ok a
-atom_again nodes schema n a within h = ap (λ (r : Result Value DataFault). r >>= only_atom) (value_again nodes schema n (Plain a) within (plain_fits (node_at n nodes).ty a h))
+pub atom_again : (nodes : List SchemaNode) → IsSchema nodes → (n : ℕ) (a : Atom) → n < length nodes → atom_fits (node_at n nodes).ty a ≡ true → valid (typed_atom (node_at n nodes).ty (key_data (node_at n nodes).ty a)) ≡ Ok a
+atom_again nodes schema n a within h =
+    valid_atom (node_at n nodes).ty (key_data (node_at n nodes).ty a) a (value_again nodes schema n (Plain a) within (plain_fits (node_at n nodes).ty a h))
 
 -- keys of other names don't touch a member
 get_past : (nodes : List SchemaNode) (name : List ℕ) (ks : List ℕ) (keys : List Atom) (ms : Members) → AllByRecursion (λ j. (node_at j nodes).member ≡ name → ⊥) ks → get_member name (with_keys nodes ks keys ms) ≡ get_member name ms

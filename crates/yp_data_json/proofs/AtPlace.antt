@@ -17,9 +17,11 @@ use Rattle.yp_schema.specs.declared.schema.SchemaNode.{SchemaNode}
 use Rattle.yp_schema.specs.declared.schema.Kind.TheVariants.{Leaf}
 use Rattle.yp_schema.specs.Nodes.{node_at, may_hold}
 use Rattle.yp_schema.specs.WellFormed.{IsSchema}
-use Rattle.yp_schema.specs.Datastore.{goes_down, is_segment, is_path_of, is_place, last_node, holds_value, value_of_kind, typed_fits, IsRowOf, is_leaf_kind, last_kind_is, ends_in_leaf, has_row, AreWritable}
+use Rattle.yp_schema.specs.Datastore.{goes_down, is_segment, is_place, last_node, holds_value, value_of_kind, typed_fits, IsRowOf, is_leaf_kind, last_kind_is, ends_in_leaf, has_row, AreWritable}
+use Rattle.yp_schema.specs.SchemaLaws.{path_down}
 use Rattle.yp_data_json.specs.Forest.{forest_at}
-use Rattle.yp_data_json.specs.Writing.{leaf_data, last_segment, members_in, place_data, data_at, named_member, rows_json}
+use Rattle.yp_base.specs.Paths.{last_segment}
+use Rattle.yp_data_json.specs.Writing.{leaf_data, members_in, place_data, data_at, named_member, rows_json}
 use Rattle.std.specs.Prelude.{IfOk}
 use Rattle.serde_json.specs.Data.{Data, object}
 use Rattle.serde_json.specs.View.{view}
@@ -56,10 +58,6 @@ last_on (s ∷ t ∷ at) seg rest = last_on (t ∷ at) seg rest
 pub after_last : (parent : Option ℕ) (above : List Seg) (seg : Seg) → node_after parent (above ++ seg ∷ []) ≡ Some seg.node
 after_last parent [] seg = refl
 after_last parent (s ∷ above) seg = after_last (Some s.node) above seg
-
-path_down : (nodes : List SchemaNode) (path : List Seg) → is_path_of nodes path ≡ true → goes_down nodes None path ≡ true
-path_down nodes [] h = refl
-path_down nodes (seg ∷ path) h = h
 
 rest_ends : (nodes : List SchemaNode) (at rest : List Seg) (v : Value) → holds_value nodes (last_node (at ++ rest)) v ≡ true → EndsWell nodes rest v
 rest_ends nodes at [] v h = tt
@@ -105,7 +103,7 @@ rest_order at (row ∷ rows) within order = (all_less at row rows within.0 withi
 pub writable_below : (nodes : List SchemaNode) (at : List Seg) (rows : List Row) → AreWritable nodes at rows → AreBelow nodes (node_after None at) (length at) rows
 writable_below nodes at rows h = record { each = all_rest nodes at rows h.within h.of_schema; in_order = rest_order at rows h.within h.in_order }
 
-down_last : (nodes : List SchemaNode) (parent : Option ℕ) (above : List Seg) (seg : Seg) → goes_down nodes parent (above ++ seg ∷ []) ≡ true → is_segment nodes seg ≡ true
+pub down_last : (nodes : List SchemaNode) (parent : Option ℕ) (above : List Seg) (seg : Seg) → goes_down nodes parent (above ++ seg ∷ []) ≡ true → is_segment nodes seg ≡ true
 down_last nodes parent [] seg h = (and_parts _ _ (and_parts _ _ h).0).1
 down_last nodes parent (s ∷ above) seg h = down_last nodes (Some s.node) above seg (and_parts _ _ h).1
 

@@ -1,5 +1,5 @@
 -- Rows below one node.
-use Rattle.std.proofs.Common.{◌≡◌, ◌≢◌, ℕ, ◌+◌, ◌-◌, ◌<◌, ◌≤◌, List, [], ◌∷◌, ◌++◌, length, drop, map, Bool, true, false, true≢false, Option, Some, None, refl, sym, ap, subst, ◌∙◌, arith, nat_lt, Ordering, Less, Equal, Greater, nat_cmp, ◌&&◌}
+use Rattle.std.proofs.Common.{◌≡◌, ◌≢◌, ℕ, ◌+◌, ◌-◌, ◌<◌, ◌≤◌, List, [], ◌∷◌, ◌++◌, length, drop, map, Bool, true, false, true≢false, Option, Some, None, refl, sym, ap, subst, ◌∙◌, arith, Ordering, Less, Equal, Greater, nat_cmp, ◌&&◌}
 use Rattle.std.specs.Cmp.Lexicographic.{slice_cmp}
 use Rattle.std.specs.Ordering.{ordering_then}
 use Rattle.std.specs.List.{AllByRecursion}
@@ -7,7 +7,6 @@ use Rattle.std.specs.List.Sorted.{IsStrictlySortedBy}
 use Rattle.std.proofs.lemmas.Cmp.{tied_itself}
 use Rattle.std.proofs.lemmas.List.{drop-drop, length-drop}
 use Rattle.std.proofs.lemmas.Bool.{eqb-true, eq-eqb}
-use borrow.Author.Tests.{ltb-true}
 use Rattle.std.specs.Cmp.{ranked}
 use Rattle.yp_base.specs.declared.path.Seg.{Seg}
 use Rattle.yp_base.specs.declared.row.Value.{Value}
@@ -17,8 +16,9 @@ use Rattle.yp_base.specs.OrderLaws.{segments_total}
 use Rattle.yp_schema.specs.declared.schema.SchemaNode.{SchemaNode}
 use Rattle.yp_schema.specs.Nodes.{node_at, same_number}
 use Rattle.yp_schema.specs.WellFormed.{IsSchema}
-use Rattle.yp_schema.specs.Datastore.{goes_down, is_segment, keys_of_kind}
+use Rattle.yp_schema.specs.Datastore.{goes_down, is_segment}
 use Rattle.serde_json.specs.Data.{Data, Members, member}
+use Rattle.yp_schema.specs.SchemaLaws.{segment_within}
 use Rattle.yp_data_json.specs.Runs.{EndsWell, IsRest, rest_of, AreBelow, begins_with, goes_through, ends_through, HasSegment, StandsBefore}
 use Rattle.yp_data_json.proofs.Parts.{all_front, all_back, sorted_front, sorted_back, less_middle}
 
@@ -154,16 +154,13 @@ next_segment nodes parent seg rest h =
     both_right (same_number (node_at seg.node nodes).parent parent) (is_segment nodes seg)
     (both_left (same_number (node_at seg.node nodes).parent parent && is_segment nodes seg) (goes_down nodes (Some seg.node) rest) h)
 
-pub segment_node : (nodes : List SchemaNode) (seg : Seg) → is_segment nodes seg ≡ true → seg.node < length nodes
-segment_node nodes seg h = ltb-true seg.node (length nodes) (both_left (nat_lt seg.node (length nodes)) (keys_of_kind (node_at seg.node nodes).kind nodes (node_at seg.node nodes) seg.keys) h)
-
 -- a node that a row goes through, as a child of the parent
 through_parent : (nodes : List SchemaNode) (parent : Option ℕ) (n : ℕ) (path : List Seg) → goes_down nodes parent path ≡ true → begins_with n path ≡ true
     → (same_number (node_at n nodes).parent parent ≡ true) × (n < length nodes)
 through_parent nodes parent n [] down is = absurd (true≢false (sym is))
 through_parent nodes parent n (seg ∷ rest) down is =
     let same = eqb-true seg.node n is in
-    subst (λ k. (same_number (node_at k nodes).parent parent ≡ true) × (k < length nodes)) same (next_parent nodes parent seg rest down, segment_node nodes seg (next_segment nodes parent seg rest down))
+    subst (λ k. (same_number (node_at k nodes).parent parent ≡ true) × (k < length nodes)) same (next_parent nodes parent seg rest down, segment_within nodes seg (next_segment nodes parent seg rest down))
 
 before_at : (nodes : List SchemaNode) → IsSchema nodes → (parent : Option ℕ) (n : ℕ) (d : Data) (ms : Members) (path : List Seg)
     → goes_down nodes parent path ≡ true → IsEarlier n path → same_number (node_at n nodes).parent parent ≡ true → n < length nodes

@@ -2,9 +2,7 @@
 use Rattle.std.proofs.Common.{◌≡◌, ℕ, List, [], ◌∷◌, ◌++◌, true, refl, sym, ap, subst, ◌∙◌}
 use Rattle.std.specs.Prelude.{Option, Some, None, is_some}
 use Rattle.std.specs.List.{AllByRecursion}
-use Rattle.std.specs.Ordering.{eq_by_cmp, is_eq}
-use Rattle.std.proofs.lemmas.Cmp.{tied_itself}
-use Rattle.yp_base.specs.OrderLaws.{segments_total}
+use Rattle.std.specs.Ordering.{eq_by_cmp}
 use Rattle.std.proofs.lemmas.Bool.{and_parts, and_from}
 use Rattle.yp_base.specs.declared.atom.Atom.{Atom}
 use Rattle.yp_base.specs.declared.path.Seg.{Seg}
@@ -12,6 +10,7 @@ use Rattle.yp_base.specs.declared.row.Value.{Value}
 use Rattle.yp_base.specs.declared.row.Row.{Row}
 use Rattle.yp_base.specs.Order.{is_front, is_within, segment_cmp}
 use Rattle.yp_base.specs.Rows.{AreInOrder, put_row}
+pub use Rattle.yp_base.proofs.PathLaws.{within_itself as within_self}
 use Rattle.yp_schema.specs.declared.schema.SchemaNode.{SchemaNode}
 use Rattle.yp_schema.specs.Nodes.{node_at, same_number}
 use Rattle.yp_schema.specs.Datastore.{is_segment, goes_down, is_path_of, last_node, IsRowOf, ends_in_entry, has_row, HaveEntries}
@@ -96,7 +95,3 @@ front_more (x ∷ a) (y ∷ b) more h = and_from _ _ (and_parts _ _ h).0 (front_
 
 pub within_more : (at path more : List Seg) → is_within at path ≡ true → is_within at (path ++ more) ≡ true
 within_more at path more h = front_more at path more h
-
-pub within_self : (path : List Seg) → is_within path path ≡ true
-within_self [] = refl
-within_self (s ∷ path) = and_from _ _ (ap is_eq (tied_itself segments_total s)) (within_self path)

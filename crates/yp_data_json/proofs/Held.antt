@@ -23,27 +23,28 @@ use Rattle.yp_schema.specs.WellFormed.{IsSchema, is_leaf}
 use Rattle.serde_json.specs.Data.{Data, null, boolean, number, string, array, object, Items, no_items, item, Members, no_members, member}
 use Rattle.serde_json.specs.Find.{get_member}
 use Rattle.yp_data_json.specs.declared.fault.DataFault.{DataFault}
-use Rattle.yp_data_json.specs.Reading.{◌>>=◌, valid, typed_value, only_atom, typed_atom, key_in, at_key, both, keys_found, fault_alone, keys_in, below, row_at}
+use Rattle.yp_schema.specs.Values.{typed_value, typed_atom}
+use Rattle.yp_data_json.specs.Reading.{valid, key_in, at_key, both, keys_found, fault_alone, keys_in, below, row_at}
 use Rattle.yp_data_json.specs.Holding.{IsOfType, IsValue, HasKey, HasKeys, IsEntryWith, OfKind, IsDataOf, IsLeafRow, ValuesHold, MembersHold, DataHolds, EntriesHold, EntryHolds}
-use Rattle.yp_data_json.proofs.Readings.{bound, valid_some, only_is, at_key_ok, both_ok, alone_ok, found_place}
+use Rattle.yp_data_json.proofs.Readings.{valid_some, valid_atom, atom_some, at_key_ok, both_ok, alone_ok, found_place}
 use Rattle.yp_data_json.proofs.Steps.{key_leaves}
 use Rattle.yp_data_json.proofs.Whole.{key_among}
 
 -- ---- values
 
-pub typed_is : (ty : Option LeafType) (d : Data) (v : Value) → typed_value ty d ≡ Ok v → IsOfType ty d v
+pub typed_is : (ty : Option LeafType) (d : Data) (v : Value) → valid (typed_value ty d) ≡ Ok v → IsOfType ty d v
 typed_is None d v h = let no : ⊥ = cc in absurd no
 typed_is (Some ty) d v h = valid_some (value_in ty d) v h
 
-pub typed_of : (ty : Option LeafType) (d : Data) (v : Value) → IsOfType ty d v → typed_value ty d ≡ Ok v
+pub typed_of : (ty : Option LeafType) (d : Data) (v : Value) → IsOfType ty d v → valid (typed_value ty d) ≡ Ok v
 typed_of None d v h = absurd h
 typed_of (Some ty) d v h = ap valid h
 
-pub atom_is : (ty : Option LeafType) (d : Data) (a : Atom) → typed_atom ty d ≡ Ok a → IsOfType ty d (Plain a)
-atom_is ty d a h = bound (typed_value ty d) only_atom a h (λ v e g. typed_is ty d (Plain a) (subst (λ (w : Value). typed_value ty d ≡ Ok w) (only_is v a g) e))
+pub atom_is : (ty : Option LeafType) (d : Data) (a : Atom) → valid (typed_atom ty d) ≡ Ok a → IsOfType ty d (Plain a)
+atom_is ty d a h = typed_is ty d (Plain a) (ap valid (atom_some ty d a h))
 
-pub atom_of : (ty : Option LeafType) (d : Data) (a : Atom) → IsOfType ty d (Plain a) → typed_atom ty d ≡ Ok a
-atom_of ty d a h = ap (λ (r : Result Value DataFault). r >>= only_atom) (typed_of ty d (Plain a) h)
+pub atom_of : (ty : Option LeafType) (d : Data) (a : Atom) → IsOfType ty d (Plain a) → valid (typed_atom ty d) ≡ Ok a
+atom_of ty d a h = valid_atom ty d a (typed_of ty d (Plain a) h)
 
 pub one_value : (ty : Option LeafType) (d : Data) (v w : Value) → IsOfType ty d v → IsOfType ty d w → v ≡ w
 one_value None d v w h k = absurd h

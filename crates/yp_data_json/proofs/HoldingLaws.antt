@@ -18,10 +18,12 @@ use Rattle.yp_schema.specs.declared.schema.Kind.TheVariants.{Container, Presence
 use Rattle.yp_schema.specs.declared.schema.SchemaNode.{SchemaNode}
 use Rattle.yp_data_json.specs.declared.fault.DataFault.{DataFault}
 use Rattle.yp_data_json.specs.declared.fault.DataFault.TheVariants.{UnknownElement, InvalidValue}
-use Rattle.yp_data_json.specs.Reading.{◌>>=◌, typed_atom, keys_in, below, row_at, entered, value_read, members_read, node_read, entry_read}
+use Rattle.yp_schema.specs.Values.{typed_atom}
+use Rattle.yp_base.specs.Results.{◌>>=◌}
+use Rattle.yp_data_json.specs.Reading.{valid, keys_in, below, row_at, entered, value_read, members_read, node_read, entry_read}
 use Rattle.yp_data_json.specs.AtPath.{are_keys, named_entry, named_value, array_of_one, by_kind, named_read, outer_read, is_bare, object_read, rows_read}
-use Rattle.yp_data_json.specs.Writing.{last_segment}
-use Rattle.yp_data_json.specs.Holding.{HasNamesOnce, MembersHaveNamesOnce, IsEntryWith, IsAtomOf, OfKind, IsDataOf, IsEntryOf, DataHolds, EntryHolds, IsOneItem, IsNamed, IsOneMember, SomeHolds, above_last, IsDataAt, HoldsAt, IsObject}
+use Rattle.yp_base.specs.Paths.{last_segment, above_last}
+use Rattle.yp_data_json.specs.Holding.{HasNamesOnce, MembersHaveNamesOnce, IsEntryWith, IsAtomOf, OfKind, IsDataOf, IsEntryOf, DataHolds, EntryHolds, IsOneItem, IsNamed, IsOneMember, SomeHolds, IsDataAt, HoldsAt, IsObject}
 use Rattle.yp_data_json.proofs.Places.{rows_last, place_within}
 use Rattle.yp_data_json.proofs.Readings.{bound, ok_rows}
 use Rattle.yp_data_json.proofs.Wholes.{read_whole, keys_same}
@@ -108,7 +110,7 @@ module _ (nodes : List SchemaNode) (schema : IsSchema nodes) where
 
     value_named : (e : Data) (after : List Row) → named_value nodes seg.node above seg.keys e [] ≡ Ok after → (value_read nodes seg.node above e [] ≡ Ok after) × IsOwnAtom e
     value_named e after h =
-        bound (typed_atom (node_at seg.node nodes).ty e) (λ atom. if are_keys (atom ∷ []) seg.keys then entered (below above seg.node (atom ∷ [])) Member [] else Err InvalidValue) after h
+        bound (valid (typed_atom (node_at seg.node nodes).ty e)) (λ atom. if are_keys (atom ∷ []) seg.keys then entered (below above seg.node (atom ∷ [])) Member [] else Err InvalidValue) after h
         (λ atom f g.
         tested (are_keys (atom ∷ []) seg.keys) InvalidValue (entered (below above seg.node (atom ∷ [])) Member []) after g
         (λ t i. (
@@ -119,7 +121,7 @@ module _ (nodes : List SchemaNode) (schema : IsSchema nodes) where
     value_gives_named : (e : Data) → IsOwnAtom e → Gives (named_value nodes seg.node above seg.keys e [])
     value_gives_named e is =
         let put = row_at (below above seg.node (is.0 ∷ [])) Member ∷ [] in
-        next (typed_atom (node_at seg.node nodes).ty e) is.0 (λ atom. if are_keys (atom ∷ []) seg.keys then entered (below above seg.node (atom ∷ [])) Member [] else Err InvalidValue)
+        next (valid (typed_atom (node_at seg.node nodes).ty e)) is.0 (λ atom. if are_keys (atom ∷ []) seg.keys then entered (below above seg.node (atom ∷ [])) Member [] else Err InvalidValue)
         (atom_of (node_at seg.node nodes).ty e is.0 is.1)
         (put, ap (λ b. cond b (ok_rows put) (Err InvalidValue)) (ap (are_keys (is.0 ∷ [])) is.2 ∙ keys_tie (is.0 ∷ [])))
 
@@ -299,3 +301,6 @@ is_accepted nodes at d rows schema place once is order same =
     (λ row k. ⊎_elim (λ l. absurd (none_some row.value l)) (λ l. among_contained rows row order ((same row).1 l)) (adds.only row k))
     (λ row k. adds.come row ((same row).0 (contained rows row k))) in
     read.1 ∙ ap ok_rows equal
+
+pub is_read : (nodes : List SchemaNode) (at : List Seg) (d : Data) → IsSchema nodes → is_place nodes at ≡ true → HasNamesOnce d → IsDataAt nodes at d → (rows : List Row) × (rows_read nodes at d ≡ Ok rows)
+is_read nodes at d schema place once is = gives nodes schema at d place once is

@@ -5,7 +5,6 @@ pub mod Again
 pub mod AtPlace
 pub mod Below
 pub mod Branches
-pub mod Entries
 pub mod Faults
 pub mod Fits
 pub mod Growing
@@ -13,7 +12,6 @@ pub mod Held
 pub mod HoldingLaws
 pub mod KeyLaws
 pub mod KeysPut
-pub mod LastRows
 pub mod Laying
 pub mod Members
 pub mod Names
@@ -24,7 +22,6 @@ pub mod PutRows
 pub mod ReadStands
 pub mod Readings
 pub mod SameRows
-pub mod Schemas
 pub mod Steps
 pub mod Under
 pub mod Wholes

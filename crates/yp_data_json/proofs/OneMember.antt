@@ -16,12 +16,15 @@ use Rattle.yp_base.specs.Rows.{put_row}
 use Rattle.yp_schema.specs.declared.schema.SchemaNode.{SchemaNode}
 use Rattle.yp_schema.specs.declared.schema.Kind.TheVariants.{Leaf}
 use Rattle.yp_schema.specs.Nodes.{node_at, qualified_name}
-use Rattle.yp_schema.specs.WellFormed.{is_empty}
-use Rattle.yp_schema.specs.Datastore.{keys_of_kind, is_segment, goes_down, is_place}
+use Rattle.yp_schema.specs.Datastore.{keys_of_kind, is_segment, is_place}
 use Rattle.yp_data_json.specs.declared.fault.DataFault.{DataFault}
 use Rattle.yp_data_json.specs.declared.fault.DataFault.TheVariants.{UnknownElement, InvalidValue}
-use Rattle.yp_data_json.specs.Reading.{◌>>=◌, typed_value, row_at, below, leaf_read, in_plain, in_array, in_object, entries_read, values_read, members_read, node_read}
+use Rattle.yp_schema.specs.Values.{typed_value}
+use Rattle.yp_base.specs.Results.{◌>>=◌}
+use Rattle.yp_data_json.specs.Reading.{valid, row_at, below, leaf_read, in_plain, in_array, in_object, entries_read, values_read, members_read, node_read}
 use Rattle.yp_data_json.specs.AtPath.{leaf_row, by_kind, array_of_one, named_entry, named_value, named_read, rows_read}
+use Rattle.yp_data_json.proofs.Steps.{empty_keys}
+use Rattle.yp_data_json.proofs.AtPlace.{down_last}
 use Rattle.yp_data_json.proofs.Again.{path_is}
 use Rattle.yp_data_json.proofs.Places.{rows_last}
 
@@ -73,7 +76,7 @@ no_value Text ms = refl
 no_value (Names names) ms = refl
 no_value Empty ms = refl
 
-no_object : (ty : Option LeafType) (ms : Members) → typed_value ty (object ms) ≡ Err InvalidValue
+no_object : (ty : Option LeafType) (ms : Members) → valid (typed_value ty (object ms)) ≡ Err InvalidValue
 no_object None ms = refl
 no_object (Some ty) ms = rw (no_value ty ms) refl
 
@@ -88,21 +91,13 @@ node_leaf nodes n path (object ms) rows leaf =
     ap (λ k. in_object k (members_read nodes (Some n) (below path n []) ms rows) (members_read nodes (Some n) (below path n []) ms (put_row (row_at (below path n []) Present) rows)) (Err InvalidValue)) leaf
     ∙ sym (ap (λ (r : Result Value DataFault). r >>= λ value. Ok (put_row (row_at (below path n []) value) rows)) (no_object (node_at n nodes).ty ms))
 
-no_keys : (keys : List Atom) → is_empty keys ≡ true → keys ≡ []
-no_keys [] is = refl
-no_keys (key ∷ keys) is = let wrong : false ≡ true = is in cc
-
-down_segment : (nodes : List SchemaNode) (parent : Option ℕ) (above : List Seg) (seg : Seg) → goes_down nodes parent (above ++ seg ∷ []) ≡ true → is_segment nodes seg ≡ true
-down_segment nodes parent [] seg h = (and_parts _ _ (and_parts _ _ h).0).1
-down_segment nodes parent (s ∷ above) seg h = down_segment nodes (Some s.node) above seg (and_parts _ _ h).1
-
 place_segment : (nodes : List SchemaNode) (above : List Seg) (seg : Seg) → is_place nodes (above ++ seg ∷ []) ≡ true → is_segment nodes seg ≡ true
-place_segment nodes [] seg h = down_segment nodes None [] seg (and_parts _ _ h).0
-place_segment nodes (s ∷ above) seg h = down_segment nodes None (s ∷ above) seg (and_parts _ _ h).0
+place_segment nodes [] seg h = down_last nodes None [] seg (and_parts _ _ h).0
+place_segment nodes (s ∷ above) seg h = down_last nodes None (s ∷ above) seg (and_parts _ _ h).0
 
 leaf_keys : (nodes : List SchemaNode) (above : List Seg) (seg : Seg) → is_place nodes (above ++ seg ∷ []) ≡ true → (node_at seg.node nodes).kind ≡ Leaf → seg.keys ≡ []
 leaf_keys nodes above seg place leaf =
-    no_keys seg.keys (subst (λ k. keys_of_kind k nodes (node_at seg.node nodes) seg.keys ≡ true) leaf (and_parts _ _ (place_segment nodes above seg place)).1)
+    empty_keys seg.keys (subst (λ k. keys_of_kind k nodes (node_at seg.node nodes) seg.keys ≡ true) leaf (and_parts _ _ (place_segment nodes above seg place)).1)
 
 -- ---- one member
 

@@ -2,9 +2,8 @@
 use Rattle.std.proofs.Common.{◌≡◌, ℕ, ◌<◌, length, List, [], ◌∷◌, ◌++◌, true, refl, ap, ◌∙◌, append_assoc}
 use Rattle.std.specs.Prelude.{Option, Some, None, not, All}
 use Rattle.std.specs.List.{AllByRecursion}
-use Rattle.std.proofs.lemmas.Bool.{and_parts, and_from, ltb-true, lt-ltb}
+use Rattle.std.proofs.lemmas.Bool.{and_parts, and_from, lt-ltb}
 use Rattle.std.proofs.lemmas.List.Elements.{All-from_recursion}
-use Rattle.yp_base.specs.declared.row.Value.{Value}
 use Rattle.yp_schema.specs.declared.schema.Kind.TheVariants.{Container}
 use Rattle.yp_schema.specs.Nodes.{node_at, same_number, is_key}
 use Rattle.yp_data_json.specs.Reading.{below}
@@ -12,7 +11,8 @@ use Rattle.serde_json.specs.Data.{Data}
 use Rattle.yp_base.specs.declared.path.Seg.{Seg}
 use Rattle.yp_schema.specs.declared.schema.SchemaNode.{SchemaNode}
 use Rattle.yp_base.specs.declared.row.Row.{Row}
-use Rattle.yp_schema.specs.Datastore.{keys_of_kind, is_segment, goes_down, is_path_of, last_node, is_key_at, ends_in_key, is_place, holds_value, IsRowOf, AreWritable, AreWhole}
+use Rattle.yp_schema.specs.Datastore.{keys_of_kind, goes_down, is_place, IsRowOf, AreWritable, AreWhole}
+use Rattle.yp_schema.specs.SchemaLaws.{segment_within, row_place}
 use Rattle.yp_data_json.specs.AtPath.{object_read, last_read, rows_read}
 
 last_is : (nodes : List SchemaNode) (front : List Seg) (s : Seg) (above : List Seg) (seg : Seg) (d : Data) → last_read nodes front s (above ++ seg ∷ []) d ≡ object_read nodes seg.node (front ++ s ∷ above) seg.keys d
@@ -23,9 +23,6 @@ last_is nodes front s (t ∷ above) seg d = last_is nodes (front ++ s ∷ []) t 
 pub rows_last : (nodes : List SchemaNode) (above : List Seg) (seg : Seg) (d : Data) → rows_read nodes (above ++ seg ∷ []) d ≡ object_read nodes seg.node above seg.keys d
 rows_last nodes [] seg d = refl
 rows_last nodes (s ∷ above) seg d = last_is nodes [] s above seg d
-
-segment_within : (nodes : List SchemaNode) (seg : Seg) → is_segment nodes seg ≡ true → seg.node < length nodes
-segment_within nodes seg h = ltb-true seg.node (length nodes) (and_parts _ _ h).0
 
 down_within : (nodes : List SchemaNode) (parent : Option ℕ) (above : List Seg) (seg : Seg) → goes_down nodes parent (above ++ seg ∷ []) ≡ true → seg.node < length nodes
 down_within nodes parent [] seg h = segment_within nodes seg (and_parts _ _ (and_parts _ _ h).0).1
@@ -42,17 +39,9 @@ place_within nodes (s ∷ above) seg h = down_within nodes None (s ∷ above) se
 pub whole_writable : (nodes : List SchemaNode) (at : List Seg) (rows : List Row) → AreWhole nodes at rows → AreWritable nodes at rows
 whole_writable nodes at rows whole = whole.writable
 
-open_end : (nodes : List SchemaNode) (end : Option ℕ) (value : Value) → holds_value nodes end value ≡ true → not (is_key_at nodes end) ≡ true
-open_end nodes None value h = refl
-open_end nodes (Some n) value h = (and_parts _ _ h).0
-
-open_path : (nodes : List SchemaNode) (path : List Seg) → is_path_of nodes path ≡ true → not (ends_in_key nodes path) ≡ true → is_place nodes path ≡ true
-open_path nodes [] is free = refl
-open_path nodes (seg ∷ path) is free = and_from _ _ is free
-
 each_place : (nodes : List SchemaNode) (rows : List Row) → AllByRecursion (IsRowOf nodes) rows → AllByRecursion (λ row. is_place nodes row.path ≡ true) rows
 each_place nodes [] all = tt
-each_place nodes (row ∷ rows) all = (open_path nodes row.path all.0.path (open_end nodes (last_node row.path) row.value all.0.value), each_place nodes rows all.1)
+each_place nodes (row ∷ rows) all = (row_place nodes row all.0, each_place nodes rows all.1)
 
 -- data may stand at the path of each row
 pub row_places : (nodes : List SchemaNode) (rows : List Row) → AreWhole nodes [] rows → All (λ row. is_place nodes row.path ≡ true) rows

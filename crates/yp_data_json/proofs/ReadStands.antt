@@ -16,7 +16,9 @@ use Rattle.yp_schema.specs.Nodes.{node_at, same_number, child_of, is_key}
 use Rattle.yp_schema.specs.Datastore.{keys_of_kind, is_segment, is_path_of, is_key_node, value_of_kind, holds_value, is_entry_kind, last_kind_is, ends_in_entry, has_row}
 use Rattle.serde_json.specs.Data.{Data, null, boolean, number, string, array, object, Items, no_items, item, Members, no_members, member}
 use Rattle.yp_data_json.specs.declared.fault.DataFault.TheVariants.{UnknownElement, InvalidValue, RepeatedKey}
-use Rattle.yp_data_json.specs.Reading.{◌>>=◌, typed_value, typed_atom, keys_in, below, row_at, leaf_read, entered, value_read, values_read, in_object, in_array, in_plain, plain_read, for_child, members_read, node_read, entries_read, entry_read}
+use Rattle.yp_schema.specs.Values.{typed_value, typed_atom}
+use Rattle.yp_base.specs.Results.{◌>>=◌}
+use Rattle.yp_data_json.specs.Reading.{valid, keys_in, below, row_at, leaf_read, entered, value_read, values_read, in_object, in_array, in_plain, plain_read, for_child, members_read, node_read, entries_read, entry_read}
 use Rattle.yp_data_json.proofs.PutRows.{put_there}
 use Rattle.yp_data_json.proofs.Growing.{Stand, Grown, Entered, grown_still, grown_on, cut, put_grown, last_of, path_more, within_more}
 use Rattle.yp_data_json.proofs.Readings.{bound, ok_rows, given, value_typed, atom_typed, keys_typed, same_is, child_is}
@@ -88,7 +90,7 @@ module _ (nodes : List SchemaNode) (at : List Seg) where
 
   leaf_grown : (n : ℕ) (path : List Seg) (d : Data) (rows after : List Row) → Spot nodes at n path [] rows → (node_at n nodes).kind ≡ Leaf → Stand nodes at rows → leaf_read nodes n path d rows ≡ Ok after → Grown nodes at rows after
   leaf_grown n path d rows after spot leaf stand h =
-      bound (typed_value (node_at n nodes).ty d) (λ value. Ok (put_row (row_at (below path n []) value) rows)) after h
+      bound (valid (typed_value (node_at n nodes).ty d)) (λ value. Ok (put_row (row_at (below path n []) value) rows)) after h
       (λ value e g. subst (λ (rs : List Row). Grown nodes at rows rs) (given _ after g)
       (put_spot n path [] value rows spot stand (held n Leaf value leaf (value_typed (node_at n nodes).ty d value e))))
 
@@ -108,7 +110,7 @@ module _ (nodes : List SchemaNode) (at : List Seg) where
 
   value_grown : (n : ℕ) (path : List Seg) (d : Data) (rows after : List Row) → Here nodes at n path rows → (node_at n nodes).kind ≡ LeafList → Stand nodes at rows → value_read nodes n path d rows ≡ Ok after → Grown nodes at rows after
   value_grown n path d rows after here kind stand h =
-      bound (typed_atom (node_at n nodes).ty d) (λ atom. entered (below path n (atom ∷ [])) Member rows) after h
+      bound (valid (typed_atom (node_at n nodes).ty d)) (λ atom. entered (below path n (atom ∷ [])) Member rows) after h
       (λ atom e g. entered_grown n path (atom ∷ []) Member rows after
       (here (atom ∷ []) (ap (λ k. keys_of_kind k nodes (node_at n nodes) (atom ∷ [])) kind ∙ atom_typed (node_at n nodes).ty d atom e))
       stand (held n LeafList Member kind refl) g)

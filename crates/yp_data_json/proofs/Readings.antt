@@ -1,6 +1,6 @@
 -- What is read below a place stands there: each function of the reading gives rows that are of the schema and come with those of their entries.
 use Rattle.std.proofs.Common.{◌≡◌, ℕ, suc, ◌+◌, ◌<◌, length, get_or, List, [], ◌∷◌, Bool, true, false, refl, sym, ap, subst, ◌∙◌, cond, arith}
-use Rattle.std.specs.Prelude.{Option, Some, None, Result, Ok, Err}
+use Rattle.std.specs.Prelude.{Option, Some, None, option_and_then, Result, Ok, Err}
 use Rattle.std.proofs.lemmas.Bool.{and_parts, and_from, eqb-true}
 use Rattle.yp_base.specs.declared.atom.Atom.{Atom}
 use Rattle.yp_base.specs.declared.leaf_type.LeafType.{LeafType}
@@ -15,7 +15,9 @@ use Rattle.yp_schema.specs.Datastore.{atom_fits, keys_fit, typed_fits}
 use Rattle.serde_json.specs.Data.{Data, Members}
 use Rattle.serde_json.specs.Find.{get_member}
 use Rattle.yp_data_json.specs.declared.fault.DataFault.{DataFault}
-use Rattle.yp_data_json.specs.Reading.{◌>>=◌, valid, typed_value, only_atom, typed_atom, KeyFault, at_key, key_in, both, keys_found, fault_alone, keys_in}
+use Rattle.yp_schema.specs.Values.{typed_value, only_atom, typed_atom}
+use Rattle.yp_base.specs.Results.{◌>>=◌}
+use Rattle.yp_data_json.specs.Reading.{valid, KeyFault, at_key, key_in, both, keys_found, fault_alone, keys_in}
 
 -- ---- steps
 
@@ -33,26 +35,37 @@ given x y h = cc
 
 -- ---- values
 
-pub valid_some : (o : Option Value) (v : Value) → valid o ≡ Ok v → o ≡ Some v
+pub valid_some : {X : Type 0} (o : Option X) (v : X) → valid o ≡ Ok v → o ≡ Some v
 valid_some None v h = let no : ⊥ = cc in absurd no
-valid_some (Some w) v h = let same : w ≡ v = cc in ap (λ (x : Value). Some x) same
+valid_some {X} (Some w) v h = let same : w ≡ v = cc in ap (λ (x : X). Some x) same
 
-pub value_typed : (ty : Option LeafType) (d : Data) (v : Value) → typed_value ty d ≡ Ok v → typed_fits ty v ≡ true
+pub value_typed : (ty : Option LeafType) (d : Data) (v : Value) → valid (typed_value ty d) ≡ Ok v → typed_fits ty v ≡ true
 value_typed None d v h = let no : ⊥ = cc in absurd no
 value_typed (Some ty) d v h = json_fits ty d v (valid_some (value_in ty d) v h)
 
-pub only_is : (v : Value) (a : Atom) → only_atom v ≡ Ok a → v ≡ Plain a
+only_is : (v : Value) (a : Atom) → only_atom v ≡ Some a → v ≡ Plain a
 only_is (Plain b) a h = let same : b ≡ a = cc in ap (λ (x : Atom). Plain x) same
 only_is Member a h = let no : ⊥ = cc in absurd no
 only_is Empty a h = let no : ⊥ = cc in absurd no
 only_is Present a h = let no : ⊥ = cc in absurd no
 
+only_some : (o : Option Value) (a : Atom) → option_and_then only_atom o ≡ Some a → o ≡ Some (Plain a)
+only_some None a h = let no : ⊥ = cc in absurd no
+only_some (Some v) a h = ap (λ (x : Value). Some x) (only_is v a h)
+
+-- an atom is a value
+pub atom_some : (ty : Option LeafType) (d : Data) (a : Atom) → valid (typed_atom ty d) ≡ Ok a → typed_value ty d ≡ Some (Plain a)
+atom_some ty d a h = only_some (typed_value ty d) a (valid_some (typed_atom ty d) a h)
+
+pub valid_atom : (ty : Option LeafType) (d : Data) (a : Atom) → valid (typed_value ty d) ≡ Ok (Plain a) → valid (typed_atom ty d) ≡ Ok a
+valid_atom ty d a h = ap (λ (o : Option Value). valid (option_and_then only_atom o)) (valid_some (typed_value ty d) (Plain a) h)
+
 plain_fits : (ty : Option LeafType) (a : Atom) → typed_fits ty (Plain a) ≡ atom_fits ty a
 plain_fits None a = refl
 plain_fits (Some ty) a = refl
 
-pub atom_typed : (ty : Option LeafType) (d : Data) (a : Atom) → typed_atom ty d ≡ Ok a → atom_fits ty a ≡ true
-atom_typed ty d a h = bound (typed_value ty d) only_atom a h (λ v e g. sym (plain_fits ty a) ∙ subst (λ (w : Value). typed_fits ty w ≡ true) (only_is v a g) (value_typed ty d v e))
+pub atom_typed : (ty : Option LeafType) (d : Data) (a : Atom) → valid (typed_atom ty d) ≡ Ok a → atom_fits ty a ≡ true
+atom_typed ty d a h = sym (plain_fits ty a) ∙ value_typed ty d (Plain a) (ap valid (atom_some ty d a h))
 
 -- ---- keys
 

@@ -23,7 +23,8 @@ use Rattle.yp_schema.specs.Datastore.{keys_of_kind, goes_down, value_of_kind, ho
 use Rattle.serde_json.specs.Data.{object, Members}
 use Rattle.yp_data_json.specs.declared.fault.DataFault.{DataFault}
 use Rattle.yp_data_json.specs.declared.fault.DataFault.TheVariants.{UnknownElement, InvalidValue}
-use Rattle.yp_data_json.specs.Reading.{◌>>=◌, keys_in, below, row_at, entered, in_object, members_read, node_read}
+use Rattle.yp_base.specs.Results.{◌>>=◌}
+use Rattle.yp_data_json.specs.Reading.{keys_in, below, row_at, entered, in_object, members_read, node_read}
 use Rattle.yp_data_json.specs.AtPath.{are_keys, named_entry, named_value, array_of_one, by_kind, named_read, rows_read}
 use Rattle.yp_data_json.specs.Forest.{forest_at}
 use Rattle.yp_data_json.specs.Runs.{IsRest}

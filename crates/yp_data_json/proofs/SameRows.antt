@@ -1,6 +1,6 @@
 -- Rows in order are told by what they contain.
 use Rattle.std.proofs.Common.{◌≡◌, ℕ, zero, suc, ◌<◌, length, List, [], ◌∷◌, true, true≢false, refl, sym, ap, subst, ◌∙◌, cond, arith}
-use Rattle.std.specs.Prelude.{Some, None, Contains, slice_index_or}
+use Rattle.std.specs.Prelude.{Some, Contains, slice_index_or}
 use Rattle.std.specs.Ordering.{is_eq}
 use Rattle.std.specs.declared.cmp.Ordering.TheVariants.{Less, Equal, Greater}
 use Rattle.std.proofs.lemmas.Cmp.{tied_itself}
@@ -9,14 +9,10 @@ use Rattle.yp_base.specs.declared.row.Row.{Row}
 use Rattle.yp_base.specs.Order.{path_cmp}
 use Rattle.yp_base.specs.OrderLaws.{paths_total}
 use Rattle.yp_base.specs.Rows.{value_at, AreInOrder}
-use Rattle.yp_base.proofs.RowLaws.{AllPast, all_past, below, first_order, rest_order}
+use Rattle.yp_base.proofs.RowLaws.{AllPast, all_past, none_past, first_order, rest_order}
+use Rattle.yp_base.proofs.PathLaws.{greater_turned}
 use Rattle.yp_data_json.proofs.PutRows.{same_or_apart}
 use Rattle.yp_data_json.proofs.Adding.{Among, none_some, some_value}
-
--- a path before all rows has none
-past_none : (path : List Seg) (rows : List Row) → AllPast path rows → value_at path rows ≡ None
-past_none path [] h = refl
-past_none path (row ∷ rows) h = ap (λ o. cond (is_eq o) (Some row.value) (value_at path rows)) h.0 ∙ past_none path rows h.1
 
 -- the first row is among the rows
 among_first : (row : Row) (rows : List Row) → Among row (row ∷ rows)
@@ -26,7 +22,7 @@ among_first row rows = ap (λ o. cond (is_eq o) (Some row.value) (value_at row.p
 among_apart : (first row : Row) (rows : List Row) → AllPast first.path rows → Among row rows → is_eq (path_cmp row.path first.path) ≡ true → ⊥
 among_apart first row rows past among tie =
     same_or_apart row.path first.path
-    (λ e. none_some row.value (sym (past_none first.path rows past) ∙ ap (λ (p : List Seg). value_at p rows) (sym e) ∙ among))
+    (λ e. none_some row.value (sym (none_past first.path rows past) ∙ ap (λ (p : List Seg). value_at p rows) (sym e) ∙ among))
     (λ e. true≢false (sym tie ∙ e))
 
 among_later : (first row : Row) (rows : List Row) → AllPast first.path rows → Among row rows → Among row (first ∷ rows)
@@ -76,7 +72,7 @@ part_rest x xs ys order part = λ row among.
 -- of two first rows neither path is before the other's
 not_less : (x y : Row) (xs ys : List Row) → AreInOrder (y ∷ ys) → IsPart (x ∷ xs) (y ∷ ys) → path_cmp x.path y.path ≡ Less → ⊥
 not_less x y xs ys order part less =
-    none_some x.value (sym (past_none x.path (y ∷ ys) (less, all_past x.path y.path ys less (first_order y ys order))) ∙ part x (among_first x xs))
+    none_some x.value (sym (none_past x.path (y ∷ ys) (less, all_past x.path y.path ys less (first_order y ys order))) ∙ part x (among_first x xs))
 
 first_same : (x y : Row) (xs ys : List Row) → AreInOrder (x ∷ xs) → AreInOrder (y ∷ ys) → IsPart (x ∷ xs) (y ∷ ys) → IsPart (y ∷ ys) (x ∷ xs) → x ≡ y
 first_same x y xs ys one two part back =
@@ -85,7 +81,7 @@ first_same x y xs ys one two part back =
       | Equal ↦ λ e.
           among_either y x ys (part x (among_first x xs)) (λ same. same)
           (λ k. absurd (among_apart y x ys (first_order y ys two) k (ap is_eq e)))
-      | Greater ↦ λ e. absurd (not_less y x ys xs one back (below x.path y.path e))
+      | Greater ↦ λ e. absurd (not_less y x ys xs one back (greater_turned x.path y.path e))
     ] refl
 
 -- rows in order with the same rows among them are the same list

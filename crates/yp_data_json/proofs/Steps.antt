@@ -25,7 +25,8 @@ use Rattle.yp_data_json.specs.Runs.{EndsWell, IsRest, AreBelow, AreNodes, longes
 use Rattle.yp_data_json.proofs.Parts.{all_back, ends_last}
 use Rattle.yp_data_json.proofs.Branches.{StartsElse, own_at, one_branch, laid_append, rows_start}
 use Rattle.yp_data_json.proofs.Members.{put_first, run_is, items_append, starts_else}
-use Rattle.yp_data_json.proofs.Below.{both_left, both_right, further, NextBefore, AllBefore, front_before, next_parent, next_segment, segment_node, segment_of, deep_enough}
+use Rattle.yp_schema.specs.SchemaLaws.{segment_within}
+use Rattle.yp_data_json.proofs.Below.{both_left, both_right, further, NextBefore, AllBefore, front_before, next_parent, next_segment, segment_of, deep_enough}
 
 -- ---- the most segments
 
@@ -214,7 +215,7 @@ child_holds nodes schema n m within same = holds_at nodes n m (node_at m nodes).
 pub leaf_ends : (nodes : List SchemaNode) → IsSchema nodes → (n : ℕ) (rest : List Seg) → may_hold (node_at n nodes).kind ≡ false → goes_down nodes (Some n) rest ≡ true → rest ≡ []
 leaf_ends nodes schema n [] leaf down = refl
 leaf_ends nodes schema n (seg ∷ rest) leaf down =
-    absurd (true≢false (sym (child_holds nodes schema n seg.node (segment_node nodes seg (next_segment nodes (Some n) seg rest down)) (next_parent nodes (Some n) seg rest down)) ∙ leaf))
+    absurd (true≢false (sym (child_holds nodes schema n seg.node (segment_within nodes seg (next_segment nodes (Some n) seg rest down)) (next_parent nodes (Some n) seg rest down)) ∙ leaf))
 
 -- a row through a leaf ends there
 pub leaf_row : (nodes : List SchemaNode) → IsSchema nodes → (parent : Option ℕ) (depth n : ℕ) (row : Row) → (node_at n nodes).kind ≡ Leaf → goes_through depth n row ≡ true → IsRest nodes parent depth row

@@ -15,8 +15,9 @@ use Rattle.yp_base.proofs.RowLaws.{AllPast, first_order}
 use Rattle.yp_schema.specs.declared.schema.SchemaNode.{SchemaNode}
 use Rattle.yp_schema.specs.Datastore.{HaveEntries}
 use Rattle.yp_data_json.specs.Reading.{row_at}
+use Rattle.yp_base.proofs.PathLaws.{within_itself}
 use Rattle.yp_data_json.proofs.AtPlace.{front_rest}
-use Rattle.yp_data_json.proofs.Growing.{within_more, within_self}
+use Rattle.yp_data_json.proofs.Growing.{within_more}
 use Rattle.yp_data_json.proofs.Laying.{StandsUnder, not_before}
 use Rattle.yp_data_json.proofs.PutRows.{same_or_apart}
 use Rattle.yp_data_json.proofs.Whole.{EntriesBelow, less_front}
@@ -71,7 +72,7 @@ some_more false value o h = h
 under_apart : (at path : List Seg) (seg : Seg) → is_within at path ≡ true → path ++ seg ∷ [] ≡ at → ⊥
 under_apart at path seg inside e =
     let found = front_rest at path inside in
-    too_short at found.0 seg (subst (λ (p : List Seg). is_within (p ++ seg ∷ []) at ≡ true) found.1 (subst (λ (p : List Seg). is_within p at ≡ true) (sym e) (within_self at)))
+    too_short at found.0 seg (subst (λ (p : List Seg). is_within (p ++ seg ∷ []) at ≡ true) found.1 (subst (λ (p : List Seg). is_within p at ≡ true) (sym e) (within_itself at)))
 
 pub entries_rest : (nodes : List SchemaNode) (at : List Seg) (value : Value) (rest : List Row) → HaveEntries nodes at (row_at at value ∷ rest) → EntriesBelow nodes at rest
 entries_rest nodes at value rest entries = λ path more seg inside entry h.

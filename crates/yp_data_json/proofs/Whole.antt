@@ -1,6 +1,6 @@
 -- Whole rows make a forest that fits.
 use Rattle.std.proofs.Common.{◌≡◌, ℕ, ◌<◌, List, [], ◌∷◌, ◌++◌, length, drop, map, Bool, true, false, true≢false, Option, Some, None, is_some, refl, sym, ap, subst, ◌∙◌, cond, arith, append_assoc, append-nil, not, ◌||◌, nat_eq, Ordering, Less, Equal, Greater}
-use Rattle.std.specs.Ordering.{eq_by_cmp, is_eq, is_lt, ordering_then, ordering_reverse}
+use Rattle.std.specs.Ordering.{eq_by_cmp, is_eq, is_lt, ordering_then}
 use Rattle.std.specs.List.{AllByRecursion}
 use Rattle.std.specs.List.Sorted.{IsStrictlySortedBy}
 use Rattle.std.proofs.lemmas.Cmp.{tied_itself}
@@ -18,7 +18,7 @@ use Rattle.yp_base.proofs.Exact.{segments_decide}
 use Rattle.yp_schema.specs.declared.schema.SchemaNode.{SchemaNode}
 use Rattle.yp_schema.specs.declared.schema.Kind.{Kind}
 use Rattle.yp_schema.specs.declared.schema.Kind.TheVariants.{Container, Presence, List as Listing, Leaf, LeafList}
-use Rattle.yp_schema.specs.Nodes.{node_at, child_of, is_key, is_in, same_number, may_hold}
+use Rattle.yp_schema.specs.Nodes.{node_at, child_of, is_key, is_in, may_hold}
 use Rattle.yp_schema.specs.WellFormed.{IsSchema, is_parent_of, is_empty, is_key_leaf, are_key_leaves, kind_stands}
 use Rattle.yp_schema.specs.Datastore.{atom_fits, keys_fit, one_fits, typed_fits, keys_of_kind, goes_down, is_key_node, is_present, is_member, value_of_kind, is_entry_kind, last_kind_is, ends_in_entry, has_row}
 use Rattle.yp_data_json.specs.Forest.{Forest, bare, branch, own_of, in_front, laid, forest_at}
@@ -26,11 +26,14 @@ use Rattle.yp_data_json.specs.Runs.{EndsWell}
 use Rattle.std.proofs.Math.Seq.{drop-append_seam}
 use Rattle.yp_base.specs.Order.{is_within}
 use Rattle.yp_data_json.specs.Runs.{IsRest}
-use Rattle.yp_data_json.proofs.Growing.{last_of, within_more, within_self}
+use Rattle.yp_base.proofs.PathLaws.{less_turned, within_itself}
+use Rattle.yp_data_json.proofs.Readings.{same_is}
+use Rattle.yp_data_json.proofs.Growing.{last_of, within_more}
 use Rattle.yp_data_json.proofs.Laying.{StandsUnder}
 use Rattle.yp_data_json.proofs.Parts.{less_middle}
 use Rattle.yp_data_json.proofs.AtPlace.{same_front}
-use Rattle.yp_data_json.proofs.Below.{next_parent, next_segment, segment_node}
+use Rattle.yp_schema.specs.SchemaLaws.{segment_within}
+use Rattle.yp_data_json.proofs.Below.{next_parent, next_segment}
 use Rattle.yp_data_json.proofs.Steps.{empty_keys, child_holds}
 use Rattle.yp_data_json.proofs.Fits.{BranchFits, Fits}
 
@@ -39,9 +42,6 @@ use Rattle.yp_data_json.proofs.Fits.{BranchFits, Fits}
 pub less_front : (p : List Seg) (s : Seg) (rest : List Seg) → path_cmp p (p ++ s ∷ rest) ≡ Less
 less_front [] s rest = refl
 less_front (x ∷ p) s rest = ap (λ o. ordering_then o (path_cmp p (p ++ s ∷ rest))) (tied_itself segments_total x) ∙ less_front p s rest
-
-flipped : (p q : List Seg) → path_cmp p q ≡ Less → path_cmp q p ≡ Greater
-flipped p q h = paths_total.antisymm q p ∙ ap ordering_reverse h
 
 abbrev IsBranch : Forest → Type 0
 IsBranch bare = ⊥
@@ -157,12 +157,6 @@ still nodes LeafList node seg kids other h = absurd (none_some Member h.1)
 
 -- ---- of a schema
 
-same_option : (a b : Option ℕ) → same_number a b ≡ true → a ≡ b
-same_option None None h = refl
-same_option None (Some b) h = absurd (true≢false (sym h))
-same_option (Some a) None h = absurd (true≢false (sym h))
-same_option (Some a) (Some b) h = ap (λ n. Some n) (eqb-true a b h)
-
 pub not_true : (b : Bool) → not b ≡ true → b ≡ false
 not_true true h = absurd (true≢false (sym h))
 not_true false h = refl
@@ -211,13 +205,13 @@ EntriesBelow nodes at rows =
 module _ (nodes : List SchemaNode) (schema : IsSchema nodes) where
   kind_holds : (seg next : Seg) (rest : List Seg) → goes_down nodes (Some seg.node) (next ∷ rest) ≡ true → may_hold (node_at seg.node nodes).kind ≡ true
   kind_holds seg next rest down =
-      child_holds nodes schema seg.node next.node (segment_node nodes next (next_segment nodes (Some seg.node) next rest down)) (next_parent nodes (Some seg.node) next rest down)
+      child_holds nodes schema seg.node next.node (segment_within nodes next (next_segment nodes (Some seg.node) next rest down)) (next_parent nodes (Some seg.node) next rest down)
 
   parent_of : (parent : Option ℕ) (seg : Seg) (rest : List Seg) → goes_down nodes parent (seg ∷ rest) ≡ true → (node_at seg.node nodes).parent ≡ parent
-  parent_of parent seg rest down = same_option (node_at seg.node nodes).parent parent (next_parent nodes parent seg rest down)
+  parent_of parent seg rest down = same_is (node_at seg.node nodes).parent parent (next_parent nodes parent seg rest down)
 
   within_of : (parent : Option ℕ) (seg : Seg) (rest : List Seg) → goes_down nodes parent (seg ∷ rest) ≡ true → seg.node < length nodes
-  within_of parent seg rest down = segment_node nodes seg (next_segment nodes parent seg rest down)
+  within_of parent seg rest down = segment_within nodes seg (next_segment nodes parent seg rest down)
 
   found_of : (parent : Option ℕ) (seg : Seg) (rest : List Seg) → goes_down nodes parent (seg ∷ rest) ≡ true → child_of parent (node_at seg.node nodes).member nodes ≡ Some seg.node
   found_of parent seg rest down = subst (λ p. child_of p (node_at seg.node nodes).member nodes ≡ Some seg.node) (parent_of parent seg rest down) (schema.each seg.node (within_of parent seg rest down)).found
@@ -401,10 +395,10 @@ module _ (nodes : List SchemaNode) (schema : IsSchema nodes) where
     gap_at : (before : List Row) (row next : Row) (more : List Row) → AreInOrder (before ++ row ∷ next ∷ more) → (q : List Seg) → path_cmp row.path q ≡ Less → path_cmp q next.path ≡ Less → value_at q (before ++ row ∷ next ∷ more) ≡ None
     unfolding IsStrictlySortedBy
     gap_at [] row next more order q lo hi =
-        ap (λ o. cond (is_eq o) (Some row.value) (value_at q (next ∷ more))) (flipped row.path q lo) ∙ none_after q (next ∷ more) (hi, later_all q next.path (map path_of more) hi order.1.0)
+        ap (λ o. cond (is_eq o) (Some row.value) (value_at q (next ∷ more))) (less_turned row.path q lo) ∙ none_after q (next ∷ more) (hi, later_all q next.path (map path_of more) hi order.1.0)
     gap_at (x ∷ before) row next more order q lo hi =
         let less = paths_total.trans x.path row.path q (less_middle path_cmp path_of x before row (next ∷ more) order.0) lo in
-        ap (λ o. cond (is_eq o) (Some x.value) (value_at q (before ++ row ∷ next ∷ more))) (flipped x.path q less) ∙ gap_at before row next more order.1 q lo hi
+        ap (λ o. cond (is_eq o) (Some x.value) (value_at q (before ++ row ∷ next ∷ more))) (less_turned x.path q less) ∙ gap_at before row next more order.1 q lo hi
 
     some_or : (b : Bool) (v : Value) (o : Option Value) → is_some o ≡ true → is_some (cond b (Some v) o) ≡ true
     some_or true v o h = refl
@@ -442,7 +436,7 @@ module _ (nodes : List SchemaNode) (schema : IsSchema nodes) where
     lay_row parent row seg rest g k is goes behind sp =
         let left = ap (drop (length at)) is ∙ drop-append_seam at (seg ∷ rest) in
         subst (λ path. Laid parent at (laid path row.value g) row.path) (sym left)
-        (lay parent at seg rest row.value g row.path k (within_self at) is (subst (λ path. goes_down nodes parent path ≡ true) left goes.0) (subst (λ path. EndsWell nodes path row.value) left goes.1) behind sp)
+        (lay parent at seg rest row.value g row.path k (within_itself at) is (subst (λ path. goes_down nodes parent path ≡ true) left goes.0) (subst (λ path. EndsWell nodes path row.value) left goes.1) behind sp)
 
     spine_rows : (parent : Option ℕ) (before rows : List Row) → full ≡ before ++ rows → AreInOrder full → AllByRecursion (IsRest nodes parent (length at)) rows → AllByRecursion (StandsUnder at) rows
         → Spine nodes parent (forest_at (length at) rows) × FirstIs rows (forest_at (length at) rows)
@@ -461,4 +455,4 @@ whole_fits nodes schema at parent (row ∷ rest) entries order all under =
     let sp = spine_rows nodes schema at full entries parent [] full refl order all under in
     close nodes schema at full entries (λ q. Unit {0}) (λ p q h lo. tt) row.path (there_at nodes schema at full entries [] row rest)
     (λ q lo h. ap is_some (none_after nodes schema at full entries q full (h, later_all nodes schema at full entries q row.path (map path_of rest) h order.0)))
-    parent at (forest_at (length at) full) (within_self at) (λ b. sym sp.1) (low_below nodes schema at full entries (λ q. Unit {0}) (λ p q h lo. tt) at (forest_at (length at) full) tt) sp.0
+    parent at (forest_at (length at) full) (within_itself at) (λ b. sym sp.1) (low_below nodes schema at full entries (λ q. Unit {0}) (λ p q h lo. tt) at (forest_at (length at) full) tt) sp.0

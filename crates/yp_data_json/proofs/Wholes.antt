@@ -17,16 +17,19 @@ use Rattle.yp_schema.specs.declared.schema.SchemaNode.{SchemaNode}
 use Rattle.yp_schema.specs.declared.schema.Kind.{Kind}
 use Rattle.yp_schema.specs.declared.schema.Kind.TheVariants.{Container, Presence, List as Listing, Leaf, LeafList}
 use Rattle.yp_schema.specs.Nodes.{node_at, qualified_name}
-use Rattle.yp_schema.specs.WellFormed.{is_empty}
 use Rattle.yp_schema.specs.Datastore.{value_of_kind, keys_of_kind, goes_down, is_path_of, is_key_at, ends_in_key, is_place, is_entry_kind, is_leaf_kind, last_kind_is, ends_in_entry, has_row, AreWhole}
 use Rattle.serde_json.specs.Data.{Data, null, boolean, number, string, array, object, Items, no_items, item, Members, no_members, member}
 use Rattle.yp_data_json.specs.declared.fault.DataFault.{DataFault}
 use Rattle.yp_data_json.specs.declared.fault.DataFault.TheVariants.{UnknownElement, InvalidValue}
-use Rattle.yp_data_json.specs.Reading.{◌>>=◌, typed_value, typed_atom, keys_in, below, row_at, leaf_read, entered, in_object, in_array, in_plain, members_read, node_read, entries_read, values_read, datastore_read}
+use Rattle.yp_schema.specs.Values.{typed_value, typed_atom}
+use Rattle.yp_base.specs.Results.{◌>>=◌}
+use Rattle.yp_data_json.specs.Reading.{valid, keys_in, below, row_at, leaf_read, entered, in_object, in_array, in_plain, members_read, node_read, entries_read, values_read, datastore_read}
 use Rattle.yp_data_json.specs.AtPath.{are_keys, named_entry, named_value, array_of_one, by_kind, named_read, outer_read, is_bare, object_read, rows_read}
+use Rattle.yp_base.proofs.PathLaws.{within_itself}
+use Rattle.yp_data_json.proofs.Steps.{empty_keys}
 use Rattle.yp_data_json.proofs.Places.{rows_last}
 use Rattle.yp_data_json.proofs.PutRows.{put_there}
-use Rattle.yp_data_json.proofs.Growing.{Stand, Grown, grown_still, grown_on, last_of, within_self}
+use Rattle.yp_data_json.proofs.Growing.{Stand, Grown, grown_still, grown_on, last_of}
 use Rattle.yp_data_json.proofs.Readings.{bound, ok_rows, given}
 use Rattle.yp_data_json.proofs.ReadStands.{Spot, Here, Under, spot_on, put_spot, under_spot, entered_grown, entered_there, members_grown, node_grown}
 
@@ -38,10 +41,6 @@ too_short (s ∷ front) rest seg h = too_short front rest seg (and_parts _ _ h).
 
 pub keys_same : (found keys : List Atom) → are_keys found keys ≡ true → found ≡ keys
 keys_same found keys h = (slice_eq-Decides (order_decides atoms_total atoms_exact) found keys (are_keys found keys) refl).0 h
-
-pub empty_is : (keys : List Atom) → is_empty keys ≡ true → keys ≡ []
-empty_is [] h = refl
-empty_is (a ∷ keys) h = cc
 
 -- whether a node of this kind, or an entry of it, has a row of its own
 abbrev is_own : Kind → Bool
@@ -94,7 +93,7 @@ module _ (nodes : List SchemaNode) (above : List Seg) (seg : Seg) where
     top_spot rows = record {
       free = sym (ap (is_key_at nodes) (last_of above seg)) ∙ (place_parts above place).1;
       place = (place_parts above place).0;
-      inside = within_self at;
+      inside = within_itself at;
       above = λ front rest e within entry. absurd (too_short front rest seg (subst (λ (p : List Seg). is_within (p ++ seg ∷ []) front ≡ true) (sym e) within));
     }
 
@@ -111,10 +110,10 @@ module _ (nodes : List SchemaNode) (above : List Seg) (seg : Seg) where
     -- the row of a leaf
     leaf_own : (d : Data) (rows after : List Row) → kind ≡ Leaf → leaf_read nodes seg.node above d rows ≡ Ok after → has_row at after ≡ true
     leaf_own d rows after e h =
-        bound (typed_value (node_at seg.node nodes).ty d) (λ value. Ok (put_row (row_at (below above seg.node []) value) rows)) after h
+        bound (valid (typed_value (node_at seg.node nodes).ty d)) (λ value. Ok (put_row (row_at (below above seg.node []) value) rows)) after h
         (λ value f g.
         subst (λ (rs : List Row). has_row at rs ≡ true) (given _ after g)
-        (subst (λ (p : List Seg). has_row p (put_row (row_at (below above seg.node []) value) rows) ≡ true) (bare_at Leaf e empty_is) (ap is_some (put_there (below above seg.node []) value rows))))
+        (subst (λ (p : List Seg). has_row p (put_row (row_at (below above seg.node []) value) rows) ≡ true) (bare_at Leaf e empty_keys) (ap is_some (put_there (below above seg.node []) value rows))))
 
     as_plain : (k : Kind) (d : Data) (rows after : List Row) → kind ≡ k → in_plain kind (leaf_read nodes seg.node above d rows) (Err InvalidValue) ≡ Ok after → in_plain k (leaf_read nodes seg.node above d rows) (Err InvalidValue) ≡ Ok after
     as_plain k d rows after e h = subst (λ j. in_plain j (leaf_read nodes seg.node above d rows) (Err InvalidValue) ≡ Ok after) e h
@@ -146,12 +145,12 @@ module _ (nodes : List SchemaNode) (above : List Seg) (seg : Seg) where
     node_presence (string s) rows after e stand h = no_rows after (as_plain Presence (string s) rows after e h)
     node_presence (array ds) rows after e stand h = no_rows after (as_array Presence ds rows after e h)
     node_presence (object ms) rows after e stand h =
-        let spot = top_here rows (asks_none Presence e empty_is) [] (ap (λ j. keys_of_kind j nodes (node_at seg.node nodes) []) e) in
+        let spot = top_here rows (asks_none Presence e empty_keys) [] (ap (λ j. keys_of_kind j nodes (node_at seg.node nodes) []) e) in
         let put = put_spot nodes at seg.node above [] Present rows spot stand (ap (λ j. value_of_kind j (node_at seg.node nodes).ty Present) e) in
         let there : has_row (below above seg.node []) (put_row (row_at (below above seg.node []) Present) rows) ≡ true = ap is_some (put_there (below above seg.node []) Present rows) in
         let grown = members_grown nodes at ms (Some seg.node) (below above seg.node []) (put_row (row_at (below above seg.node []) Present) rows) after
         (under_spot nodes at seg.node above [] (put_row (row_at (below above seg.node []) Present) rows) (spot_on spot put) (λ entry. there)) put.stand (as_object Presence ms rows after e h) in
-        subst (λ (p : List Seg). has_row p after ≡ true) (bare_at Presence e empty_is) (grown.keep (below above seg.node []) there)
+        subst (λ (p : List Seg). has_row p after ≡ true) (bare_at Presence e empty_keys) (grown.keep (below above seg.node []) there)
 
     -- ---- the entry that the place names
 
@@ -184,7 +183,7 @@ module _ (nodes : List SchemaNode) (above : List Seg) (seg : Seg) where
 
     value_named : (d : Data) (rows after : List Row) → kind ≡ LeafList → Stand nodes at rows → named_value nodes seg.node above seg.keys d rows ≡ Ok after → Grown nodes at rows after × (has_row at after ≡ true)
     value_named d rows after e stand h =
-        bound (typed_atom (node_at seg.node nodes).ty d) (λ atom. if are_keys (atom ∷ []) seg.keys then entered (below above seg.node (atom ∷ [])) Member rows else Err InvalidValue) after h
+        bound (valid (typed_atom (node_at seg.node nodes).ty d)) (λ atom. if are_keys (atom ∷ []) seg.keys then entered (below above seg.node (atom ∷ [])) Member rows else Err InvalidValue) after h
         (λ atom f g.
         elim (are_keys (atom ∷ []) seg.keys) as (λ t. are_keys (atom ∷ []) seg.keys ≡ t → cond t (entered (below above seg.node (atom ∷ [])) Member rows) (Err InvalidValue) ≡ Ok after → Grown nodes at rows after × (has_row at after ≡ true)) [
           | true ↦ λ k i.
@@ -210,10 +209,10 @@ module _ (nodes : List SchemaNode) (above : List Seg) (seg : Seg) where
     named_grown : (d : Data) (rows after : List Row) → Stand nodes at rows → named_read nodes seg.node above seg.keys d rows ≡ Ok after → Grown nodes at rows after × (is_own kind ≡ true → has_row at after ≡ true)
     named_grown d rows after stand h =
         elim kind as (λ k. kind ≡ k → by_kind k (array_of_one d (λ e. named_entry nodes seg.node above seg.keys e rows)) (array_of_one d (λ e. named_value nodes seg.node above seg.keys e rows)) (node_read nodes seg.node above d rows) ≡ Ok after → Grown nodes at rows after × (is_own k ≡ true → has_row at after ≡ true)) [
-          | Container ↦ λ k e. (node_grown nodes at d seg.node above rows after (top_here rows (asks_none Container k empty_is)) stand e, λ own. let no : ⊥ = cc in absurd no)
-          | Presence ↦ λ k e. (node_grown nodes at d seg.node above rows after (top_here rows (asks_none Presence k empty_is)) stand e, λ own. node_presence d rows after k stand e)
+          | Container ↦ λ k e. (node_grown nodes at d seg.node above rows after (top_here rows (asks_none Container k empty_keys)) stand e, λ own. let no : ⊥ = cc in absurd no)
+          | Presence ↦ λ k e. (node_grown nodes at d seg.node above rows after (top_here rows (asks_none Presence k empty_keys)) stand e, λ own. node_presence d rows after k stand e)
           | Listing ↦ λ k e. one_named d (λ e. named_entry nodes seg.node above seg.keys e rows) after e (λ one f. let both = entry_named one rows after k stand f in (both.0, λ own. both.1))
-          | Leaf ↦ λ k e. (node_grown nodes at d seg.node above rows after (top_here rows (asks_none Leaf k empty_is)) stand e, λ own. node_leaf d rows after k e)
+          | Leaf ↦ λ k e. (node_grown nodes at d seg.node above rows after (top_here rows (asks_none Leaf k empty_keys)) stand e, λ own. node_leaf d rows after k e)
           | LeafList ↦ λ k e. one_named d (λ e. named_value nodes seg.node above seg.keys e rows) after e (λ one f. let both = value_named one rows after k stand f in (both.0, λ own. both.1))
         ] refl h
 

@@ -11,10 +11,12 @@ use Rattle.yp_schema.specs.declared.schema.SchemaNode.{SchemaNode}
 use Rattle.yp_schema.specs.declared.schema.Kind.{Kind}
 use Rattle.yp_schema.specs.declared.schema.Kind.TheVariants.{Container, Presence, List as Listing, Leaf, LeafList}
 use Rattle.yp_schema.specs.Nodes.{node_at, qualified_name}
+use Rattle.yp_schema.specs.Values.{typed_value, typed_atom}
 use Rattle.serde_json.specs.Data.{Data, null, boolean, number, string, array, object, Items, no_items, item, Members, no_members, member}
 use Rattle.yp_data_json.specs.declared.fault.DataFault.{DataFault}
 use Rattle.yp_data_json.specs.declared.fault.DataFault.TheVariants.{UnknownElement, InvalidValue}
-use Rattle.yp_data_json.specs.Reading.{◌>>=◌, typed_value, typed_atom, row_at, keys_in, below, entered, members_read, node_read, datastore_read}
+use Rattle.yp_base.specs.Results.{◌>>=◌}
+use Rattle.yp_data_json.specs.Reading.{valid, row_at, keys_in, below, entered, members_read, node_read, datastore_read}
 
 -- whether keys are those of the path
 abbrev pub are_keys : List Atom → List Atom → Bool
@@ -35,7 +37,7 @@ named_entry nodes n above keys (array ds) rows = Err InvalidValue
 -- with that of the leaf-list entry that a path names: its value is the path's
 abbrev pub named_value : List SchemaNode → ℕ → List Seg → List Atom → Data → List Row → Result (List Row) DataFault
 named_value nodes n above keys d rows =
-    typed_atom (node_at n nodes).ty d >>= λ atom.
+    valid (typed_atom (node_at n nodes).ty d) >>= λ atom.
     if are_keys (atom ∷ []) keys then entered (below above n (atom ∷ [])) Member rows else Err InvalidValue
 
 -- of an array of one what reading its item gives
@@ -62,7 +64,7 @@ by_kind LeafList list leaf_list other = leaf_list
 
 -- the rows of a leaf: one, of its path
 abbrev pub leaf_row : List SchemaNode → ℕ → List Seg → Data → Result (List Row) DataFault
-leaf_row nodes n at d = typed_value (node_at n nodes).ty d >>= λ value. Ok (row_at at value ∷ [])
+leaf_row nodes n at d = valid (typed_value (node_at n nodes).ty d) >>= λ value. Ok (row_at at value ∷ [])
 
 -- with those of the node that a path names
 abbrev pub named_read : List SchemaNode → ℕ → List Seg → List Atom → Data → List Row → Result (List Row) DataFault

@@ -14,7 +14,7 @@ use Rattle.yp_schema.specs.Nodes.{node_at, child_of, is_key, qualified_name}
 use Rattle.serde_json.specs.Data.{Data, null, boolean, number, string, array, object, Items, no_items, item, Members, no_members, member}
 use Rattle.serde_json.specs.Find.{get_member}
 use Rattle.yp_data_json.specs.Reading.{below, row_at}
-use Rattle.yp_data_json.specs.Writing.{last_segment}
+use Rattle.yp_base.specs.Paths.{last_segment, above_last}
 
 -- ---- names
 
@@ -206,11 +206,6 @@ IsOneMember nodes seg (member name d (member other e ms)) = ⊥
 abbrev pub SomeHolds : List SchemaNode → ℕ → List Seg → Members → Row → Type 0
 SomeHolds nodes n above no_members row = ⊥
 SomeHolds nodes n above (member name d ms) row = DataHolds nodes n above d row ⊎ SomeHolds nodes n above ms row
-
--- the segments above the last
-abbrev pub above_last : Seg → List Seg → List Seg
-above_last seg [] = []
-above_last seg (next ∷ rest) = seg ∷ above_last next rest
 
 -- data at a place: at the empty path of a whole datastore, an object of nodes at the top; at any other an object of the node that the path names
 abbrev pub IsDataAt : List SchemaNode → List Seg → Data → Type 0

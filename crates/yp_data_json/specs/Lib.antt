@@ -1,6 +1,5 @@
 pub mod AtPath
 pub mod Forest
-pub mod Gathered
 pub mod Holding
 pub mod Reading
 pub mod Runs

@@ -7,24 +7,19 @@ use Rattle.yp_base.specs.declared.atom.Atom.{Atom}
 use Rattle.yp_base.specs.declared.leaf_type.LeafType.{LeafType}
 use Rattle.yp_base.specs.declared.path.Seg.{Seg}
 use Rattle.yp_base.specs.declared.row.Value.{Value}
-use Rattle.yp_base.specs.declared.row.Value.TheVariants.{Atom as Plain, Member, Empty, Present}
+use Rattle.yp_base.specs.declared.row.Value.TheVariants.{Member, Present}
 use Rattle.yp_base.specs.declared.row.Row.{Row}
-use Rattle.yp_base.specs.Json.{value_in}
+use Rattle.yp_base.specs.Results.{◌>>=◌, or_fault}
 use Rattle.yp_base.specs.Rows.{put_row, value_at}
 use Rattle.yp_schema.specs.declared.schema.SchemaNode.{SchemaNode}
 use Rattle.yp_schema.specs.declared.schema.Kind.{Kind}
 use Rattle.yp_schema.specs.declared.schema.Kind.TheVariants.{Container, Presence, List as Listing, Leaf, LeafList}
 use Rattle.yp_schema.specs.Nodes.{node_at, child_of, is_key}
+use Rattle.yp_schema.specs.Values.{typed_value, typed_atom}
 use Rattle.serde_json.specs.Data.{Data, null, boolean, number, string, array, object, Items, no_items, item, Members, no_members, member}
 use Rattle.serde_json.specs.Find.{get_member}
 use Rattle.yp_data_json.specs.declared.fault.DataFault.{DataFault}
 use Rattle.yp_data_json.specs.declared.fault.DataFault.TheVariants.{UnknownElement, InvalidValue, MissingKey, RepeatedKey, Memory}
-
--- a step, and the next one with what it gave; the first fault stands
-infixl 10 ◌>>=◌
-abbrev pub ◌>>=◌ : {A B F : Type 0} → Result A F → (A → Result B F) → Result B F
-(Ok x) >>= f = f x
-(Err e) >>= f = Err e
 
 -- ---- what a call answers
 
@@ -48,31 +43,16 @@ Leaves (Err e) after read = Fails e read
 
 -- ---- values
 
-abbrev pub valid : Option Value → Result Value DataFault
-valid None = Err InvalidValue
-valid (Some value) = Ok value
-
--- the value that JSON is read as at a node of this type; a node without a type has none
-abbrev pub typed_value : Option LeafType → Data → Result Value DataFault
-typed_value None d = Err InvalidValue
-typed_value (Some ty) d = valid (value_in ty d)
-
-abbrev pub only_atom : Value → Result Atom DataFault
-only_atom (Plain atom) = Ok atom
-only_atom Member = Err InvalidValue
-only_atom Empty = Err InvalidValue
-only_atom Present = Err InvalidValue
-
--- the same where the value stands in a key or a leaf-list, which has atoms alone
-abbrev pub typed_atom : Option LeafType → Data → Result Atom DataFault
-typed_atom ty d = typed_value ty d >>= only_atom
+-- what is no value of the type is invalid
+abbrev pub valid : {X : Type 0} → Option X → Result X DataFault
+valid found = or_fault InvalidValue found
 
 -- ---- keys
 
 -- a key of an entry
 abbrev pub key_in : Option LeafType → Option Data → Result Atom DataFault
 key_in ty None = Err MissingKey
-key_in ty (Some d) = typed_atom ty d
+key_in ty (Some d) = valid (typed_atom ty d)
 
 -- a fault, with the key leaf that it was found at
 abbrev pub KeyFault : Type 0
@@ -121,7 +101,7 @@ row_at path value = record { path = path; value = value }
 
 -- the rows so far, with that of a leaf
 abbrev pub leaf_read : List SchemaNode → ℕ → List Seg → Data → List Row → Result (List Row) DataFault
-leaf_read nodes n path d rows = typed_value (node_at n nodes).ty d >>= λ value. Ok (put_row (row_at (below path n []) value) rows)
+leaf_read nodes n path d rows = valid (typed_value (node_at n nodes).ty d) >>= λ value. Ok (put_row (row_at (below path n []) value) rows)
 
 -- with that of an entry, of which there is none yet
 abbrev pub entered : List Seg → Value → List Row → Result (List Row) DataFault
@@ -129,7 +109,7 @@ entered path value rows = if is_some (value_at path rows) then Err RepeatedKey e
 
 -- with that of a leaf-list entry
 abbrev pub value_read : List SchemaNode → ℕ → List Seg → Data → List Row → Result (List Row) DataFault
-value_read nodes n path d rows = typed_atom (node_at n nodes).ty d >>= λ atom. entered (below path n (atom ∷ [])) Member rows
+value_read nodes n path d rows = valid (typed_atom (node_at n nodes).ty d) >>= λ atom. entered (below path n (atom ∷ [])) Member rows
 
 -- with those of a leaf-list
 abbrev pub values_read : List SchemaNode → ℕ → List Seg → Items → List Row → Result (List Row) DataFault

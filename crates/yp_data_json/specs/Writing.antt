@@ -8,6 +8,7 @@ use Rattle.yp_base.specs.declared.row.Value.{Value}
 use Rattle.yp_base.specs.declared.row.Value.TheVariants.{Atom as Plain}
 use Rattle.yp_base.specs.declared.row.Row.{Row}
 use Rattle.yp_base.specs.Json.{value_data}
+use Rattle.yp_base.specs.Paths.{last_segment}
 use Rattle.yp_base.specs.Rows.{value_at}
 use Rattle.yp_schema.specs.declared.schema.SchemaNode.{SchemaNode}
 use Rattle.yp_schema.specs.declared.schema.Kind.{Kind}
@@ -69,10 +70,6 @@ abbrev pub members_in : List SchemaNode → Forest → Members
 members_in nodes bare = no_members
 members_in nodes (branch seg own kids next) =
     branch_members nodes (node_at seg.node nodes).kind (node_at seg.node nodes).member (node_at seg.node nodes) seg own (members_in nodes kids) (members_in nodes next)
-
-abbrev pub last_segment : Seg → List Seg → Seg
-last_segment seg [] = seg
-last_segment seg (next ∷ rest) = last_segment next rest
 
 -- the JSON of what stands at a path, by the kind of its last segment's node: an entry is an array of one
 abbrev pub place_data : List SchemaNode → Kind → SchemaNode → Seg → Option Value → Members → Data

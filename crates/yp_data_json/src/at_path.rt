@@ -7,13 +7,11 @@ ghost use Rattle.serde_json.specs.View.{view, members_view, items_view};
 ghost use Rattle.yp_base.specs.Payloads.{content_data};
 ghost use Rattle.yp_schema.specs.Datastore.{is_place, AreWhole};
 ghost use Rattle.yp_schema.specs.Nodes.{node_at, qualified_name};
-ghost use Rattle.yp_schema.specs.WellFormed.{IsSchema};
 ghost use Rattle.yp_data_json.specs.Reading.{Gives, Leaves};
 ghost use Rattle.yp_data_json.specs.AtPath.{leaf_row, named_entry, named_value, array_of_one, one_of, named_read, outer_read, is_bare, object_read, rows_read};
 
 use crate::fault::DataFault;
-use crate::gathered::Gathered;
-use crate::keys::{read_atom, read_keys, read_value};
+use crate::keys::{atom_of, read_keys, value_of};
 use crate::reading::{enter, only_key, path_below, read_datastore, read_members, read_node};
 use serde_json::{Map, Value as Json};
 use std::alloc::Global;
@@ -24,9 +22,9 @@ use yp_base::payload::{Content, Payload};
 use yp_base::row::{Row, Rows, Value};
 use yp_base::series::Series;
 use yp_schema::schema::{Kind, Schema};
+use yp_tree::tree::Tree;
 
 /// Puts the rows of the list entry that a path names.
-#[tactic(auto, using(crate::proofs::Schemas::keys_within))]
 fn read_named_entry(
     alloc: Global,
     schema: &Schema,
@@ -34,10 +32,9 @@ fn read_named_entry(
     above: &Path,
     keys: &Keys,
     json: &Json,
-    rows: &mut Gathered,
+    rows: &mut Tree,
 ) -> Result<(), DataFault>
-    requires stands { IsSchema schema.now }
-    requires within { node < length schema.now }
+    requires { node < length schema.now }
     ensures { Leaves result rows.new (named_entry schema.now node above.now keys.now (view json.now) rows.old) }
 {
     match json {
@@ -47,7 +44,7 @@ fn read_named_entry(
                 return Err(DataFault::InvalidValue);
             }
             let path = path_below(alloc, above, node, found)?;
-            enter(alloc, &path, Value::Present, rows)?;
+            enter(alloc, path.copy(alloc)?, Value::Present, rows)?;
             read_members(alloc, schema, Some(node), &path, members, rows)
         }
         _ => Err(DataFault::InvalidValue),
@@ -62,19 +59,18 @@ fn read_named_value(
     above: &Path,
     keys: &Keys,
     json: &Json,
-    rows: &mut Gathered,
+    rows: &mut Tree,
 ) -> Result<(), DataFault>
-    requires stands { IsSchema schema.now }
-    requires within { node < length schema.now }
+    requires { node < length schema.now }
     ensures { Leaves result rows.new (named_value schema.now node above.now keys.now (view json.now) rows.old) }
 {
-    let atom = read_atom(alloc, schema, node, json)?;
+    let atom = atom_of(alloc, schema, node, json)?;
     let only = only_key(alloc, atom)?;
     if only != *keys {
         return Err(DataFault::InvalidValue);
     }
     let path = path_below(alloc, above, node, only)?;
-    enter(alloc, &path, Value::Member, rows)
+    enter(alloc, path, Value::Member, rows)
 }
 
 /// Puts the rows of an array of the one entry that a path names.
@@ -85,10 +81,9 @@ fn read_one(
     above: &Path,
     keys: &Keys,
     items: &Vec<Json>,
-    rows: &mut Gathered,
+    rows: &mut Tree,
 ) -> Result<(), DataFault>
-    requires stands { IsSchema schema.now }
-    requires within { node < length schema.now }
+    requires { node < length schema.now }
     ensures { Leaves result rows.new (one_of (items_view items.now.items) (λ d. named_entry schema.now node above.now keys.now d rows.old)) }
 {
     match items.as_slice().split_first() {
@@ -108,10 +103,9 @@ fn read_one_value(
     above: &Path,
     keys: &Keys,
     items: &Vec<Json>,
-    rows: &mut Gathered,
+    rows: &mut Tree,
 ) -> Result<(), DataFault>
-    requires stands { IsSchema schema.now }
-    requires within { node < length schema.now }
+    requires { node < length schema.now }
     ensures { Leaves result rows.new (one_of (items_view items.now.items) (λ d. named_value schema.now node above.now keys.now d rows.old)) }
 {
     match items.as_slice().split_first() {
@@ -131,10 +125,9 @@ fn read_named(
     above: &Path,
     keys: &Keys,
     json: &Json,
-    rows: &mut Gathered,
+    rows: &mut Tree,
 ) -> Result<(), DataFault>
-    requires stands { IsSchema schema.now }
-    requires within { node < length schema.now }
+    requires { node < length schema.now }
     ensures { Leaves result rows.new (named_read schema.now node above.now keys.now (view json.now) rows.old) }
 {
     match schema.kind(node) {
@@ -159,9 +152,8 @@ fn read_outer(
     above: &Path,
     keys: &Keys,
     members: &Map<String, Json>,
-    rows: &mut Gathered,
+    rows: &mut Tree,
 ) -> Result<(), DataFault>
-    requires stands { IsSchema schema.now }
     requires within { node < length schema.now }
     requires name { name.now ≡ qualified_name (node_at node schema.now) }
     ensures { Leaves result rows.new (outer_read schema.now node above.now keys.now (members_view members.now.entries) rows.old) }
@@ -202,8 +194,7 @@ fn read_object(
     keys: &Keys,
     json: &Json,
 ) -> Result<Rows, DataFault>
-    requires stands { IsSchema schema.now }
-    requires within { node < length schema.now }
+    requires { node < length schema.now }
     ensures { Gives result (object_read schema.now node above.now keys.now (view json.now)) }
 {
     match json {
@@ -212,7 +203,7 @@ fn read_object(
                 return Err(DataFault::InvalidValue);
             }
             let name = qualified(alloc, schema, node)?;
-            let mut rows = Gathered::new(alloc);
+            let mut rows = Tree::new(alloc);
             read_outer(
                 alloc,
                 schema,
@@ -269,11 +260,10 @@ fn read_leaf_row(
     at: &Path,
     json: &Json,
 ) -> Result<Rows, DataFault>
-    requires stands { IsSchema schema.now }
-    requires within { node < length schema.now }
+    requires { node < length schema.now }
     ensures { Gives result (leaf_row schema.now node at.now (view json.now)) }
 {
-    let value = read_value(alloc, schema, node, json)?;
+    let value = value_of(alloc, schema, node, json)?;
     let mut rows = Vec::with_capacity(alloc, 1)?;
     rows.push(Row {
         path: at.copy(alloc)?,
@@ -290,12 +280,11 @@ fn read_node_rows(
     above: &[Seg],
     json: &Json,
 ) -> Result<Rows, DataFault>
-    requires stands { IsSchema schema.now }
-    requires within { last.now.node < length schema.now }
+    requires { last.now.node < length schema.now }
     ensures { Gives result (named_read schema.now last.now.node above.now last.now.keys (view json.now) []) }
 {
     let above = path_of(alloc, above)?;
-    let mut rows = Gathered::new(alloc);
+    let mut rows = Tree::new(alloc);
     read_named(
         alloc, schema, last.node, &above, &last.keys, json, &mut rows,
     )?;
@@ -312,7 +301,6 @@ fn read_member(
     name: &str,
     json: &Json,
 ) -> Result<Rows, DataFault>
-    requires stands { IsSchema schema.now }
     requires place { is_place schema.now at.now ≡ true }
     requires parts { at.now ≡ above.now ++ last.now ∷ [] }
     ensures { Gives result (rows_read schema.now at.now (object (member name.now (view json.now) no_members))) }
@@ -335,7 +323,6 @@ fn read_below(
     above: &[Seg],
     content: Content<'_>,
 ) -> Result<Rows, DataFault>
-    requires stands { IsSchema schema.now }
     requires place { is_place schema.now at.now ≡ true }
     requires parts { at.now ≡ above.now ++ last.now ∷ [] }
     ensures { Gives result (rows_read schema.now at.now (content_data content.entry)) }
@@ -351,8 +338,7 @@ fn read_below(
 
 /// The rows at a path, or of a whole datastore.
 fn read_place(alloc: Global, schema: &Schema, at: &Path, json: &Json) -> Result<Rows, DataFault>
-    requires stands { IsSchema schema.now }
-    requires place { is_place schema.now at.now ≡ true }
+    requires { is_place schema.now at.now ≡ true }
     ensures { Gives result (rows_read schema.now at.now (view json.now)) }
 {
     match at.items().split_last() {
@@ -374,8 +360,6 @@ pub fn read_rows(alloc: Global, schema: &Schema, at: &Path, json: &Json) -> Resu
     ensures read { Gives result (rows_read schema.now at.now (view json.now)) }
     ensures rows { IfOk result (λ rows. AreWhole schema.now at.now rows) }
 {
-    // what each schema keeps is known from its count
-    let _ = schema.count();
     let rows = read_place(alloc, schema, at, json)?;
     Ok(rows)
 }
@@ -387,8 +371,7 @@ fn read_content(
     at: &Path,
     payload: &Payload,
 ) -> Result<Rows, DataFault>
-    requires stands { IsSchema schema.now }
-    requires place { is_place schema.now at.now ≡ true }
+    requires { is_place schema.now at.now ≡ true }
     ensures { Gives result (rows_read schema.now at.now payload.now) }
 {
     match at.items().split_last() {
@@ -412,8 +395,6 @@ pub fn read_payload(
     ensures read { Gives result (rows_read schema.now at.now payload.now) }
     ensures rows { IfOk result (λ rows. AreWhole schema.now at.now rows) }
 {
-    // what each schema keeps is known from its count
-    let _ = schema.count();
     let rows = read_content(alloc, schema, at, payload)?;
     Ok(rows)
 }

@@ -14,9 +14,10 @@ ghost use Rattle.yp_data_json.specs.Holding.{HasNamesOnce, ItemsHaveNamesOnce, M
 use serde_json::{Map, Value as Json};
 
 /// What is read at a place is data of the schema there, and the rows are those that it holds, in
-/// order; and all such data is read. It is said of data without two members of one name in one
-/// object, as a JSON value is.
-#[tactic(auto, using(crate::proofs::HoldingLaws::accepted_is_data, crate::proofs::HoldingLaws::accepted_in_order, crate::proofs::HoldingLaws::accepted_rows, crate::proofs::HoldingLaws::is_accepted))]
+/// order; and all such data is read: data where each member names a child, each value is of its type,
+/// each entry has its keys, and no two entries of a list and no two values of a leaf-list are equal.
+/// It is said of data without two members of one name in one object, as a JSON value is.
+#[tactic(auto, using(crate::proofs::HoldingLaws::accepted_is_data, crate::proofs::HoldingLaws::accepted_in_order, crate::proofs::HoldingLaws::accepted_rows, crate::proofs::HoldingLaws::is_accepted, crate::proofs::HoldingLaws::is_read))]
 pub fn accepted_data_holds_its_rows()
     ensures accepted { (nodes : List SchemaNode) (at : List Seg) (d : Data) (rows : List Row) → IsSchema nodes → is_place nodes at ≡ true → HasNamesOnce d
         → rows_read nodes at d ≡ Ok rows → IsDataAt nodes at d }
@@ -27,6 +28,8 @@ pub fn accepted_data_holds_its_rows()
     ensures read { (nodes : List SchemaNode) (at : List Seg) (d : Data) (rows : List Row) → IsSchema nodes → is_place nodes at ≡ true → HasNamesOnce d
         → IsDataAt nodes at d → AreInOrder rows → ((row : Row) → Contains rows row ↔ HoldsAt nodes at d row)
         → rows_read nodes at d ≡ Ok rows }
+    ensures is_read { (nodes : List SchemaNode) (at : List Seg) (d : Data) → IsSchema nodes → is_place nodes at ≡ true → HasNamesOnce d
+        → IsDataAt nodes at d → (rows : List Row) × (rows_read nodes at d ≡ Ok rows) }
 {}
 
 /// No object of a JSON value has two members of one name, so the law speaks of each such value.

@@ -3,51 +3,40 @@ ghost use Rattle.std.specs.Prelude.{◌≡◌, ◌<◌, length, All, IfOk, IfErr
 ghost use Rattle.serde_json.specs.View.{view, members_view};
 ghost use Rattle.serde_json.specs.Find.{get_member};
 ghost use Rattle.yp_schema.specs.Nodes.{node_at};
-ghost use Rattle.yp_schema.specs.WellFormed.{IsSchema};
-ghost use Rattle.yp_data_json.specs.Reading.{Gives, KeyFault, typed_value, typed_atom, at_key, key_in, earliest, keys_in};
+ghost use Rattle.yp_schema.specs.Values.{typed_value, typed_atom};
+ghost use Rattle.yp_data_json.specs.Reading.{Gives, KeyFault, valid, at_key, key_in, earliest, keys_in};
 
 use crate::fault::DataFault;
 use serde_json::{Map, Value as Json};
 use std::alloc::Global;
 use yp_base::atom::{Atom, Keys};
-use yp_base::json::read_json;
 use yp_base::memory::NoMemory;
 use yp_base::row::Value;
 use yp_base::series::Series;
 use yp_base::text::TextFault;
 use yp_schema::schema::Schema;
 
-/// The value that JSON is read as at a node.
-#[tactic(auto, using(crate::proofs::Schemas::type_is))]
-pub fn read_value(
-    alloc: Global,
-    schema: &Schema,
-    node: u32,
-    json: &Json,
-) -> Result<Value, DataFault>
-    requires stands { IsSchema schema.now }
-    requires within { node < length schema.now }
-    ensures { Gives result (typed_value (node_at node schema.now).ty (view json.now)) }
+/// The value that JSON is read as at a node, to be kept, or the fault that it is none.
+pub fn value_of(alloc: Global, schema: &Schema, node: u32, json: &Json) -> Result<Value, DataFault>
+    requires { node < length schema.now }
+    ensures { Gives result (valid (typed_value (node_at node schema.now).ty (view json.now))) }
 {
-    match schema.ty(node) {
-        Some(ty) => match read_json(alloc, ty, json) {
-            Ok(value) => Ok(value),
-            Err(TextFault::BadText) => Err(DataFault::InvalidValue),
-            Err(TextFault::Memory) => Err(DataFault::Memory),
-        },
-        None => Err(DataFault::InvalidValue),
+    match schema.read_value(alloc, node, json) {
+        Ok(value) => Ok(value.share(alloc)?),
+        Err(TextFault::BadText) => Err(DataFault::InvalidValue),
+        Err(TextFault::Memory) => Err(DataFault::Memory),
     }
 }
 
-/// The value that JSON is read as in a key or a leaf-list.
-pub fn read_atom(alloc: Global, schema: &Schema, node: u32, json: &Json) -> Result<Atom, DataFault>
-    requires stands { IsSchema schema.now }
-    requires within { node < length schema.now }
-    ensures { Gives result (typed_atom (node_at node schema.now).ty (view json.now)) }
+/// The value that JSON is read as in a key or a leaf-list, or the fault that it is none.
+pub fn atom_of(alloc: Global, schema: &Schema, node: u32, json: &Json) -> Result<Atom, DataFault>
+    requires { node < length schema.now }
+    ensures { Gives result (valid (typed_atom (node_at node schema.now).ty (view json.now))) }
 {
-    match read_value(alloc, schema, node, json)? {
-        Value::Atom(atom) => Ok(atom),
-        _ => Err(DataFault::InvalidValue),
+    match schema.read_atom(alloc, node, json) {
+        Ok(atom) => Ok(atom),
+        Err(TextFault::BadText) => Err(DataFault::InvalidValue),
+        Err(TextFault::Memory) => Err(DataFault::Memory),
     }
 }
 
@@ -66,13 +55,12 @@ fn read_key(
     node: u32,
     members: &Map<String, Json>,
 ) -> Result<Result<Atom, (u32, DataFault)>, NoMemory>
-    requires stands { IsSchema schema.now }
-    requires within { node < length schema.now }
+    requires { node < length schema.now }
     ensures read { IfOk result (λ read. read ≡ at_key node (key_in (node_at node schema.now).ty (get_member (node_at node schema.now).member (members_view members.now.entries)))) }
     ensures within { IfOk result (λ read. IfErr read (λ fault. fault.0 < length schema.now)) }
 {
     match member_in(members, schema.member_text(node)) {
-        Some(json) => match read_atom(alloc, schema, node, json) {
+        Some(json) => match atom_of(alloc, schema, node, json) {
             Ok(atom) => Ok(Ok(atom)),
             Err(DataFault::Memory) => Err(NoMemory),
             Err(fault) => Ok(Err((node, fault))),
@@ -116,8 +104,7 @@ pub fn read_keys(
     nodes: &[u32],
     members: &Map<String, Json>,
 ) -> Result<Keys, DataFault>
-    requires stands { IsSchema schema.now }
-    requires within { All (λ n. n < length schema.now) nodes.now }
+    requires { All (λ n. n < length schema.now) nodes.now }
     ensures { Gives result (keys_in schema.now nodes.now (members_view members.now.entries)) }
 {
     let mut keys = Vec::new(alloc);

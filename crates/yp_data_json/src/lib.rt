@@ -10,7 +10,6 @@
 
 pub mod at_path;
 pub mod fault;
-mod gathered;
 pub mod holding;
 mod keys;
 mod reading;

@@ -2,12 +2,10 @@
 ghost use Rattle.std.specs.Prelude.{◌≡◌, ◌<◌, ◌∷◌, [], length, IfSome, IfOk};
 ghost use Rattle.serde_json.specs.View.{view, members_view, items_view};
 ghost use Rattle.yp_schema.specs.Nodes.{node_at};
-ghost use Rattle.yp_schema.specs.WellFormed.{IsSchema};
 ghost use Rattle.yp_data_json.specs.Reading.{Gives, Leaves, below, entered, leaf_read, value_read, values_read, members_read, node_read, entries_read, entry_read, datastore_read};
 
 use crate::fault::DataFault;
-use crate::gathered::Gathered;
-use crate::keys::{read_atom, read_keys, read_value};
+use crate::keys::{atom_of, read_keys, value_of};
 use serde_json::{Map, Value as Json};
 use std::alloc::Global;
 use yp_base::atom::{Atom, Keys};
@@ -16,6 +14,7 @@ use yp_base::path::{Path, Seg};
 use yp_base::row::{Row, Rows, Value};
 use yp_base::series::Series;
 use yp_schema::schema::{Kind, Schema};
+use yp_tree::tree::Tree;
 
 /// The path of a node below another.
 pub fn path_below(alloc: Global, path: &Path, node: u32, keys: Keys) -> Result<Path, NoMemory>
@@ -40,30 +39,25 @@ fn read_leaf(
     node: u32,
     path: &Path,
     json: &Json,
-    rows: &mut Gathered,
+    rows: &mut Tree,
 ) -> Result<(), DataFault>
-    requires stands { IsSchema schema.now }
-    requires within { node < length schema.now }
+    requires { node < length schema.now }
     ensures { Leaves result rows.new (leaf_read schema.now node path.now (view json.now) rows.old) }
 {
-    let value = read_value(alloc, schema, node, json)?;
+    let value = value_of(alloc, schema, node, json)?;
     let path = path_below(alloc, path, node, Series::from_vec(Vec::new(alloc)))?;
-    rows.put(Row { path, value })?;
+    rows.put(alloc, Row { path, value })?;
     Ok(())
 }
 
 /// Puts the row of an entry, of which there is none yet.
-pub fn enter(alloc: Global, path: &Path, value: Value, rows: &mut Gathered) -> Result<(), DataFault>
-    ensures { Leaves result rows.new (entered path.now value rows.old) }
+pub fn enter(alloc: Global, path: Path, value: Value, rows: &mut Tree) -> Result<(), DataFault>
+    ensures { Leaves result rows.new (entered path value rows.old) }
 {
-    if rows.has(path) {
-        return Err(DataFault::RepeatedKey);
+    match rows.replace(alloc, Row { path, value })? {
+        Some(_) => Err(DataFault::RepeatedKey),
+        None => Ok(()),
     }
-    rows.put(Row {
-        path: path.copy(alloc)?,
-        value,
-    })?;
-    Ok(())
 }
 
 /// Puts the row of a leaf-list entry.
@@ -73,15 +67,14 @@ fn read_entry_value(
     node: u32,
     path: &Path,
     json: &Json,
-    rows: &mut Gathered,
+    rows: &mut Tree,
 ) -> Result<(), DataFault>
-    requires stands { IsSchema schema.now }
-    requires within { node < length schema.now }
+    requires { node < length schema.now }
     ensures { Leaves result rows.new (value_read schema.now node path.now (view json.now) rows.old) }
 {
-    let atom = read_atom(alloc, schema, node, json)?;
+    let atom = atom_of(alloc, schema, node, json)?;
     let path = path_below(alloc, path, node, only_key(alloc, atom)?)?;
-    enter(alloc, &path, Value::Member, rows)
+    enter(alloc, path, Value::Member, rows)
 }
 
 /// Puts the rows of a leaf-list.
@@ -91,10 +84,9 @@ fn read_values(
     node: u32,
     path: &Path,
     items: &Vec<Json>,
-    rows: &mut Gathered,
+    rows: &mut Tree,
 ) -> Result<(), DataFault>
-    requires stands { IsSchema schema.now }
-    requires within { node < length schema.now }
+    requires { node < length schema.now }
     ensures { Leaves result rows.new (values_read schema.now node path.now (items_view items.now.items) rows.old) }
 {
     for item in items {
@@ -111,10 +103,9 @@ pub fn read_members(
     parent: Option<u32>,
     path: &Path,
     members: &Map<String, Json>,
-    rows: &mut Gathered,
+    rows: &mut Tree,
 ) -> Result<(), DataFault>
-    requires stands { IsSchema schema.now }
-    requires within { IfSome parent (λ parent. parent < length schema.now) }
+    requires { IfSome parent (λ parent. parent < length schema.now) }
     ensures { Leaves result rows.new (members_read schema.now parent path.now (members_view members.now.entries) rows.old) }
 {
     for (name, json) in members.iter() {
@@ -137,10 +128,9 @@ pub fn read_node(
     node: u32,
     path: &Path,
     json: &Json,
-    rows: &mut Gathered,
+    rows: &mut Tree,
 ) -> Result<(), DataFault>
-    requires stands { IsSchema schema.now }
-    requires within { node < length schema.now }
+    requires { node < length schema.now }
     ensures { Leaves result rows.new (node_read schema.now node path.now (view json.now) rows.old) }
 {
     match json {
@@ -151,10 +141,13 @@ pub fn read_node(
             }
             Kind::Presence => {
                 let path = path_below(alloc, path, node, Series::from_vec(Vec::new(alloc)))?;
-                rows.put(Row {
-                    path: path.copy(alloc)?,
-                    value: Value::Present,
-                })?;
+                rows.put(
+                    alloc,
+                    Row {
+                        path: path.copy(alloc)?,
+                        value: Value::Present,
+                    },
+                )?;
                 read_members(alloc, schema, Some(node), &path, members, rows)
             }
             _ => Err(DataFault::InvalidValue),
@@ -180,10 +173,9 @@ fn read_entries(
     node: u32,
     path: &Path,
     items: &Vec<Json>,
-    rows: &mut Gathered,
+    rows: &mut Tree,
 ) -> Result<(), DataFault>
-    requires stands { IsSchema schema.now }
-    requires within { node < length schema.now }
+    requires { node < length schema.now }
     ensures { Leaves result rows.new (entries_read schema.now node path.now (items_view items.now.items) rows.old) }
 {
     for item in items {
@@ -193,7 +185,6 @@ fn read_entries(
 }
 
 /// Puts the rows of an entry.
-#[tactic(auto, using(crate::proofs::Schemas::keys_within))]
 #[cycle(read)]
 fn read_entry(
     alloc: Global,
@@ -201,17 +192,16 @@ fn read_entry(
     node: u32,
     path: &Path,
     json: &Json,
-    rows: &mut Gathered,
+    rows: &mut Tree,
 ) -> Result<(), DataFault>
-    requires stands { IsSchema schema.now }
-    requires within { node < length schema.now }
+    requires { node < length schema.now }
     ensures { Leaves result rows.new (entry_read schema.now node path.now (view json.now) rows.old) }
 {
     match json {
         Json::Object(members) => {
             let keys = read_keys(alloc, schema, schema.keys(node), members)?;
             let path = path_below(alloc, path, node, keys)?;
-            enter(alloc, &path, Value::Present, rows)?;
+            enter(alloc, path.copy(alloc)?, Value::Present, rows)?;
             read_members(alloc, schema, Some(node), &path, members, rows)
         }
         _ => Err(DataFault::InvalidValue),
@@ -220,12 +210,11 @@ fn read_entry(
 
 /// The rows that a datastore's data hold, in the order of their paths.
 pub fn read_datastore(alloc: Global, schema: &Schema, json: &Json) -> Result<Rows, DataFault>
-    requires stands { IsSchema schema.now }
     ensures { Gives result (datastore_read schema.now (view json.now)) }
 {
     match json {
         Json::Object(members) => {
-            let mut rows = Gathered::new(alloc);
+            let mut rows = Tree::new(alloc);
             let top = Path::from_vec(Vec::new(alloc));
             read_members(alloc, schema, None, &top, members, &mut rows)?;
             Ok(rows.into_rows(alloc)?)

@@ -3,7 +3,7 @@ ghost use Rattle.std.specs.Prelude.{◌≡◌, ◌<◌, ◌≤◌, ◌+◌, ◌^
 ghost use Rattle.std.specs.List.{AllByRecursion};
 ghost use Rattle.serde_json.specs.View.{view, members_view};
 ghost use Rattle.yp_schema.specs.Nodes.{node_at, qualified_name};
-ghost use Rattle.serde_json.specs.Data.{object, member, no_members};
+ghost use Rattle.serde_json.specs.Data.{object, member, no_members, put};
 ghost use Rattle.yp_schema.specs.WellFormed.{IsSchema};
 ghost use Rattle.yp_schema.specs.Datastore.{AreWritable, AreWhole, is_segment, keys_fit, atom_fits, typed_fits};
 ghost use Rattle.yp_schema.specs.declared.schema.SchemaNode.{SchemaNode};
@@ -29,7 +29,7 @@ pub fn write_rows(alloc: Global, schema: &Schema, at: &Path, rows: &Rows) -> Res
     requires { AreWritable schema.now at.now rows.now }
     ensures { IfOk result (λ json. view json ≡ rows_json schema.now at.now rows.now) }
 {
-    let _ = schema.count();
+    schema.stands();
     match at.items().split_last() {
         Some((seg, _)) => {
             let json = write_place(alloc, schema, at, seg, rows.items())?;
@@ -219,6 +219,24 @@ fn write_item(
     }
 }
 
+/// Puts a key of an entry among its members.
+fn put_key(
+    alloc: Global,
+    schema: &Schema,
+    leaf: u32,
+    key: &Atom,
+    members: &mut Map<String, Json>,
+) -> Result<(), NoMemory>
+    requires within { leaf < length schema.now }
+    requires fits { atom_fits (node_at leaf schema.now).ty key.now ≡ true }
+    ensures { OnOk result (members_view members.new.entries ≡ put (node_at leaf schema.now).member (key_data (node_at leaf schema.now).ty key.now) (members_view members.old.entries)) }
+{
+    let json = write_key(alloc, schema, leaf, key)?;
+    let name = String::from_str(alloc, schema.member_text(leaf))?;
+    drop(members.insert(name, json)?);
+    Ok(())
+}
+
 /// Puts the keys of an entry among its members.
 fn put_keys(
     alloc: Global,
@@ -231,12 +249,14 @@ fn put_keys(
     requires fit { keys_fit schema.now leaves.now keys.now ≡ true }
     ensures { OnOk result (members_view members.new.entries ≡ with_keys schema.now leaves.now keys.now (members_view members.old.entries)) }
 {
-    if let Some((leaf, leaves)) = leaves.split_first() {
-        if let Some((key, keys)) = keys.split_first() {
-            let json = write_key(alloc, schema, *leaf, key)?;
-            let name = String::from_str(alloc, schema.member_text(*leaf))?;
-            drop(members.insert(name, json)?);
-            put_keys(alloc, schema, leaves, keys, members)?;
+    let mut left = leaves;
+    for key in keys {
+        match left.split_first() {
+            Some((leaf, later)) => {
+                put_key(alloc, schema, *leaf, key, members)?;
+                left = later;
+            }
+            None => break,
         }
     }
     Ok(())

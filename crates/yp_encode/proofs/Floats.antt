@@ -24,7 +24,8 @@ use Rattle.yp_schema.specs.declared.schema.Kind.{Kind}
 use Rattle.yp_schema.specs.declared.schema.Kind.TheVariants.{Container, Presence, List as Listing, Leaf, LeafList}
 use Rattle.yp_schema.specs.Nodes.{node_at}
 use Rattle.yp_data_json.specs.Forest.{Forest, bare, branch, forest_at}
-use Rattle.yp_data_json.specs.Writing.{leaf_data, key_data, one_key_data, with_keys, item_in_front, item_data, branch_members, members_in, last_segment, place_data, data_at, rows_json}
+use Rattle.yp_base.specs.Paths.{last_segment}
+use Rattle.yp_data_json.specs.Writing.{leaf_data, key_data, one_key_data, with_keys, item_in_front, item_data, branch_members, members_in, place_data, data_at, rows_json}
 
 integer : (z : ℤ) → has_float (number (of_integer z)) ≡ false
 integer (pos n) = refl

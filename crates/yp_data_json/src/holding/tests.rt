@@ -1,5 +1,5 @@
 //! The law on what is read, at JSON that was read from a text.
-ghost use Rattle.std.specs.Prelude.{◌≡◌, ◌↔◌, true, IfOk, Contains};
+ghost use Rattle.std.specs.Prelude.{◌≡◌, ◌↔◌, true, IfOk, IfErr, Contains};
 ghost use Rattle.serde_json.specs.View.{view};
 ghost use Rattle.yp_base.specs.declared.row.Row.{Row};
 ghost use Rattle.yp_schema.specs.Datastore.{is_place};
@@ -26,10 +26,11 @@ fn read(alloc: Global, schema: &Schema, at: &Path, json: &Json) -> Result<Rows, 
     requires { is_place schema.now at.now ≡ true }
     ensures is { IfOk result (λ rows. IsDataAt schema.now at.now (view json.now)) }
     ensures rows { IfOk result (λ rows. (row : Row) → Contains rows row ↔ HoldsAt schema.now at.now (view json.now) row) }
+    ensures refused { IfErr result (λ fault. IsDataAt schema.now at.now (view json.now) → fault ≡ DataFault.Memory) }
 {
     accepted_data_holds_its_rows();
     names_stand_once(json);
-    let _ = schema.count();
+    schema.stands();
     read_rows(alloc, schema, at, json)
 }
 

@@ -124,14 +124,6 @@ fn a_container_without_rows_is_left_out_unless_it_has_presence(
         r#"{"acme:box":{"inner":{}}}"#,
         "{}",
     )?;
-    writes(
-        &rt,
-        alloc,
-        &schema,
-        &top,
-        r#"{"acme:box":{"inner":{},"pair":[{"z":1,"a":"","own":{}}]}}"#,
-        r#"{"acme:box":{"pair":[{"a":"","own":{},"z":1}]}}"#,
-    )?;
     let at = top_container(&rt, alloc, &schema, 0)?;
     writes(
         &rt,
@@ -160,4 +152,37 @@ fn what_stands_at_a_path_has_its_qualified_name(rt: HostRuntime) -> Result<(), F
     writes_at_row(&rt, alloc, &schema, &rows, 2, r#"{"acme:own":{}}"#)?;
     writes_at_row(&rt, alloc, &schema, &rows, 3, r#"{"other:depth":2}"#)?;
     writes_at_row(&rt, alloc, &schema, &rows, 4, r#"{"acme:tags":["x"]}"#)
+}
+
+/// The text of a schema's part with a list of 700 keys, and that of data with an entry of it.
+fn many_keys(alloc: Global) -> Result<(String, String), Fail> {
+    let mut names = String::new(alloc);
+    let mut leaves = String::new(alloc);
+    let mut members = String::new(alloc);
+    for number in 100..800 {
+        let mark = if number == 100 { "" } else { "," };
+        names.push_str(format!(in alloc; "{mark}\"k{number}\"")?.as_str())?;
+        leaves.push_str(format!(in alloc;
+            ",{{\"path\":\"/acme:wide/k{number}\",\"kind\":\"leaf\",\"type\":\"uint16\"}}"
+        )?.as_str())?;
+        members.push_str(format!(in alloc; "{mark}\"k{number}\":{number}")?.as_str())?;
+    }
+    let part = format!(in alloc;
+        "[{{\"path\":\"/acme:wide\",\"kind\":\"list\",\"keys\":[{names}]}}{leaves}]"
+    )?;
+    Ok((
+        part,
+        format!(in alloc; "{{\"acme:wide\":[{{{members}}}]}}")?,
+    ))
+}
+
+#[test]
+fn an_entry_of_700_keys_is_read_and_written(rt: HostRuntime) -> Result<(), Fail> {
+    let alloc = rt.alloc();
+    let (part, text) = many_keys(alloc)?;
+    let part = Json::from_str(alloc, part.as_str())?;
+    let parts = Series::from_vec(vec![in alloc; part]?);
+    let schema = Schema::read(alloc, parts.items())?;
+    let top = Path::from_vec(Vec::new(alloc));
+    writes(&rt, alloc, &schema, &top, text.as_str(), text.as_str())
 }

@@ -8,8 +8,8 @@ use Rattle.yp_data_json.specs.AtPath.{object_read, rows_read}
 use Rattle.yp_data_json.proofs.Places.{rows_last, place_within}
 use Rattle.yp_data_json.proofs.at_path.read_below.Goals as goal
 
-pub read_object-requires-clause-within : goal.read_object-requires-clause-within
-read_object-requires-clause-within c =
+pub read_object-requires : goal.read_object-requires
+read_object-requires c =
     place_within c.args.schema.now c.args.above.now c.args.last.now
     (subst (λ (path : List Seg). is_place c.args.schema.now path ≡ true) c.requires.parts c.requires.place)
 

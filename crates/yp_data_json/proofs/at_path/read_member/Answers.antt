@@ -18,11 +18,9 @@ kind-requires c =
     (subst (λ (path : List Seg). is_place c.args.schema.now path ≡ true) c.requires.parts c.requires.place)
 
 pub read_node_rows-requires : goal.read_node_rows-requires
-read_node_rows-requires c = record {
-  stands = c.requires.stands;
-  within = place_within c.args.schema.now c.args.above.now c.args.last.now
-      (subst (λ (path : List Seg). is_place c.args.schema.now path ≡ true) c.requires.parts c.requires.place);
-}
+read_node_rows-requires c =
+    place_within c.args.schema.now c.args.above.now c.args.last.now
+    (subst (λ (path : List Seg). is_place c.args.schema.now path ≡ true) c.requires.parts c.requires.place)
 
 pub returns-then-not-is_qualified : goal.returns-then-not-is_qualified
 returns-then-not-is_qualified c =

@@ -3,13 +3,13 @@ use Rattle.yp_schema.specs.Nodes.{node_at}
 use Rattle.yp_data_json.specs.Writing.{leaf_data, data_at}
 use Rattle.yp_data_json.specs.Runs.{AreBelow}
 use Rattle.yp_data_json.proofs.Parts.{none_left}
-use Rattle.yp_data_json.proofs.Below.{segment_node}
+use Rattle.yp_schema.specs.SchemaLaws.{segment_within}
 use Rattle.yp_data_json.proofs.AtPlace.{node_after, writable_below, place_segment, place_fits, place_some, place_written, if_same}
 use Rattle.yp_data_json.proofs.writing.write_place.Goals as goal
 
 pub kind-requires : goal.kind-requires
 kind-requires c =
-    segment_node c.args.schema.now c.args.seg.now (place_segment c.args.schema.now c.args.at.now c.requires.last.0 c.args.seg.now c.requires.last.1 c.requires.writable.place)
+    segment_within c.args.schema.now c.args.seg.now (place_segment c.args.schema.now c.args.at.now c.requires.last.0 c.args.seg.now c.requires.last.1 c.requires.writable.place)
 
 pub write_members-requires-clause-below : goal.write_members-requires-clause-below
 write_members-requires-clause-below c =

@@ -3,13 +3,13 @@ use Rattle.serde_json.specs.View.{view}
 use Rattle.yp_data_json.specs.Writing.{data_at, named_member, rows_json}
 use Rattle.yp_data_json.specs.Runs.{AreBelow}
 use Rattle.yp_data_json.proofs.Parts.{none_left}
-use Rattle.yp_data_json.proofs.Below.{segment_node}
+use Rattle.yp_schema.specs.SchemaLaws.{segment_within}
 use Rattle.yp_data_json.proofs.AtPlace.{place_segment, if_same, json_at, top_below}
 use Rattle.yp_data_json.proofs.writing.write_rows.Goals as goal
 
 pub named-requires : goal.named-requires
 named-requires c =
-    segment_node c.args.schema.now c.in-Some.seg.now
+    segment_within c.args.schema.now c.in-Some.seg.now
     (place_segment c.args.schema.now c.args.at.now c.in-Some.field-0-1.now c.in-Some.seg.now (sym c.items.ensures ∙ c.in-Some.ensures.cases.0) c.requires.place)
 
 pub write_members-requires-clause-below : goal.write_members-requires-clause-below
