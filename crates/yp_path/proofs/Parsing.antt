@@ -1,5 +1,5 @@
 -- A text that is read as a rule path is of the grammar.
-use Rattle.std.proofs.Common.{◌≡◌, ◌↔◌, ℕ, suc, ◌<◌, ◌+◌, ◌==◌, List, [], ◌∷◌, ◌++◌, length, take, Bool, true, false, ◌&&◌, ◌||◌, cond, inl, inr, ⊎_elim, refl, sym, ap, subst, ◌∙◌, arith, append_assoc, append-nil, Option, Some, None, option_map, option_and_then, Result, Ok, Err, nat_lt, codes}
+use Rattle.std.proofs.Common.{◌≡◌, ◌↔◌, ℕ, suc, ◌<◌, ◌+◌, ◌==◌, List, [], ◌∷◌, ◌++◌, length, take, Bool, true, false, ◌&&◌, ◌||◌, cond, inl, inr, ⊎_elim, refl, sym, ap, subst, ◌∙◌, arith, append_assoc, append-nil, Option, Some, None, option_map, option_and_then, Ok, nat_lt, codes}
 use Rattle.std.specs.List.{position_or_len, before_first, after_first}
 use Rattle.std.proofs.lemmas.Bool.{cond-true, cond-false, cases_Bool, eqb-true, ltb-true, ltb-false, and_parts}
 use Rattle.std.proofs.lemmas.List.{take_all}
@@ -7,15 +7,14 @@ use Rattle.std.proofs.lemmas.List.Sums.{split_at_first, passes_at_first}
 use Rattle.yp_schema.specs.declared.rule_path.RuleSeg.{RuleSeg}
 use Rattle.yp_schema.specs.declared.schema.SchemaNode.{SchemaNode}
 use Rattle.yp_schema.specs.Nodes.{node_at, qualified_name}
-use Rattle.yp_schema.specs.WellFormed.{IsSchema, is_empty, is_name, is_identifier, is_at_home}
+use Rattle.yp_schema.specs.WellFormed.{IsSchema, is_empty, is_identifier, is_at_home}
 use Rattle.yp_base.specs.Types.{same_text}
-use Rattle.yp_path.specs.declared.fault.PathFault.{PathFault}
 use Rattle.yp_path.specs.declared.fault.PathFault.TheVariants.{Syntax, UnknownNode, KeyCount, KeyValue}
 use Rattle.yp_path.specs.declared.mark.Place.{Place}
 use Rattle.yp_path.specs.declared.mark.Place.TheVariants.{Outside, Within}
 use Rattle.yp_path.specs.declared.predicate.Predicate.{Predicate}
 use Rattle.yp_base.specs.Cuts.{onto_first}
-use Rattle.yp_path.specs.Grammar.{IsQualified, IsNodeName, IsKeyName, is_free, spaces, spaced, quoted, IsQuote, IsPredicate, ArePredicates, RulePart, IsSegment, AreSegments, IsRuleText}
+use Rattle.yp_path.specs.Grammar.{IsNodeName, IsKeyName, is_free, spaces, spaced, quoted, IsQuote, IsPredicate, ArePredicates, RulePart, IsSegment, AreSegments, IsRuleText}
 use Rattle.yp_path.specs.Names.{child_named}
 use Rattle.yp_base.specs.Results.{◌>>=◌, or_fault}
 use Rattle.yp_path.specs.RulePaths.{is_quote, next_place, is_bare, pieces, opened, bodies, all_bodies, without_spaces, are_spaces, around, name_in, closed, value_in, predicate_in, predicates_in, predicates_behind, is_bracket, predicates_of, node_named, among, key_named, is_new, each_once, rule_keys, with_predicates, rule_part_in, rule_parts_in, rule_segment_in, rule_segments_in, rule_path_in}

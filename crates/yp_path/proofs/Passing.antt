@@ -1,5 +1,5 @@
 -- A text of the grammar of rule paths is read as its parts.
-use Rattle.std.proofs.Common.{◌≡◌, ℕ, zero, suc, ◌==◌, List, [], ◌∷◌, ◌++◌, length, Bool, true, false, not, ◌&&◌, ◌||◌, cond, ◌⊎◌, inl, inr, ⊎_elim, refl, sym, ap, subst, ◌∙◌, arith, append_assoc, append-nil, Option, Some, None, option_map, option_and_then, Result, Ok, Err, nat_lt, drop, ◌+◌}
+use Rattle.std.proofs.Common.{◌≡◌, ℕ, zero, suc, ◌==◌, List, [], ◌∷◌, ◌++◌, length, Bool, true, false, not, ◌&&◌, ◌||◌, cond, ◌⊎◌, inl, inr, ⊎_elim, refl, sym, ap, subst, ◌∙◌, arith, append_assoc, append-nil, Option, Some, None, option_map, option_and_then, Result, Ok, nat_lt, drop, ◌+◌}
 use Rattle.std.specs.List.{position_or_len, before_first, after_first}
 use Rattle.std.proofs.Math.Bool.{and-false}
 use Rattle.std.proofs.lemmas.List.{drop_all}
@@ -13,7 +13,7 @@ use Rattle.yp_path.specs.declared.mark.Place.{Place}
 use Rattle.yp_path.specs.declared.mark.Place.TheVariants.{Outside, Within, Quoted}
 use Rattle.yp_path.specs.declared.predicate.Predicate.{Predicate}
 use Rattle.yp_base.specs.Cuts.{onto_first}
-use Rattle.yp_path.specs.Grammar.{IsQualified, IsNodeName, IsKeyName, is_free, spaces, spaced, quoted, IsQuote, IsPredicate, ArePredicates, RulePart, IsSegment, AreSegments, IsRuleText}
+use Rattle.yp_path.specs.Grammar.{IsQualified, IsNodeName, IsKeyName, is_free, spaces, spaced, quoted, IsQuote, IsPredicate, ArePredicates, RulePart, AreSegments, IsRuleText}
 use Rattle.yp_base.specs.Results.{◌>>=◌, or_fault}
 use Rattle.yp_path.specs.RulePaths.{is_quote, next_place, is_bare, pieces, bodies, all_bodies, without_spaces, are_spaces, around, name_in, closed, value_in, predicate_in, predicates_in, predicates_behind, is_bracket, predicates_of, rule_part_in, rule_parts_in, rule_segment_in, rule_segments_in, rule_path_in}
 use Rattle.yp_path.specs.Targets.{some_name}

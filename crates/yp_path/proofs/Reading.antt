@@ -1,5 +1,5 @@
 -- What is read of a text is a path of the schema.
-use Rattle.std.proofs.Common.{◌≡◌, ℕ, ◌<◌, ◌==◌, List, [], ◌∷◌, length, Bool, true, false, cond, refl, sym, ap, subst, ◌∙◌, Option, Some, None, option_map, option_and_then, Result, Ok, Err, IfOk, arith}
+use Rattle.std.proofs.Common.{◌≡◌, ℕ, ◌<◌, ◌==◌, List, [], ◌∷◌, length, Bool, true, false, cond, refl, sym, ap, subst, ◌∙◌, Option, Some, None, option_map, Result, Ok, Err, IfOk, arith}
 use Rattle.std.proofs.lemmas.Bool.{lt-ltb, eqb-true, and_from, and_parts}
 use Rattle.yp_base.specs.declared.atom.Atom.{Atom}
 use Rattle.yp_base.specs.declared.leaf_type.LeafType.{LeafType}

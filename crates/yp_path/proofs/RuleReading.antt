@@ -1,8 +1,7 @@
 -- What is read of a text is a rule path of the schema.
-use Rattle.std.proofs.Common.{◌≡◌, ℕ, ◌<◌, List, [], ◌∷◌, length, Bool, true, false, cond, refl, sym, ap, subst, ◌∙◌, Option, Some, None, option_map, option_and_then, Result, Ok, Err, IfOk}
+use Rattle.std.proofs.Common.{◌≡◌, ℕ, ◌<◌, List, [], ◌∷◌, length, true, false, refl, sym, ap, subst, ◌∙◌, Option, Some, None, option_map, Result, Ok, Err, IfOk}
 use Rattle.std.proofs.lemmas.Bool.{lt-ltb, and_from, cond-true, and_parts}
 use Rattle.yp_base.specs.declared.atom.Atom.{Atom}
-use Rattle.yp_base.specs.declared.leaf_type.LeafType.{LeafType}
 use Rattle.yp_base.specs.Results.{◌>>=◌, or_fault}
 use Rattle.yp_schema.specs.declared.rule_path.RuleSeg.{RuleSeg}
 use Rattle.yp_schema.specs.declared.schema.SchemaNode.{SchemaNode}
@@ -10,18 +9,17 @@ use Rattle.yp_schema.specs.declared.schema.Kind.{Kind}
 use Rattle.yp_schema.specs.declared.schema.Kind.TheVariants.{Container, Presence, List as Listing, Leaf, LeafList}
 use Rattle.yp_schema.specs.Nodes.{node_at, same_number}
 use Rattle.yp_schema.specs.WellFormed.{is_empty}
-use Rattle.yp_schema.specs.Datastore.{atom_fits}
-use Rattle.yp_schema.specs.RulePaths.{is_rule_key, are_rule_keys, is_rule_value, rule_keys_of_kind, is_rule_segment, rule_goes_down, is_rule_path_of, IsRulePathOf}
+use Rattle.yp_schema.specs.RulePaths.{is_rule_key, are_rule_keys, is_rule_value, rule_keys_of_kind, is_rule_segment, rule_goes_down, IsRulePathOf}
 use Rattle.yp_path.specs.declared.fault.PathFault.{PathFault}
 use Rattle.yp_path.specs.declared.fault.PathFault.TheVariants.{Syntax, UnknownNode, KeyCount, KeyValue}
 use Rattle.yp_path.specs.declared.mark.Place.TheVariants.{Outside}
 use Rattle.yp_path.specs.declared.predicate.Predicate.{Predicate}
 use Rattle.yp_path.specs.Names.{child_named}
-use Rattle.yp_path.specs.RulePaths.{pieces, given_for, each_once, key_value, rule_keys, with_predicates, rule_part_in, predicates_of, is_bracket, rule_segment_in, rule_segments_in, rule_path_in}
+use Rattle.yp_path.specs.RulePaths.{pieces, given_for, each_once, key_value, rule_keys, with_predicates, rule_part_in, predicates_of, is_bracket, rule_segment_in, rule_segments_in}
 use Rattle.yp_path.specs.Targets.{some_name, value_of, asked_of_kind, asked, Gives}
 use Rattle.std.specs.List.{before_first}
 use Rattle.yp_path.proofs.Names.{named_at}
-use Rattle.yp_path.proofs.Predicates.{Cut, some_pieces}
+use Rattle.yp_path.proofs.Predicates.{some_pieces}
 use Rattle.yp_path.proofs.Reading.{ReadFits, value_fits}
 use Rattle.yp_path.proofs.Steps.{step_ok, ok_same, there, and_then_some, map_some, some_same, cond_ok}
 
