@@ -1,4 +1,4 @@
-//! Paths come by node, then by keys, whether their fronts tell them apart or not.
+//! Paths come by node, then by keys, whether they share their segments or not.
 use super::*;
 use crate::atom::Atom;
 use crate::series::Series;
@@ -19,11 +19,14 @@ fn numbered(alloc: Global, node: u32, key: u64) -> Result<Path, NoMemory> {
 }
 
 #[test]
-fn a_path_gives_its_segments_back(rt: HostRuntime) -> Result<(), Fail> {
-    let path = entry(rt.alloc(), 3, "lo")?;
-    assert_eq!(rt; path.len(), 1);
-    assert_eq!(rt; path.items().len(), 1);
-    assert_eq!(rt; path.into_vec().len(), 1);
+fn a_path_below_another_has_one_segment_more(rt: HostRuntime) -> Result<(), Fail> {
+    let alloc = rt.alloc();
+    let above = entry(alloc, 3, "lo")?.share(alloc)?;
+    let keys = Series::from_vec(Vec::new(alloc));
+    let below = above.below(alloc, Seg { node: 4, keys })?;
+    assert_eq!(rt; below.len(), 2);
+    assert!(rt; below.first(alloc, 1)? == above.copy(alloc)?);
+    assert!(rt; is_prefix(&above, &below));
     Ok(())
 }
 
@@ -42,7 +45,7 @@ fn a_smaller_node_and_then_a_smaller_key_comes_first(rt: HostRuntime) -> Result<
 }
 
 #[test]
-fn what_the_fronts_leave_open_is_compared(rt: HostRuntime) -> Result<(), Fail> {
+fn long_texts_and_numbers_are_compared(rt: HostRuntime) -> Result<(), Fail> {
     let alloc = rt.alloc();
     let first = entry(alloc, 3, "TenGigabitEthernet1")?;
     let second = entry(alloc, 3, "TenGigabitEthernet2")?;
