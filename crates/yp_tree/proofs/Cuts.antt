@@ -14,11 +14,11 @@ use Rattle.yp_base.specs.declared.row.Value.{Value}
 use Rattle.yp_base.specs.declared.row.Row.{Row}
 use Rattle.yp_base.specs.Order.{path_cmp, is_within}
 use Rattle.yp_base.specs.OrderLaws.{segments_total, paths_total}
-use Rattle.yp_base.specs.Rows.{path_of, value_at, has_within, rows_within, rows_without}
+use Rattle.yp_base.specs.Rows.{path_of, value_at, has_within, rows_within, rows_without, row_of, rows_of}
 use Rattle.yp_base.proofs.Exact.{paths_exact}
 use Rattle.yp_base.proofs.Prefixes.{fronts_together}
 use Rattle.yp_tree.proofs.Nexts.{first_row, less_not_greater, included_from, included_within}
-use Rattle.yp_tree.specs.Listed.{row_of, rows_of, without_row}
+use Rattle.yp_tree.specs.Listed.{without_row}
 
 -- the first rows, as long as they are at or below a path
 abbrev pub front_within : List Seg → List (List Seg × Value) → List (List Seg × Value)

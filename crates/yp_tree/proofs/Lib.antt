@@ -1,4 +1,5 @@
-pub mod Covered
+pub mod Without
 pub mod Cuts
 pub mod Nexts
+pub mod Renewal
 pub mod Rows

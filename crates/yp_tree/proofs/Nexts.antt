@@ -17,8 +17,7 @@ use Rattle.yp_base.specs.Order.{path_cmp, is_within, segment_cmp}
 use Rattle.yp_base.specs.OrderLaws.{segments_total, paths_total}
 use Rattle.yp_base.proofs.Prefixes.{front_not_after, fronts_together}
 use Rattle.yp_tree.specs.Begins.{Begins}
-use Rattle.yp_base.specs.Rows.{path_of, next_row}
-use Rattle.yp_tree.specs.Listed.{row_of, rows_of}
+use Rattle.yp_base.specs.Rows.{path_of, next_row, row_of, rows_of}
 
 pub less_not_greater : (o : Ordering) → o ≡ Less → is_gt o ≡ false
 less_not_greater Less e = refl

@@ -1,5 +1,5 @@
 -- An ordered map's entries and their rows.
-use Rattle.std.proofs.Common.{◌≡◌, List, [], ◌∷◌, ◌++◌, map, refl, sym, ap, subst, ◌∙◌, cond, true, false, true≢false, append_assoc, None, Some}
+use Rattle.std.proofs.Common.{◌≡◌, List, [], ◌∷◌, ◌++◌, map, refl, sym, ap, subst, ◌∙◌, cond, true, false, true≢false, append_assoc, Some}
 use Rattle.std.specs.Prelude.{Result, Ok, Err, OnErr, is_some}
 use Rattle.std.specs.BTreeMap.{insert_entry, is_at}
 use Rattle.std.specs.Map.{lookup, remove_entry, set_value}
@@ -10,9 +10,9 @@ use Rattle.yp_base.specs.declared.path.Seg.{Seg}
 use Rattle.yp_base.specs.declared.row.Row.{Row}
 use Rattle.yp_base.specs.declared.row.Value.{Value}
 use Rattle.yp_base.specs.Order.{path_cmp}
-use Rattle.yp_base.specs.Rows.{path_of, value_at, put_row, AreInOrder}
-use Rattle.yp_base.proofs.RowLaws.{AllPast, all_past, first_order, rest_order, put_last_row, put_keeps_order}
-use Rattle.yp_tree.specs.Listed.{row_of, rows_of, set_row, without_row}
+use Rattle.yp_base.specs.Rows.{path_of, value_at, put_row, AreInOrder, row_of, rows_of}
+use Rattle.yp_base.proofs.RowLaws.{none_past, all_past, first_order, rest_order, put_last_row, put_keeps_order}
+use Rattle.yp_tree.specs.Listed.{set_row, without_row}
 
 pub value_at-lookup : (path : List Seg) (es : List (List Seg × Value)) → lookup (is_at (path_cmp path)) es ≡ value_at path (rows_of es)
 value_at-lookup path [] = refl
@@ -36,10 +36,6 @@ without_row-remove path (e ∷ es) =
       | true ↦ refl
       | false ↦ ap (λ rows. row_of e ∷ rows) (without_row-remove path es)
     ]
-
-none_past : (path : List Seg) (rows : List Row) → AllPast path rows → value_at path rows ≡ None
-none_past path [] past = refl
-none_past path (row ∷ rows) past = rw past.0 (none_past path rows past.1)
 
 -- where a row is there, its entry gets the value
 set_there : (path : List Seg) (value : Value) (es : List (List Seg × Value)) → AreInOrder (rows_of es) → is_some (value_at path (rows_of es)) ≡ true

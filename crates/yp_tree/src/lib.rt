@@ -5,7 +5,8 @@
 //! It needn't hold the rows above a row. `get`, `next` and `first_within` read it and count one visit
 //! each, `within` and `rows_within` count one for each row that they give and one more, and there is no
 //! other way to read the rows that stay in it; `put`, `replace`, `cut`, `remove` and `renew` change it, and
-//! `into_rows` gives its rows away.
+//! `into_rows` gives its rows away. What changes a tree, gives it away or copies it, and `len`, count
+//! none: visits bound what is read for an update, and not what a patch costs.
 #![tactic(auto)]
 
 #[cfg(test)]

@@ -1,9 +1,9 @@
 //! Rows in an ordered map.
-ghost use Rattle.std.specs.Prelude.{◌≡◌, ◌+◌, ◌^◌, ◌<◌, ◌≤◌, [], None, true, is_some, length, slice_get, map, option_map, option_copied, OnOk, OnErr, IfOk, IfSome};
+ghost use Rattle.std.specs.Prelude.{◌≡◌, ◌+◌, ◌^◌, ◌<◌, ◌≤◌, ◌++◌, ◌∷◌, [], Some, is_some, length, slice_get, map, take, option_map, option_copied, OnOk, OnErr, IfOk, IfSome};
 ghost use Rattle.std.specs.Bound.{bound_map};
-ghost use Rattle.yp_base.specs.Rows.{path_of, value_at, put_row, put_rows, next_row, has_within, rows_within, rows_without, AreInOrder};
+ghost use Rattle.yp_base.specs.Rows.{path_of, value_at, put_row, put_rows, next_row, has_within, rows_within, rows_without, AreInOrder, row_of};
 ghost use Rattle.yp_tree.specs.Begins.{Begins};
-ghost use Rattle.yp_tree.specs.Listed.{HaveRows, row_of, set_row, without_row};
+ghost use Rattle.yp_tree.specs.Listed.{given_back, set_row, undone, without_others, without_row};
 
 use std::alloc::Global;
 use std::collections::BTreeMap;
@@ -25,8 +25,7 @@ pub struct Tree {
 impl Model for Tree {
     ghost use Rattle.std.specs.Prelude.{List};
     ghost use Rattle.yp_base.specs.declared.row.Row.{Row};
-    ghost use Rattle.yp_base.specs.Rows.{AreInOrder};
-    ghost use Rattle.yp_tree.specs.Listed.{rows_of};
+    ghost use Rattle.yp_base.specs.Rows.{AreInOrder, rows_of};
 
     ghost Value = { List Row };
 
@@ -61,7 +60,7 @@ impl Tree {
         ensures visits { steps.new ≡ steps.old + 1 }
     {
         steps.tick();
-        self.kept.get(path)
+        self.found(path)
     }
 
     /// The first row past one path that is at or below another, and `None` exactly where there is no
@@ -204,12 +203,17 @@ impl Tree {
         Ok(Series::from_vec(rows))
     }
 
-    /// Puts rows in the place of those at or below a path. After `NoMemory` some of them may be out or in.
+    /// Puts rows in the place of those at or below a path. After `NoMemory` the tree is as it was.
     pub fn renew(&mut self, alloc: Global, under: &Path, rows: &Rows) -> Result<(), NoMemory>
-        ensures { OnOk result (self.new ≡ put_rows rows.now (rows_without under.now self.old)) }
+        ensures rows { OnOk result (self.new ≡ put_rows rows.now (rows_without under.now self.old)) }
+        ensures unchanged { OnErr result (self.new ≡ self.old) }
     {
-        self.make_room(alloc, under, rows)?;
-        self.put_copies(alloc, rows)
+        let _count = self.len();
+        let paths = self.paths_within(alloc, under)?;
+        let news = Tree::of_rows(alloc, rows)?;
+        self.put_all(alloc, rows)?;
+        self.leave_out_others(paths.as_slice(), &news);
+        Ok(())
     }
 
     /// Takes out the row that has this path, and gives its value; `None` where there is no such row. It
@@ -242,49 +246,105 @@ impl Tree {
         Ok(Series::from_vec(rows))
     }
 
-    // Takes out the rows at or below a path, unless each of them is to get another value.
-    fn make_room(&mut self, alloc: Global, under: &Path, rows: &Rows) -> Result<(), NoMemory>
-        ensures { OnOk result (put_rows rows.now self.new ≡ put_rows rows.now (rows_without under.now self.old)) }
+    // A tree of copies of these rows, put one after another.
+    fn of_rows(alloc: Global, rows: &Rows) -> Result<Tree, NoMemory>
+        ensures { IfOk result (λ tree. tree ≡ put_rows rows.now []) }
     {
-        if self.is_covered(under, rows) {
-            return Ok(());
-        }
-        let _cut = self.cut(alloc, under)?;
-        Ok(())
+        let mut tree = Tree::new(alloc);
+        tree.put_all(alloc, rows)?;
+        Ok(tree)
     }
 
-    // Whether the rows at or below a path have the paths of the first of these rows, in their order.
-    fn is_covered(&self, under: &Path, rows: &Rows) -> bool
-        ensures order { AreInOrder self.now }
-        ensures covered { result ≡ true → HaveRows rows.now (map path_of (rows_within under.now self.now)) }
+    // Puts copies of rows, one after another. After `NoMemory` the tree is as it was.
+    fn put_all(&mut self, alloc: Global, rows: &Rows) -> Result<(), NoMemory>
+        ensures rows { OnOk result (self.new ≡ put_rows rows.now self.old) }
+        ensures unchanged { OnErr result (self.new ≡ self.old) }
     {
-        let mut kept = self.kept.range((Bound::Included(under), Bound::Unbounded));
-        let mut rest = rows.items();
-        while let Some((old, _value)) = kept.next() {
-            if !is_prefix(under, old) {
-                break;
-            }
-            match rest.split_first() {
-                Some((row, more)) => {
-                    if !row.path.cmp(old).is_eq() {
-                        return false;
-                    }
-                    rest = more;
-                }
-                None => return false,
-            }
-        }
-        true
-    }
-
-    // Puts copies of rows, one after another.
-    fn put_copies(&mut self, alloc: Global, rows: &Rows) -> Result<(), NoMemory>
-        ensures { OnOk result (self.new ≡ put_rows rows.now self.old) }
-    {
+        let mut olds = Vec::new(alloc);
         for row in rows.items() {
-            self.put(alloc, row.copy(alloc)?)?;
+            match self.put_copy(alloc, row, &mut olds) {
+                Ok(()) => {}
+                Err(fault) => {
+                    self.give_all_back(rows, olds);
+                    return Err(fault);
+                }
+            }
         }
         Ok(())
+    }
+
+    // Puts a copy of a row, and adds the value that its path had.
+    fn put_copy(
+        &mut self,
+        alloc: Global,
+        row: &Row,
+        olds: &mut Vec<Option<Value>>,
+    ) -> Result<(), NoMemory>
+        ensures rows { OnOk result (self.new ≡ put_row row.now self.old) }
+        ensures old { OnOk result (olds.new.items ≡ olds.old.items ++ value_at row.now.path self.old ∷ []) }
+        ensures back { OnOk result (given_back (Some row.now) (value_at row.now.path self.old) self.new ≡ self.old) }
+        ensures unchanged { OnErr result (self.new ≡ self.old) }
+        ensures no_old { OnErr result (olds.new.items ≡ olds.old.items) }
+    {
+        let _count = self.len();
+        olds.reserve(1)?;
+        let old = self.replace(alloc, row.copy(alloc)?)?;
+        olds.push(old)?;
+        Ok(())
+    }
+
+    // Gives the paths of the first of these rows the values that they had, the last one first.
+    fn give_all_back(&mut self, rows: &Rows, olds: Vec<Option<Value>>)
+        ensures { self.new ≡ undone (take (length olds.items) rows.now) olds.items self.old }
+    {
+        let mut olds = olds;
+        while let Some(old) = olds.pop() {
+            self.give_back(rows.items().get(olds.len()), old);
+        }
+    }
+
+    // Gives the path of a row the value that it had, or takes out its row where it had none.
+    fn give_back(&mut self, row: Option<&Row>, old: Option<Value>)
+        ensures { self.new ≡ given_back (option_copied row.entry) old self.old }
+    {
+        if let Some(row) = row {
+            match old {
+                Some(value) => self.set(&row.path, value),
+                None => self.leave_out(&row.path),
+            }
+        }
+    }
+
+    // Takes out the rows of these paths, but for those that have a new row.
+    fn leave_out_others(&mut self, paths: &[Path], news: &Tree)
+        ensures { self.new ≡ without_others paths.now news.now self.old }
+    {
+        for path in paths {
+            if !news.has(path) {
+                self.leave_out(path);
+            }
+        }
+    }
+
+    // Whether there is a row of this path.
+    fn has(&self, path: &Path) -> bool
+        ensures { result ≡ is_some (value_at path.now self.now) }
+    {
+        let found = self.found(path);
+        found.is_some()
+    }
+
+    fn found(&self, path: &Path) -> Option<&Value>
+        ensures { option_copied result ≡ value_at path.now self.now }
+    {
+        self.kept.get(path)
+    }
+
+    // Takes out the row that has this path.
+    fn leave_out(&mut self, path: &Path)
+        ensures { self.new ≡ without_row path.now self.old }
+    {
+        let _old = self.remove(path);
     }
 
     // Copies of the paths of the rows at or below a path.

@@ -1,6 +1,6 @@
 use Rattle.std.proofs.Common.{ap, sym, ◌∙◌, cond, Some, None}
 use Rattle.std.specs.Prelude.{is_some}
-use Rattle.yp_tree.specs.Listed.{row_of}
+use Rattle.yp_base.specs.Rows.{row_of}
 use Rattle.yp_tree.proofs.Nexts.{first_row}
 use Rattle.yp_tree.proofs.Cuts.{first_from_range, there_where_first}
 use Rattle.yp_tree.proofs.tree.Tree.first_within.Goals as goal

@@ -1,7 +1,6 @@
 use Rattle.std.proofs.Common.{◌++◌, ap, ◌∙◌, map}
-use Rattle.yp_base.specs.Rows.{path_of, rows_within}
+use Rattle.yp_base.specs.Rows.{path_of, rows_within, rows_of}
 use Rattle.yp_tree.proofs.Cuts.{front_within, within_comes_first}
-use Rattle.yp_tree.specs.Listed.{rows_of}
 use Rattle.yp_tree.proofs.tree.Tree.paths_within.Goals as goal
 
 pub loop-path-init : goal.loop-path-init

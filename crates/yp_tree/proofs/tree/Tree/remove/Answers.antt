@@ -2,9 +2,9 @@ use Rattle.std.proofs.Common.{List, ap, sym, subst, ◌∙◌}
 use Rattle.std.specs.List.Sorted.{IsStrictlySortedBy}
 use Rattle.yp_base.specs.declared.path.Seg.{Seg}
 use Rattle.yp_base.specs.Order.{path_cmp}
-use Rattle.yp_base.specs.Rows.{value_at}
+use Rattle.yp_base.specs.Rows.{value_at, rows_of}
 use Rattle.yp_tree.proofs.Rows.{paths-rows, value_at-lookup, without_row-remove}
-use Rattle.yp_tree.specs.Listed.{rows_of, without_row}
+use Rattle.yp_tree.specs.Listed.{without_row}
 use Rattle.yp_tree.proofs.tree.Tree.remove.Goals as goal
 
 pub invariant_of-self : goal.invariant_of-self

@@ -4,8 +4,7 @@ use Rattle.yp_base.specs.Order.{path_cmp}
 use Rattle.yp_base.specs.declared.path.Seg.{Seg}
 use Rattle.std.proofs.Common.{List}
 use Rattle.yp_tree.proofs.Rows.{put_row-insert, paths-rows, value_at-lookup, when_failed}
-use Rattle.yp_base.specs.Rows.{put_row, value_at}
-use Rattle.yp_tree.specs.Listed.{rows_of}
+use Rattle.yp_base.specs.Rows.{put_row, value_at, rows_of}
 use Rattle.yp_tree.proofs.tree.Tree.replace.Goals as goal
 
 pub invariant_of-self-2 : goal.invariant_of-self-2

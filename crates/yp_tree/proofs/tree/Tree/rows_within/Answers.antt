@@ -1,7 +1,6 @@
 use Rattle.std.proofs.Common.{◌++◌, arith, ap, ◌∙◌, length}
-use Rattle.yp_base.specs.Rows.{rows_within}
+use Rattle.yp_base.specs.Rows.{rows_within, rows_of}
 use Rattle.yp_tree.proofs.Cuts.{front_within, within_comes_first}
-use Rattle.yp_tree.specs.Listed.{rows_of}
 use Rattle.yp_tree.proofs.tree.Tree.rows_within.Goals as goal
 
 pub loop-row-init : goal.loop-row-init

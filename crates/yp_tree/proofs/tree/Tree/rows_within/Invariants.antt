@@ -1,7 +1,6 @@
 use Rattle.std.proofs.Common.{◌≡◌, ◌+◌, ◌++◌, length}
-use Rattle.yp_base.specs.Rows.{rows_within}
+use Rattle.yp_base.specs.Rows.{rows_within, rows_of}
 use Rattle.yp_tree.proofs.Cuts.{front_within}
-use Rattle.yp_tree.specs.Listed.{rows_of}
 use Rattle.yp_tree.proofs.tree.Tree.rows_within.Given as goal
 
 abbrev pub invariant-loop-row : goal.invariant-loop-row

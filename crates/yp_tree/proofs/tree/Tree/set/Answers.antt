@@ -1,9 +1,9 @@
 use Rattle.std.proofs.Common.{ap, sym, subst, ◌∙◌, ◌≡◌, true, false}
 use Rattle.std.specs.Prelude.{is_some}
 use Rattle.std.specs.Option.{option_copied_mut}
-use Rattle.yp_base.specs.Rows.{AreInOrder}
+use Rattle.yp_base.specs.Rows.{AreInOrder, row_of, rows_of}
 use Rattle.yp_tree.specs.declared.tree.Tree.TheInside.{Inside}
-use Rattle.yp_tree.specs.Listed.{row_of, rows_of, set_row}
+use Rattle.yp_tree.specs.Listed.{set_row}
 use Rattle.yp_tree.proofs.Rows.{set_found, set_nowhere, set_order}
 use Rattle.yp_tree.proofs.tree.Tree.set.Goals.{in-Some+in-Atom+in-Text+in-Own-1, in-Some+in-Atom+in-Text+in-Shared-1, in-Some+in-Atom+in-Bool-1, in-Some+in-Member-1, in_default+in-Atom+in-Text+in-Own-1, in_default+in-Atom+in-Text+in-Shared-1, in_default+in-Atom+in-Bool-1, in_default+in-Member-1}
 use Rattle.yp_tree.proofs.tree.Tree.set.Goals as goal

@@ -1,7 +1,6 @@
 use Rattle.std.proofs.Common.{◌≡◌, ◌+◌, ◌++◌, length, map}
-use Rattle.yp_base.specs.Rows.{rows_within}
+use Rattle.yp_base.specs.Rows.{rows_within, row_of, rows_of}
 use Rattle.yp_tree.proofs.Cuts.{front_within}
-use Rattle.yp_tree.specs.Listed.{row_of, rows_of}
 use Rattle.yp_tree.proofs.tree.Tree.within.Given as goal
 
 abbrev pub invariant-loop-row : goal.invariant-loop-row

@@ -1,7 +1,6 @@
 use Rattle.std.proofs.Common.{◌++◌, ap, sym, ◌∙◌}
-use Rattle.yp_base.specs.Rows.{put_row}
+use Rattle.yp_base.specs.Rows.{put_row, rows_of}
 use Rattle.yp_tree.proofs.Rows.{copying_grows}
-use Rattle.yp_tree.specs.Listed.{rows_of}
 use Rattle.yp_tree.proofs.tree.TreeDuplicate.copy.Goals as goal
 
 pub loop-path-preserved : goal.loop-path-preserved

@@ -1,6 +1,5 @@
 use Rattle.std.proofs.Common.{◌≡◌, ◌++◌}
-use Rattle.yp_base.specs.Rows.{AreInOrder}
-use Rattle.yp_tree.specs.Listed.{rows_of}
+use Rattle.yp_base.specs.Rows.{AreInOrder, rows_of}
 use Rattle.yp_tree.proofs.tree.TreeDuplicate.copy.Given as goal
 
 abbrev pub invariant-loop-path : goal.invariant-loop-path

@@ -1,20 +1,16 @@
--- Rows that are put at each path at or below another: it doesn't matter what was there.
-use Rattle.std.proofs.Common.{◌≡◌, List, [], ◌∷◌, map, refl, sym, ap, subst, ◌∙◌, cond, Bool, true, false, Option, Some}
+-- Rows that are put where a row is gone.
+use Rattle.std.proofs.Common.{◌≡◌, List, [], ◌∷◌, refl, sym, ap, subst, ◌∙◌, cond, true, false, Some}
 use Rattle.std.specs.Prelude.{is_some}
 use Rattle.std.specs.Ordering.{is_eq, match_ordering}
 use Rattle.std.specs.declared.cmp.Ordering.TheVariants.{Less, Equal, Greater}
-use Rattle.std.proofs.lemmas.Cmp.{tied_itself}
 use Rattle.std.proofs.lemmas.Map.Views.{tells_apart}
 use Rattle.yp_base.specs.declared.path.Seg.{Seg}
-use Rattle.yp_base.specs.declared.row.Value.{Value}
 use Rattle.yp_base.specs.declared.row.Row.{Row}
-use Rattle.yp_base.specs.Order.{path_cmp, is_within}
-use Rattle.yp_base.specs.OrderLaws.{paths_total}
-use Rattle.yp_base.specs.Rows.{path_of, value_at, put_row, put_rows, rows_within, rows_without, AreInOrder}
+use Rattle.yp_base.specs.Order.{path_cmp}
+use Rattle.yp_base.specs.Rows.{value_at, put_row, put_rows, AreInOrder}
 use Rattle.yp_base.proofs.Exact.{paths_exact}
 use Rattle.yp_base.proofs.RowLaws.{AllPast, all_past, first_order, rest_order, join_order, put_first, put_keeps_order}
-use Rattle.yp_tree.specs.Listed.{HaveRows, rows_of, without_row}
-use Rattle.yp_tree.proofs.Cuts.{front_within, taken, others_are_all}
+use Rattle.yp_tree.specs.Listed.{without_row}
 
 -- ---- a row less
 
@@ -30,7 +26,7 @@ still_past above path (row ∷ rows) past =
       | false ↦ (past.0, still_past above path rows past.1)
     ]
 
-still_order : (path : List Seg) (rows : List Row) → AreInOrder rows → AreInOrder (without_row path rows)
+pub still_order : (path : List Seg) (rows : List Row) → AreInOrder rows → AreInOrder (without_row path rows)
 still_order path [] order = order
 still_order path (row ∷ rows) order =
     elim (is_eq (path_cmp path row.path)) as (λ b. AreInOrder (cond b rows (row ∷ without_row path rows))) [
@@ -82,7 +78,7 @@ put_apart new path (row ∷ rows) order apart =
 -- ---- rows that get new ones
 
 -- without a row whose path gets a new one
-puts_over : (news : List Row) (path : List Seg) (rows : List Row) → AreInOrder rows → is_some (value_at path news) ≡ true → put_rows news (without_row path rows) ≡ put_rows news rows
+pub puts_over : (news : List Row) (path : List Seg) (rows : List Row) → AreInOrder rows → is_some (value_at path news) ≡ true → put_rows news (without_row path rows) ≡ put_rows news rows
 puts_over [] path rows order there = cc
 puts_over (new ∷ news) path rows order there =
     elim (is_eq (path_cmp path new.path)) as (λ b. is_eq (path_cmp path new.path) ≡ b → is_some (cond b (Some new.value) (value_at path news)) ≡ true → put_rows news (put_row new (without_row path rows)) ≡ put_rows news (put_row new rows)) [
@@ -90,33 +86,11 @@ puts_over (new ∷ news) path rows order there =
       | false ↦ λ apart h. ap (put_rows news) (put_apart new path rows order apart) ∙ puts_over news path (put_row new rows) (put_keeps_order new rows order) h
     ] refl there
 
--- and without all those at or below a path
-pub covered : (news : List Row) (under : List Seg) (paths : List (List Seg)) (rows : List Row) → AreInOrder rows → map path_of (rows_within under rows) ≡ paths → HaveRows news paths → put_rows news rows ≡ put_rows news (rows_without under rows)
-covered news under [] rows order is each = ap (put_rows news) (sym (others_are_all under rows is))
-covered news under (path ∷ paths) rows order is each =
-    let t = taken under rows path paths is in
-    let less : List Row = without_row path rows in
-    let whole : path ∷ map path_of (rows_within under less) ≡ path ∷ paths = sym (ap (map path_of) t.2) ∙ is in
-    let rest : map path_of (rows_within under less) ≡ paths = cc in
-    sym (puts_over news path rows order each.0) ∙ covered news under paths less (still_order path rows order) rest each.1 ∙ ap (put_rows news) t.3
-
--- ---- whether they do
-
-one_more : (row : Row) (rows : List Row) (paths : List (List Seg)) → HaveRows rows paths → HaveRows (row ∷ rows) paths
-one_more row rows [] have = tt
-one_more row rows (path ∷ paths) have = (either (is_eq (path_cmp path row.path)) (value_at path rows) have.0, one_more row rows paths have.1)
-  where
-    either : (b : Bool) (value : Option Value) → is_some value ≡ true → is_some (cond b (Some row.value) value) ≡ true
-    either true value h = refl
-    either false value h = h
-
-pub have_their_own : (rows : List Row) → HaveRows rows (map path_of rows)
-have_their_own [] = tt
-have_their_own (row ∷ rows) = (ap (λ o. is_some (cond (is_eq o) (Some row.value) (value_at row.path rows))) (tied_itself paths_total row.path), one_more row rows (map path_of rows) (have_their_own rows))
-
--- one more of the rows at or below a path has a new one
-pub has_one : (news : List Row) (under path : List Seg) (value : Value) (row : Row) (es : List (List Seg × Value)) → is_within under path ≡ true → is_eq (path_cmp row.path path) ≡ true → is_some (value_at row.path news) ≡ true → HaveRows news (map path_of (rows_of (front_within under es)))
-    → HaveRows news (map path_of (rows_of (front_within under ((path, value) ∷ es))))
-has_one news under path value row es within same there have =
-    subst (λ b. HaveRows news (map path_of (rows_of (cond b ((path, value) ∷ front_within under es) [])))) (sym within)
-    (ap (λ p. is_some (value_at p news)) (sym (tells_apart paths_exact row.path path same)) ∙ there, have)
+-- without a row whose path gets none
+pub puts_apart : (news : List Row) (path : List Seg) (rows : List Row) → AreInOrder rows → is_some (value_at path news) ≡ false → put_rows news (without_row path rows) ≡ without_row path (put_rows news rows)
+puts_apart [] path rows order missing = refl
+puts_apart (new ∷ news) path rows order missing =
+    elim (is_eq (path_cmp path new.path)) as (λ b. is_eq (path_cmp path new.path) ≡ b → is_some (cond b (Some new.value) (value_at path news)) ≡ false → put_rows news (put_row new (without_row path rows)) ≡ without_row path (put_rows news (put_row new rows))) [
+      | true ↦ λ same h. cc
+      | false ↦ λ apart h. ap (put_rows news) (put_apart new path rows order apart) ∙ puts_apart news path (put_row new rows) (put_keeps_order new rows order) h
+    ] refl missing
