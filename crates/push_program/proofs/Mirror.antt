@@ -23,13 +23,13 @@ use Rattle.push_program.specs.Report.{given_by}
 use Rattle.push_program.specs.Turns.{journal_of}
 use Rattle.push_program.proofs.Own.{own, own_update, own_at, received_own, own_split}
 use Rattle.push_program.proofs.RecordLaws.{record_mirrors, no_record}
-use Rattle.push_program.proofs.Subscriptions.{of_id, given_is, ids_kept, given_stays, has_id}
+use Rattle.push_program.proofs.Subscriptions.{of_id, given_is, given_kept, ids_kept, given_stays, has_id}
 
 pub fits_first : (script : Script) → IsSchema script.schema → Fits script.schema (first_state script.receivers)
-fits_first script schema = record { schema = schema; datastore = opening_datastore script.schema script.receivers; ids = tt }
+fits_first script schema = record { schema = schema; datastore = opening_datastore script.schema script.receivers; given = refl; ids = tt }
 
 pub fits_next : (nodes : List SchemaNode) (state : JournalState) (command : Command) → Fits nodes state → Fits nodes (next_state nodes state command)
-fits_next nodes state command fits = record { schema = fits.schema; datastore = command_keeps nodes state command fits.datastore; ids = ids_kept nodes state command fits.ids }
+fits_next nodes state command fits = record { schema = fits.schema; datastore = command_keeps nodes state command fits.datastore; given = given_kept nodes state command fits.given; ids = ids_kept nodes state command fits.given fits.ids }
 
 pub next_position : (nodes : List SchemaNode) (state : JournalState) (command : Command) → (next_state nodes state command).position ≡ state.position + 1
 next_position nodes state (commands.Tick tick) = refl

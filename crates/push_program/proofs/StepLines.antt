@@ -124,21 +124,21 @@ fresh n (s ∷ subscriptions) ids =
     ap (λ b. cond b (Some s) (of_id (next_id (n + length (s ∷ subscriptions))) subscriptions)) other
     ∙ ap (λ m. of_id (next_id m) subscriptions) (sym same) ∙ fresh (n + 1) subscriptions ids.1
 
-not_given : (subscriptions : List Subscription) → AreIds 0 subscriptions → is_given (next_id (length subscriptions)) subscriptions ≡ false
-not_given subscriptions ids =
-    let same : 0 + length subscriptions ≡ length subscriptions = omega arith in
-    given_is (next_id (length subscriptions)) subscriptions ∙ ap (λ m. is_some (of_id (next_id m) subscriptions)) (sym same) ∙ ap (λ (o : Option Subscription). is_some o) (fresh 0 subscriptions ids)
+not_given : (given : ℕ) (subscriptions : List Subscription) → given ≡ length subscriptions → AreIds 0 subscriptions → is_given (next_id given) subscriptions ≡ false
+not_given given subscriptions count ids =
+    let same : 0 + length subscriptions ≡ given = omega (arith, count) in
+    given_is (next_id given) subscriptions ∙ ap (λ m. is_some (of_id (next_id m) subscriptions)) (sym same) ∙ ap (λ (o : Option Subscription). is_some o) (fresh 0 subscriptions ids)
 
 -- a step that establishes a subscription makes its full update alone
-pub made_full : (nodes : List SchemaNode) (receiver by : ℕ) (before : JournalState) → AreIds 0 before.subscriptions
+pub made_full : (nodes : List SchemaNode) (receiver by : ℕ) (before : JournalState) → before.given ≡ length before.subscriptions → AreIds 0 before.subscriptions
     → made_at nodes receiver before (with_subscription before by)
-    ≡ notice_for by (with_subscription before by).position (with_subscription before by).stamp receiver (Full (next_id (length before.subscriptions)) (selection nodes before.rows))
-made_full nodes receiver by before ids =
+    ≡ notice_for by (with_subscription before by).position (with_subscription before by).stamp receiver (Full (next_id before.given) (selection nodes before.rows))
+made_full nodes receiver by before given ids =
     let after : JournalState = with_subscription before by in
-    let new : Subscription = record { id = next_id (length before.subscriptions); receiver = by } in
+    let new : Subscription = record { id = next_id before.given; receiver = by } in
     made_joined nodes receiver before after before.subscriptions (new ∷ [])
     ∙ ap (λ t. t ++ made_for nodes receiver before after (new ∷ []))
     (made_given nodes receiver before after [] before.subscriptions refl
     ∙ ap (λ cs. told_changes receiver after.position after.stamp cs before.subscriptions) (nothing_changed (selection nodes before.rows)))
-    ∙ ap (λ b. cond (by == receiver) (made_of after (cond b (change_update new.id after.position (change_record (selection nodes before.rows) (selection nodes before.rows))) (Full new.id (selection nodes before.rows) ∷ []))) [] ++ []) (not_given before.subscriptions ids)
+    ∙ ap (λ b. cond (by == receiver) (made_of after (cond b (change_update new.id after.position (change_record (selection nodes before.rows) (selection nodes before.rows))) (Full new.id (selection nodes before.rows) ∷ []))) [] ++ []) (not_given before.given before.subscriptions given ids)
     ∙ new_made (by == receiver) receiver by after (Full new.id (selection nodes before.rows))

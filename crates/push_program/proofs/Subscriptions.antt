@@ -1,5 +1,5 @@
 -- The subscriptions that commands give: each has an id of its own, and each command gives one more at most.
-use Rattle.std.proofs.Common.{◌≡◌, ℕ, ◌+◌, ◌==◌, ◌<◌, ◌||◌, Bool, true, false, List, [], ◌∷◌, ◌++◌, length, Option, Some, None, is_some, refl, sym, ap, ◌∙◌, subst, cond, arith}
+use Rattle.std.proofs.Common.{◌≡◌, ℕ, ◌+◌, ◌==◌, ◌<◌, ◌||◌, Bool, true, false, List, [], ◌∷◌, ◌++◌, length, length-append, Option, Some, None, is_some, refl, sym, ap, ◌∙◌, subst, cond, arith}
 use Rattle.std.specs.List.{find}
 use Rattle.yp_schema.specs.declared.schema.SchemaNode.{SchemaNode}
 use Rattle.yp_journal.specs.declared.command.Command.{Command}
@@ -28,12 +28,18 @@ ids_more n (subscription ∷ subscriptions) by ids =
     let same : n + 1 + length subscriptions ≡ n + length (subscription ∷ subscriptions) = omega arith in
     (ids.0, subst (λ (m : ℕ). AreIds (n + 1) (subscriptions ++ record { id = next_id m; receiver = by } ∷ [])) same rest)
 
--- each command leaves ids that follow one another
-pub ids_kept : (nodes : List SchemaNode) (state : JournalState) (command : Command) → AreIds 0 state.subscriptions → AreIds 0 (next_state nodes state command).subscriptions
-ids_kept nodes state (Tick tick) ids = ids
-ids_kept nodes state (Edit patch) ids = ids
-ids_kept nodes state (Everything by) ids =
-    let same : 0 + length state.subscriptions ≡ length state.subscriptions = omega arith in
+-- each command leaves as many subscriptions as ids that were given
+pub given_kept : (nodes : List SchemaNode) (state : JournalState) (command : Command) → state.given ≡ length state.subscriptions → (next_state nodes state command).given ≡ length (next_state nodes state command).subscriptions
+given_kept nodes state (Tick tick) given = given
+given_kept nodes state (Edit patch) given = given
+given_kept nodes state (Everything by) given = ap (λ n. n + 1) given ∙ sym (length-append state.subscriptions (record { id = next_id state.given; receiver = by } ∷ []))
+
+-- and ids that follow one another
+pub ids_kept : (nodes : List SchemaNode) (state : JournalState) (command : Command) → state.given ≡ length state.subscriptions → AreIds 0 state.subscriptions → AreIds 0 (next_state nodes state command).subscriptions
+ids_kept nodes state (Tick tick) given ids = ids
+ids_kept nodes state (Edit patch) given ids = ids
+ids_kept nodes state (Everything by) given ids =
+    let same : 0 + length state.subscriptions ≡ state.given = omega (arith, given) in
     subst (λ (m : ℕ). AreIds 0 (state.subscriptions ++ record { id = next_id m; receiver = by } ∷ [])) same (ids_more 0 state.subscriptions by ids)
 
 -- ids past an id are others

@@ -13,7 +13,7 @@ use Rattle.yp_data_json.proofs.AtPlace.{front_rest}
 use Rattle.yp_data_json.proofs.Growing.{within_more}
 use Rattle.yp_tree.proofs.Nexts.{less_not_greater}
 use Rattle.yp_edit.proofs.Alike.{IsBefore}
-use Rattle.yp_edit.proofs.Walking.{within_itself}
+use Rattle.yp_base.proofs.PathLaws.{within_itself}
 use Rattle.push_program.specs.Records.{is_above, roots_of}
 use Rattle.push_program.specs.Roots.{is_covered}
 

@@ -104,7 +104,7 @@ one_more nodes rows (held ∷ mirrors) all = (all.0, one_more nodes rows mirrors
 
 -- a subscription that is established is told all that may be read
 pub full_advances : (script : Script) (lane index by id : ℕ) (before after : Progress) → Ready script before → Taken script (record { lane = lane; index = index; command = commands.Everything by }) before after
-    → id ≡ next_id (length before.state.subscriptions)
+    → id ≡ next_id before.state.given
     → after.desks.items ≡ map (λ (desk : Sending). with_lines script.schema script.start (notice_for by after.state.position after.state.stamp desk.number (Full id (selection script.schema after.state.rows))) desk) before.desks.items
     → after.mirrors.items ≡ before.mirrors.items ++ selection script.schema after.state.rows ∷ []
     → Advances script (record { lane = lane; index = index; command = commands.Everything by }) before after
@@ -117,14 +117,14 @@ full_advances script lane index by id before after ready taken given desks mirro
       desks =
           desks
           ∙ (λ i. map (told (taken.state i) (given i)) before.desks.items)
-          ∙ map_same (told (with_subscription before.state by) (next_id (length before.state.subscriptions))) (λ (desk : Sending). with_lines script.schema script.start (made_at script.schema desk.number before.state (with_subscription before.state by)) desk)
-          (λ desk. ap (λ made. with_lines script.schema script.start made desk) (sym (made_full script.schema desk.number by before.state ready.fits.ids))) before.desks.items
+          ∙ map_same (told (with_subscription before.state by) (next_id before.state.given)) (λ (desk : Sending). with_lines script.schema script.start (made_at script.schema desk.number before.state (with_subscription before.state by)) desk)
+          (λ desk. ap (λ made. with_lines script.schema script.start made desk) (sym (made_full script.schema desk.number by before.state ready.fits.given ready.fits.ids))) before.desks.items
           ∙ (λ i. map (λ (desk : Sending). with_lines script.schema script.start (made_at script.schema desk.number before.state (sym taken.state i)) desk) before.desks.items);
       mirrors = subst (λ (now : List Row). AllMirror script.schema now after.mirrors.items) rows
           (subst (λ (ms : List (List Row)). AllMirror script.schema before.state.rows ms) (sym (mirrors ∙ ap (λ (now : List Row). before.mirrors.items ++ selection script.schema now ∷ []) (sym rows))) (one_more script.schema before.state.rows before.mirrors.items ready.mirrors));
       each =
           ap length mirrors ∙ length-append before.mirrors.items (selection script.schema after.state.rows ∷ []) ∙ ap (λ n. n + 1) ready.each
-          ∙ sym (length-append before.state.subscriptions (record { id = next_id (length before.state.subscriptions); receiver = by } ∷ [])) ∙ ap (λ (state : JournalState). length state.subscriptions) (sym taken.state);
+          ∙ sym (length-append before.state.subscriptions (record { id = next_id before.state.given; receiver = by } ∷ [])) ∙ ap (λ (state : JournalState). length state.subscriptions) (sym taken.state);
     }
 
 -- ---- the same of a command that is one of these

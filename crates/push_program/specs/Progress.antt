@@ -21,10 +21,11 @@ abbrev pub AreIds : ℕ → List Subscription → Type 0
 AreIds n [] = Unit {0}
 AreIds n (subscription ∷ subscriptions) = (subscription.id ≡ next_id n) × AreIds (n + 1) subscriptions
 
--- a state that commands leave: its rows are a datastore, and its ids follow one another
+-- a state that commands leave: its rows are a datastore, and its ids follow one another, as many as were given
 pub record Fits (nodes : List SchemaNode) (state : JournalState) : Type 0 where
   pub schema : IsSchema nodes
   pub datastore : IsDatastore nodes state.rows
+  pub given : state.given ≡ length state.subscriptions
   pub ids : AreIds 0 state.subscriptions
 
 -- each of these is fresh selection of the rows

@@ -16,6 +16,7 @@ use Rattle.yp_base.specs.Order.{path_cmp}
 use Rattle.yp_base.specs.OrderLaws.{paths_total}
 use Rattle.yp_base.specs.Rows.{path_of, value_at, AreInOrder}
 use Rattle.yp_base.proofs.Exact.{paths_exact}
+use Rattle.yp_base.proofs.PathLaws.{greater_turned}
 
 -- a path is before each of these
 abbrev pub IsBefore : List Seg → List (List Seg) → Type 0
@@ -24,9 +25,6 @@ IsBefore path paths = AllByRecursion (λ other. path_cmp path other ≡ Less) pa
 pub before_all : (one two : List Seg) (paths : List (List Seg)) → path_cmp one two ≡ Less → IsBefore two paths → IsBefore one paths
 before_all one two [] less all = tt
 before_all one two (path ∷ paths) less all = (paths_total.trans one two path less all.0, before_all one two paths less all.1)
-
-pub turned : (a b : List Seg) → path_cmp a b ≡ Greater → path_cmp b a ≡ Less
-turned a b h = paths_total.antisymm b a ∙ ap ordering_reverse h
 
 pub tie_reverse : (o : Ordering) → is_eq (ordering_reverse o) ≡ is_eq o
 tie_reverse Less = refl
@@ -79,7 +77,7 @@ same_entries (e ∷ es) [] s t same = let both : Some e.1 ≡ None = sym (at_fir
 same_entries {X} (e ∷ es) (f ∷ fs) s t same =
     elim (path_cmp e.0 f.0) as (λ o. path_cmp e.0 f.0 ≡ o → e ∷ es ≡ f ∷ fs) [
       | Less ↦ λ o. absurd (missed e f es fs o t.0 (same e.0))
-      | Greater ↦ λ o. absurd (missed f e fs es (turned e.0 f.0 o) s.0 (sym (same f.0)))
+      | Greater ↦ λ o. absurd (missed f e fs es (greater_turned e.0 f.0 o) s.0 (sym (same f.0)))
       | Equal ↦ λ o.
           let key : e.0 ≡ f.0 = paths_exact e.0 f.0 o in
           let found : Some e.1 ≡ Some f.1 = sym (at_first e es) ∙ same e.0 ∙ (rw o refl) in

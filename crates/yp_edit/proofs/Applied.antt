@@ -8,7 +8,6 @@ use Rattle.yp_base.proofs.RowLaws.{puts_order, without_keeps_order}
 use Rattle.yp_schema.specs.declared.schema.SchemaNode.{SchemaNode}
 use Rattle.serde_json.specs.Data.{Data}
 use Rattle.yp_edit.specs.declared.halt.Refusal.{Refusal}
-use Rattle.yp_edit.specs.declared.fault.EditFault.{EditFault}
 use Rattle.yp_edit.specs.declared.patch.EditOp.{EditOp}
 use Rattle.yp_edit.specs.declared.patch.EditOp.TheVariants.{Create, Delete, Insert, Merge, Move, Replace, Remove}
 use Rattle.yp_edit.specs.declared.patch.Edit.{Edit}
@@ -16,7 +15,8 @@ use Rattle.yp_edit.specs.declared.patch.Patch.{Patch}
 use Rattle.yp_edit.specs.declared.changed.ChangedRow.{ChangedRow}
 use Rattle.yp_edit.specs.Changes.{changed_rows}
 use Rattle.yp_edit.specs.Commits.{Differ}
-use Rattle.yp_edit.specs.Patches.{◌>>=◌, target_of, new_rows, within_limit, row_limit, changed_by, edited, of_edit, all_edited, applied, changes_by}
+use Rattle.yp_base.specs.Results.{◌>>=◌}
+use Rattle.yp_edit.specs.Patches.{RefusedEdit, target_of, new_rows, within_limit, row_limit, performed, edited, of_edit, all_edited, applied, changes_by}
 use Rattle.yp_edit.proofs.Committing.{same_after}
 
 -- ---- order
@@ -33,7 +33,7 @@ pub choice_ok : {A F : Type 0} (P : A → Type 0) (b : Bool) (r s : Result A F) 
 choice_ok P true r s h k = h
 choice_ok P false r s h k = k
 
-by_order : (op : EditOp) (nodes : List SchemaNode) (target : List Seg) (value : Option Data) (rows : List Row) → AreInOrder rows → IfOk (changed_by op nodes target value rows) AreInOrder
+by_order : (op : EditOp) (nodes : List SchemaNode) (target : List Seg) (value : Option Data) (rows : List Row) → AreInOrder rows → IfOk (performed op nodes target value rows) AreInOrder
 by_order Create nodes target value rows order =
     then_ok (λ x. Unit {0}) AreInOrder (new_rows nodes target value rows) _ (any_ok (new_rows nodes target value rows)) (λ new u. choice_ok AreInOrder (has_within target rows) _ _ tt (puts_order new rows order))
 by_order Merge nodes target value rows order =
@@ -48,7 +48,7 @@ by_order Move nodes target value rows order = tt
 edit_order : (nodes : List SchemaNode) (rows : List Row) (edit : Edit) → AreInOrder rows → IfOk (edited nodes rows edit) AreInOrder
 edit_order nodes rows edit order =
     then_ok (λ x. Unit {0}) AreInOrder (target_of nodes edit.target) _ (any_ok (target_of nodes edit.target)) (λ target u.
-    then_ok AreInOrder AreInOrder (changed_by edit.op nodes target edit.value rows) within_limit (by_order edit.op nodes target edit.value rows order)
+    then_ok AreInOrder AreInOrder (performed edit.op nodes target edit.value rows) within_limit (by_order edit.op nodes target edit.value rows order)
     (λ x h. choice_ok AreInOrder (nat_lt row_limit (length x)) _ _ tt h))
 
 pub numbered_ok : {A : Type 0} (P : A → Type 0) (n : ℕ) (r : Result A Refusal) → IfOk r P → IfOk (of_edit n r) P
@@ -68,15 +68,15 @@ pub record Outcome (nodes : List SchemaNode) (rows : List Row) (patch : Patch) (
   pub is : applied nodes rows patch ≡ Ok after
   pub differ : Differ changes rows after
 
-abbrev answered : List ChangedRow → Result (List ChangedRow) EditFault
+abbrev answered : List ChangedRow → Result (List ChangedRow) RefusedEdit
 answered changes = Ok changes
 
 same_answer : (a b : List ChangedRow) → answered a ≡ answered b → a ≡ b
 same_answer a b e = cc
 
-outcome_at : (r : Result (List Row) EditFault) (nodes : List SchemaNode) (rows : List Row) (patch : Patch) (changes : List ChangedRow) → applied nodes rows patch ≡ r → IfOk r AreInOrder → (r >>= λ after. Ok (changed_rows rows after)) ≡ Ok changes → Outcome nodes rows patch changes
+outcome_at : (r : Result (List Row) RefusedEdit) (nodes : List SchemaNode) (rows : List Row) (patch : Patch) (changes : List ChangedRow) → applied nodes rows patch ≡ r → IfOk r AreInOrder → (r >>= λ after. Ok (changed_rows rows after)) ≡ Ok changes → Outcome nodes rows patch changes
 outcome_at (Ok after) nodes rows patch changes is order h = record { after = after; is = is; differ = record { in_order = order; changed = sym (same_answer (changed_rows rows after) changes h) } }
-outcome_at (Err e) nodes rows patch changes is order h = let left : Result (List ChangedRow) EditFault = Err e in let right : Result (List ChangedRow) EditFault = Ok changes in let no : left ≡ right = h in cc
+outcome_at (Err e) nodes rows patch changes is order h = let left : Result (List ChangedRow) RefusedEdit = Err e in let right : Result (List ChangedRow) RefusedEdit = Ok changes in let no : left ≡ right = h in cc
 
 outcome : (nodes : List SchemaNode) (rows : List Row) (patch : Patch) (changes : List ChangedRow) → AreInOrder rows → changes_by nodes rows patch ≡ Ok changes → Outcome nodes rows patch changes
 outcome nodes rows patch changes order h = outcome_at (applied nodes rows patch) nodes rows patch changes refl (all_order nodes 0 rows patch.edits order) h

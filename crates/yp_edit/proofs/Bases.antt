@@ -2,6 +2,7 @@
 use Rattle.std.proofs.Common.{◌≡◌, ℕ, ◌≤◌, ◌-◌, suc, List, [], ◌∷◌, length, refl, sym, ap, ◌∙◌, cond, Bool, true, false, not, ◌||◌, Option, Some, None, Bor, arith}
 use Rattle.std.specs.Prelude.{filter, is_some, option_copied}
 use Rattle.std.specs.Ordering.{is_eq}
+use Rattle.std.proofs.lemmas.Bool.{or_right}
 use Rattle.yp_base.specs.declared.path.Seg.{Seg}
 use Rattle.yp_base.specs.declared.row.Value.{Value}
 use Rattle.yp_base.specs.declared.row.Row.{Row}
@@ -121,12 +122,8 @@ more_bare path rows paths bare more count base grown none = record {
 pub touches_left : (path : List Seg) (old new : Touched) → AreInOrder old.rows → Touches path old new → untouched new ≡ without_row path (untouched old)
 touches_left path old new order touches = ap (left new.paths) touches.rows ∙ touched_left path old.paths new.paths old.rows order touches.paths
 
-stays : (here listed : Bool) → listed ≡ true → (here || listed) ≡ true
-stays true listed h = refl
-stays false listed h = h
-
 pub still_listed : (path : List Seg) (old new : Touched) → Touches path old new → (q : List Seg) → is_listed q old.paths ≡ true → is_listed q new.paths ≡ true
-still_listed path old new touches q h = touches.paths q ∙ stays (is_eq (path_cmp path q)) (is_listed q old.paths) h
+still_listed path old new touches q h = touches.paths q ∙ or_right (is_eq (path_cmp path q)) (is_listed q old.paths) h
 
 -- below a bare path nothing is left to touch
 pub none_to_touch : (target : List Seg) (rows : List Row) (paths bare : List (List Seg)) (count : ℕ) → IsBase rows paths bare count → is_listed target bare ≡ true → TouchesWithin target (record { rows = rows; paths = paths }) (record { rows = rows; paths = paths })

@@ -5,6 +5,7 @@ use Rattle.std.specs.List.Sorted.{IsStrictlySortedBy}
 use Rattle.std.specs.Prelude.{is_some, Result, Ok, Err, IfOk}
 use Rattle.std.specs.Ordering.{is_eq}
 use Rattle.std.proofs.lemmas.Cmp.{tied_itself}
+use Rattle.std.proofs.lemmas.Bool.{or_right}
 use Rattle.yp_base.specs.declared.path.Seg.{Seg}
 use Rattle.yp_base.specs.declared.row.Value.{Value}
 use Rattle.yp_base.specs.declared.row.Value.TheVariants.{Atom as Plain, Member, Empty, Present}
@@ -14,7 +15,7 @@ use Rattle.yp_base.specs.OrderLaws.{atoms_total}
 use Rattle.yp_base.specs.Rows.{path_of, value_at, put_row, put_rows, AreInOrder}
 use Rattle.yp_base.proofs.RowLaws.{value_at_put, puts_order}
 use Rattle.yp_edit.specs.declared.changed.ChangedRow.{ChangedRow}
-use Rattle.yp_edit.specs.Changes.{same_value, are_alike, change_of, change_at, paths_of_both, changed_rows}
+use Rattle.yp_edit.specs.Changes.{same_value, are_alike, change_of, row_change, paths_of_both, changed_rows}
 use Rattle.yp_edit.specs.Bases.{is_listed, left}
 use Rattle.yp_edit.proofs.Alike.{IsBefore, keys, AreSorted, at, are_one, ties_itself, same_entries}
 use Rattle.yp_edit.proofs.Bases.{touched_gone, other_there}
@@ -130,23 +131,19 @@ in_neither q (new ∷ news) rows h =
     (ap (λ b. cond b (Some new.value) (value_at q news)) one.0 ∙ rest.0, one.1)
 
 -- where neither list has a row, none differs
-unlisted_same : (rows after : List Row) (q : List Seg) → is_listed q (map path_of (put_rows after rows)) ≡ false → change_at rows after q ≡ None
+unlisted_same : (rows after : List Row) (q : List Seg) → is_listed q (map path_of (put_rows after rows)) ≡ false → row_change rows after q ≡ None
 unlisted_same rows after q h =
     let none = in_neither q after rows (unlisted_row q (put_rows after rows) h) in
     no_change q (value_at q rows) (value_at q after) (none.1 ∙ sym none.0)
 
-of_path : (rows after : List Row) (path : List Seg) (change : ChangedRow) → change_at rows after path ≡ Some change → change.path ≡ path
+of_path : (rows after : List Row) (path : List Seg) (change : ChangedRow) → row_change rows after path ≡ Some change → change.path ≡ path
 of_path rows after path change is = change_path path (value_at path rows) (value_at path after) change is
 
 -- ---- touched paths
 
 listed_more : (x : List Seg) (some paths : List (List Seg)) → AllByRecursion (λ path. is_listed path paths ≡ true) some → AllByRecursion (λ path. is_listed path (x ∷ paths) ≡ true) some
 listed_more x [] paths all = tt
-listed_more x (path ∷ some) paths all = (or_true (is_eq (path_cmp path x)) (is_listed path paths) all.0, listed_more x some paths all.1)
-  where
-    or_true : (a b : Bool) → b ≡ true → (a || b) ≡ true
-    or_true true b h = refl
-    or_true false b h = h
+listed_more x (path ∷ some) paths all = (or_right (is_eq (path_cmp path x)) (is_listed path paths) all.0, listed_more x some paths all.1)
 
 each_listed : (paths : List (List Seg)) → AllByRecursion (λ path. is_listed path paths ≡ true) paths
 each_listed [] = tt
@@ -168,16 +165,16 @@ module _ (rows put : List Row) (paths : List (List Seg)) (order : AreInOrder put
   at_other path unlisted missing =
       sym (value_at_puts path put (left paths rows) order ∙ ap (λ (v : Option Value). or_else v (value_at path (left paths rows))) (no_row (value_at path put) missing) ∙ other_there path paths rows unlisted)
 
-  told_same : (some : List (List Seg)) → AllByRecursion (λ path. is_listed path paths ≡ true) some → filter_map (change_at rows put) some ≡ filter_map (change_at rows (put_rows put (left paths rows))) some
+  told_same : (some : List (List Seg)) → AllByRecursion (λ path. is_listed path paths ≡ true) some → filter_map (row_change rows put) some ≡ filter_map (row_change rows (put_rows put (left paths rows))) some
   told_same [] all = refl
   told_same (path ∷ some) all = λ i. cons_option (change_of path (value_at path rows) (at_touched path all.0 i)) (told_same some all.1 i)
 
   -- the changes at touched paths are the rows that differ
-  pub told_all : IsStrictlySortedBy path_cmp paths → AreInOrder rows → ((path : List Seg) → is_listed path paths ≡ false → is_some (value_at path put) ≡ false) → filter_map (change_at rows put) paths ≡ changed_rows rows (put_rows put (left paths rows))
+  pub told_all : IsStrictlySortedBy path_cmp paths → AreInOrder rows → ((path : List Seg) → is_listed path paths ≡ false → is_some (value_at path put) ≡ false) → filter_map (row_change rows put) paths ≡ changed_rows rows (put_rows put (left paths rows))
   told_all sorted rows_order covered =
       let after = put_rows put (left paths rows) in
       told_same paths (each_listed paths)
-      ∙ found_alike (change_at rows after) (of_path rows after) paths (map path_of (put_rows after rows)) sorted (puts_order after rows rows_order)
+      ∙ found_alike (row_change rows after) (of_path rows after) paths (map path_of (put_rows after rows)) sorted (puts_order after rows rows_order)
       (λ q h. no_change q (value_at q rows) (value_at q after) (at_other q h (covered q h)))
       (unlisted_same rows after)
 
@@ -186,19 +183,19 @@ all_told (Ok changes) told differ same is = is ∙ same
 all_told (Err e) told differ same is = tt
 
 -- what is found of the rows that differ
-pub changed_at : (rows after : List Row) (q : List Seg) → at q (changed_entries (changed_rows rows after)) ≡ change_at rows after q
+pub changed_at : (rows after : List Row) (q : List Seg) → at q (changed_entries (changed_rows rows after)) ≡ row_change rows after q
 changed_at rows after q =
     let paths = map path_of (put_rows after rows) in
-    found_at (change_at rows after) (of_path rows after) q paths
-    ∙ elim (is_listed q paths) as (λ b. is_listed q paths ≡ b → cond b (change_at rows after q) None ≡ change_at rows after q) [
+    found_at (row_change rows after) (of_path rows after) q paths
+    ∙ elim (is_listed q paths) as (λ b. is_listed q paths ≡ b → cond b (row_change rows after q) None ≡ row_change rows after q) [
       | true ↦ λ h. refl
       | false ↦ λ h. sym (unlisted_same rows after q h)
     ] refl
 
 pub changed_sorted : (rows after : List Row) → AreInOrder rows → AreSorted (changed_entries (changed_rows rows after))
-changed_sorted rows after order = found_sorted (change_at rows after) (of_path rows after) (map path_of (put_rows after rows)) (puts_order after rows order)
+changed_sorted rows after order = found_sorted (row_change rows after) (of_path rows after) (map path_of (put_rows after rows)) (puts_order after rows order)
 
-none_changed : (rows : List Row) (paths : List (List Seg)) → filter_map (change_at rows rows) paths ≡ []
+none_changed : (rows : List Row) (paths : List (List Seg)) → filter_map (row_change rows rows) paths ≡ []
 none_changed rows [] = refl
 none_changed rows (path ∷ paths) = rw (alike_itself (value_at path rows)) (none_changed rows paths)
 

@@ -6,21 +6,18 @@ use Rattle.std.specs.BTreeSet.{insert_key}
 use Rattle.std.specs.declared.cmp.Ordering.TheVariants.{Less, Equal, Greater}
 use Rattle.std.proofs.lemmas.Cmp.{alike_right}
 use Rattle.std.specs.Cmp.Lexicographic.{slice_cmp, texts_ties, nat_list_cmp_total}
-use Rattle.std.proofs.lemmas.Bool.{and_parts, and_from}
+use Rattle.std.proofs.lemmas.Bool.{and_parts, and_from, or_parts}
+use Rattle.std.proofs.Math.Bool.{and-false, or_self_left}
 use Rattle.std.proofs.lemmas.List.{take_more, map-append, take-append-drop}
 use Rattle.yp_base.specs.declared.txt.Txt.{Txt}
 use Rattle.yp_base.specs.Types.{same_text, is_among, are_distinct}
 use Rattle.yp_edit.specs.declared.patch.Edit.{Edit}
 use Rattle.yp_edit.specs.Shapes.{ids_of}
 use Rattle.yp_edit.proofs.Alike.{tie_reverse}
+use Rattle.yp_edit.proofs.Drafts.{swapped}
 
 turned : (a b : List ℕ) → same_text a b ≡ same_text b a
 turned a b = texts_ties a b ∙ ap is_eq (nat_list_cmp_total.antisymm a b) ∙ tie_reverse (slice_cmp nat_cmp b a) ∙ sym (texts_ties b a)
-
-swapped : (a b c : Bool) → (a || (b || c)) ≡ (b || (a || c))
-swapped true true c = refl
-swapped true false c = refl
-swapped false b c = refl
 
 among_more : (text key : List ℕ) (texts : List (List ℕ)) → is_among text (texts ++ key ∷ []) ≡ (same_text key text || is_among text texts)
 among_more text key [] = ap (λ b. b || false) (turned text key)
@@ -31,18 +28,10 @@ distinct_more : (key : List ℕ) (texts : List (List ℕ)) → are_distinct text
 distinct_more key [] distinct fresh = refl
 distinct_more key (text ∷ texts) distinct fresh =
     let parts = and_parts (not (is_among text texts)) (are_distinct texts) distinct in
-    let apart = neither (same_text key text) (is_among key texts) fresh in
+    let apart = or_parts (same_text key text) (is_among key texts) fresh in
     and_from (not (is_among text (texts ++ key ∷ []))) (are_distinct (texts ++ key ∷ []))
     (ap not (among_more text key texts ∙ ap (λ b. b || is_among text texts) apart.0) ∙ parts.0)
     (distinct_more key texts parts.1 apart.1)
-  where
-    neither : (a b : Bool) → (a || b) ≡ false → (a ≡ false) × (b ≡ false)
-    neither true b h = absurd (true≢false h)
-    neither false b h = (refl, h)
-
-and_false : (b : Bool) → (b && false) ≡ false
-and_false true = refl
-and_false false = refl
 
 -- one that is among them
 not_distinct : (key : List ℕ) (texts : List (List ℕ)) → is_among key texts ≡ true → are_distinct (texts ++ key ∷ []) ≡ false
@@ -50,7 +39,7 @@ not_distinct key [] among = absurd (true≢false (sym among))
 not_distinct key (text ∷ texts) among =
     elim (same_text key text) as (λ b. same_text key text ≡ b → (b || is_among key texts) ≡ true → are_distinct (text ∷ (texts ++ key ∷ [])) ≡ false) [
       | true ↦ λ same h. ap (λ b. not b && are_distinct (texts ++ key ∷ [])) (among_more text key texts ∙ ap (λ b. b || is_among text texts) same)
-      | false ↦ λ same h. ap (λ b. not (is_among text (texts ++ key ∷ [])) && b) (not_distinct key texts h) ∙ and_false (not (is_among text (texts ++ key ∷ [])))
+      | false ↦ λ same h. ap (λ b. not (is_among text (texts ++ key ∷ [])) && b) (not_distinct key texts h) ∙ and-false (not (is_among text (texts ++ key ∷ [])))
     ] refl among
 
 among_stays : (text : List ℕ) (texts more : List (List ℕ)) → is_among text texts ≡ true → is_among text (texts ++ more) ≡ true
@@ -67,7 +56,7 @@ never_again [] more not = absurd (true≢false not)
 never_again (text ∷ texts) more isnt =
     elim (is_among text texts) as (λ b. is_among text texts ≡ b → (not b && are_distinct texts) ≡ false → are_distinct (text ∷ (texts ++ more)) ≡ false) [
       | true ↦ λ among h. ap (λ b. not b && are_distinct (texts ++ more)) (among_stays text texts more among)
-      | false ↦ λ among h. ap (λ b. not (is_among text (texts ++ more)) && b) (never_again texts more h) ∙ and_false (not (is_among text (texts ++ more)))
+      | false ↦ λ among h. ap (λ b. not (is_among text (texts ++ more)) && b) (never_again texts more h) ∙ and-false (not (is_among text (texts ++ more)))
     ] refl isnt
 
 -- ---- edits
@@ -80,10 +69,6 @@ ids_more : (edits : List Edit) (i : ℕ) (edit : Edit) → i < length edits → 
 ids_more edits i edit here is =
     ap ids_of (take_more edits i edit here ∙ ap (λ (e : Edit). take i edits ++ e ∷ []) (sym is)) ∙ map-append (λ (e : Edit). e.id) (take i edits) (edit ∷ [])
 
-doubled : (a b : Bool) → (a || b) ≡ (a || (a || b))
-doubled true b = refl
-doubled false b = refl
-
 -- one more text is seen
 pub seen_more : (text : List ℕ) (seen : List (Bor Txt)) (key : Bor Txt) → is_seen text (insert_key (λ (one other : Bor Txt). slice_cmp nat_cmp one.now other.now) seen key) ≡ (is_eq (slice_cmp nat_cmp text key.now) || is_seen text seen)
 seen_more text [] key = refl
@@ -91,7 +76,7 @@ seen_more text (other ∷ seen) key =
     let p : Bor Txt → Bool = λ (k : Bor Txt). is_eq (slice_cmp nat_cmp text k.now) in
     elim (slice_cmp nat_cmp key.now other.now) as (λ o. slice_cmp nat_cmp key.now other.now ≡ o → is_seen text (match_ordering o (key ∷ other ∷ seen) (other ∷ seen) (other ∷ insert_key (λ (one two : Bor Txt). slice_cmp nat_cmp one.now two.now) seen key)) ≡ (p key || (p other || is_seen text seen))) [
       | Less ↦ λ e. refl
-      | Equal ↦ λ e. doubled (p other) (is_seen text seen) ∙ ap (λ b. b || (p other || is_seen text seen)) (ap is_eq (sym (alike_right nat_list_cmp_total key.now other.now text e)))
+      | Equal ↦ λ e. sym (or_self_left (p other) (is_seen text seen)) ∙ ap (λ b. b || (p other || is_seen text seen)) (ap is_eq (sym (alike_right nat_list_cmp_total key.now other.now text e)))
       | Greater ↦ λ e. ap (λ b. p other || b) (seen_more text seen key) ∙ swapped (p other) (p key) (is_seen text seen)
     ] refl
 

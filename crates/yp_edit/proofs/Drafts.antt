@@ -5,6 +5,8 @@ use Rattle.std.specs.Ordering.{is_eq, match_ordering}
 use Rattle.std.specs.List.{AllByRecursion}
 use Rattle.std.specs.List.Sorted.{IsStrictlySortedBy}
 use Rattle.std.specs.declared.cmp.Ordering.TheVariants.{Less, Equal, Greater}
+use Rattle.std.proofs.lemmas.Bool.{or_parts}
+use Rattle.std.proofs.Math.Bool.{or_self_left}
 use Rattle.yp_base.specs.declared.path.Seg.{Seg}
 use Rattle.yp_base.specs.declared.row.Value.{Value}
 use Rattle.yp_base.specs.declared.row.Row.{Row}
@@ -74,7 +76,7 @@ cut_both target put rows order = sym (picked-puts (λ path. not (is_within targe
 
 -- ---- whether there are any
 
-swapped : (a b c : Bool) → (a || (b || c)) ≡ (b || (a || c))
+pub swapped : (a b c : Bool) → (a || (b || c)) ≡ (b || (a || c))
 swapped true true c = refl
 swapped true false c = refl
 swapped false b c = refl
@@ -90,13 +92,9 @@ within_put target new [] = refl
 within_put target new (row ∷ rows) =
     elim (path_cmp new.path row.path) as (λ o. path_cmp new.path row.path ≡ o → has_within target (match_ordering o (new ∷ row ∷ rows) (record row { value = new.value } ∷ rows) (row ∷ put_row new rows)) ≡ (is_within target new.path || (is_within target row.path || has_within target rows))) [
       | Less ↦ λ e. refl
-      | Equal ↦ λ e. doubled (is_within target row.path) (has_within target rows) ∙ ap (λ p. is_within target p || (is_within target row.path || has_within target rows)) (sym (paths_exact new.path row.path e))
+      | Equal ↦ λ e. sym (or_self_left (is_within target row.path) (has_within target rows)) ∙ ap (λ p. is_within target p || (is_within target row.path || has_within target rows)) (sym (paths_exact new.path row.path e))
       | Greater ↦ λ e. ap (λ b. is_within target row.path || b) (within_put target new rows) ∙ swapped (is_within target row.path) (is_within target new.path) (has_within target rows)
     ] refl
-  where
-    doubled : (a b : Bool) → (a || b) ≡ (a || (a || b))
-    doubled true b = refl
-    doubled false b = refl
 
 pub within_puts : (target : List Seg) (put rows : List Row) → has_within target (put_rows put rows) ≡ (has_within target put || has_within target rows)
 within_puts target [] rows = refl
@@ -167,14 +165,10 @@ apart_from base put (row ∷ some) draft each = (
 pub length_drafted : (base : Touched) (put : List Row) → AreInOrder put → IsDraft base put → length put + length (untouched base) ≡ length (drafted base put).after
 length_drafted base put order draft = sym (length_puts put (untouched base) order (apart_from base put put draft (each_there put order)))
 
-or_false : (a b : Bool) → (a || b) ≡ false → (a ≡ false) × (b ≡ false)
-or_false true b h = absurd (true≢false h)
-or_false false b h = (refl, h)
-
 pub put_draft : (row : Row) (old new : Touched) (put : List Row) → IsDraft old put → Touches row.path old new → IsDraft new (put_row row put)
 put_draft row old new put draft touches = record {
   covered = λ q h.
-      let parts = or_false (is_eq (path_cmp row.path q)) (is_listed q old.paths) (sym (touches.paths q) ∙ h) in
+      let parts = or_parts (is_eq (path_cmp row.path q)) (is_listed q old.paths) (sym (touches.paths q) ∙ h) in
       ap is_some (value_at_put q row put ∙ ap (λ b. cond b (Some row.value) (value_at q put)) (tie_turned q row.path ∙ parts.0)) ∙ draft.covered q parts.1;
 }
 

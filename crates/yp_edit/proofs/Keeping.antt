@@ -26,14 +26,14 @@ use Rattle.yp_data_json.proofs.Growing.{within_more}
 use Rattle.yp_data_json.proofs.PutRows.{all_put}
 use Rattle.yp_data_json.proofs.Wholes.{read_whole}
 use Rattle.serde_json.specs.Data.{Data}
-use Rattle.yp_edit.specs.declared.fault.EditFault.{EditFault}
 use Rattle.yp_edit.specs.declared.fault.Tag.TheVariants.{DataMissing}
 use Rattle.yp_edit.specs.declared.halt.Refusal.{Refusal}
 use Rattle.yp_edit.specs.declared.patch.EditOp.{EditOp}
 use Rattle.yp_edit.specs.declared.patch.EditOp.TheVariants.{Create, Delete, Insert, Merge, Move, Replace, Remove}
 use Rattle.yp_edit.specs.declared.patch.Edit.{Edit}
 use Rattle.yp_edit.specs.declared.patch.Patch.{Patch}
-use Rattle.yp_edit.specs.Patches.{◌>>=◌, refused, path_or, no_key, target_of, rows_or, value_rows, paths_above, has_its_row, stand_above, row_limit, within_limit, new_rows, changed_by, edited, of_edit, all_edited, applied}
+use Rattle.yp_base.specs.Results.{◌>>=◌}
+use Rattle.yp_edit.specs.Patches.{RefusedEdit, refused, path_or, no_key, target_of, rows_or, value_rows, paths_above, has_its_row, stand_above, row_limit, within_limit, new_rows, performed, edited, of_edit, all_edited, applied}
 use Rattle.yp_edit.proofs.Alike.{are_one}
 use Rattle.yp_edit.proofs.Applied.{then_ok, choice_ok, numbered_ok}
 use Rattle.yp_edit.proofs.Committing.{puts_stay}
@@ -186,7 +186,7 @@ brought nodes target value rows place =
       | false ↦ λ e. tt
     ] refl)
 
-by_keeps : (op : EditOp) (nodes : List SchemaNode) (target : List Seg) (value : Option Data) (rows : List Row) → is_place nodes target ≡ true → IsDatastore nodes rows → IfOk (changed_by op nodes target value rows) (IsDatastore nodes)
+by_keeps : (op : EditOp) (nodes : List SchemaNode) (target : List Seg) (value : Option Data) (rows : List Row) → is_place nodes target ≡ true → IsDatastore nodes rows → IfOk (performed op nodes target value rows) (IsDatastore nodes)
 by_keeps Create nodes target value rows place datastore =
     then_ok (Brought nodes target rows) (IsDatastore nodes) (new_rows nodes target value rows) _ (brought nodes target value rows place)
     (λ new given. choice_ok (IsDatastore nodes) (has_within target rows) _ _ tt (puts_datastore nodes target rows datastore new given.0 given.1))
@@ -225,7 +225,7 @@ target_place nodes text =
 edit_keeps : (nodes : List SchemaNode) (rows : List Row) (edit : Edit) → IsDatastore nodes rows → IfOk (edited nodes rows edit) (IsDatastore nodes)
 edit_keeps nodes rows edit datastore =
     then_ok (λ target. is_place nodes target ≡ true) (IsDatastore nodes) (target_of nodes edit.target) _ (target_place nodes edit.target) (λ target place.
-    then_ok (IsDatastore nodes) (IsDatastore nodes) (changed_by edit.op nodes target edit.value rows) within_limit (by_keeps edit.op nodes target edit.value rows place datastore)
+    then_ok (IsDatastore nodes) (IsDatastore nodes) (performed edit.op nodes target edit.value rows) within_limit (by_keeps edit.op nodes target edit.value rows place datastore)
     (λ x h. choice_ok (IsDatastore nodes) (nat_lt row_limit (length x)) _ _ tt h))
 
 -- ---- a patch
@@ -238,4 +238,4 @@ all_keep nodes n rows (edit ∷ edits) datastore =
 
 -- a patch leaves a datastore a datastore
 pub patch_keeps : (nodes : List SchemaNode) (rows after : List Row) (patch : Patch) → IsDatastore nodes rows → applied nodes rows patch ≡ Ok after → IsDatastore nodes after
-patch_keeps nodes rows after patch datastore is = subst (λ (r : Result (List Row) EditFault). IfOk r (IsDatastore nodes)) is (all_keep nodes 0 rows patch.edits datastore)
+patch_keeps nodes rows after patch datastore is = subst (λ (r : Result (List Row) RefusedEdit). IfOk r (IsDatastore nodes)) is (all_keep nodes 0 rows patch.edits datastore)

@@ -11,4 +11,5 @@ pub mod Keeping
 pub mod Refusals
 pub mod Taking
 pub mod Touching
+pub mod Trials
 pub mod Walking

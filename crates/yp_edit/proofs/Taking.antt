@@ -3,6 +3,7 @@ use Rattle.std.proofs.Common.{◌≡◌, suc, List, [], ◌∷◌, length, map, 
 use Rattle.std.specs.Prelude.{is_some}
 use Rattle.std.specs.Ordering.{is_eq}
 use Rattle.std.specs.List.Sorted.{IsStrictlySortedBy}
+use Rattle.std.proofs.lemmas.Bool.{or_parts}
 use Rattle.yp_base.specs.declared.path.Seg.{Seg}
 use Rattle.yp_base.specs.declared.row.Row.{Row}
 use Rattle.yp_base.specs.Order.{path_cmp, is_within}
@@ -70,15 +71,11 @@ none_taken path (row ∷ rows) missing =
       | false ↦ λ h. ap (λ (more : List Row). row ∷ more) (none_taken path rows h)
     ] missing
 
-neither : (a b : Bool) → (a || b) ≡ false → (a ≡ false) × (b ≡ false)
-neither true b h = absurd (true≢false h)
-neither false b h = (refl, h)
-
 -- where no row is at or below a target, none is once a row is gone
 pub still_none : (target path : List Seg) (rows : List Row) → has_within target rows ≡ false → has_within target (without_row path rows) ≡ false
 still_none target path [] none = refl
 still_none target path (row ∷ rows) none =
-    let parts = neither (is_within target row.path) (has_within target rows) none in
+    let parts = or_parts (is_within target row.path) (has_within target rows) none in
     elim (is_eq (path_cmp path row.path)) as (λ b. has_within target (cond b rows (row ∷ without_row path rows)) ≡ false) [
       | true ↦ parts.1
       | false ↦ ap (λ w. w || has_within target (without_row path rows)) parts.0 ∙ still_none target path rows parts.1
@@ -97,5 +94,5 @@ none_within target (row ∷ rows) =
 pub all_left : (target : List Seg) (rows : List Row) → has_within target rows ≡ false → rows_without target rows ≡ rows
 all_left target [] none = refl
 all_left target (row ∷ rows) none =
-    let parts = neither (is_within target row.path) (has_within target rows) none in
+    let parts = or_parts (is_within target row.path) (has_within target rows) none in
     ap (λ w. cond (not w) (row ∷ rows_without target rows) (rows_without target rows)) parts.0 ∙ ap (λ (more : List Row). row ∷ more) (all_left target rows parts.1)

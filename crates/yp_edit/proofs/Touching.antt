@@ -7,6 +7,8 @@ use Rattle.std.specs.List.{AllByRecursion}
 use Rattle.std.specs.List.Sorted.{IsStrictlySortedBy}
 use Rattle.std.specs.Ordering.{is_eq, is_lt, match_ordering}
 use Rattle.std.specs.declared.cmp.Ordering.TheVariants.{Less, Equal, Greater}
+use Rattle.std.proofs.lemmas.Bool.{or_parts}
+use Rattle.std.proofs.Math.Bool.{or-true, or-false, and-false}
 use Rattle.yp_base.specs.declared.path.Seg.{Seg}
 use Rattle.yp_base.specs.declared.row.Value.{Value}
 use Rattle.yp_base.specs.declared.row.Row.{Row}
@@ -79,19 +81,11 @@ touched_already path base listed = record {
 pub none_left : (target : List Seg) (paths : List (List Seg)) (rows : List Row) → has_within target rows ≡ false → has_within target (left paths rows) ≡ false
 none_left target paths [] none = refl
 none_left target paths (row ∷ rows) none =
-    let parts = neither (is_within target row.path) (has_within target rows) none in
+    let parts = or_parts (is_within target row.path) (has_within target rows) none in
     elim (not (is_listed row.path paths)) as (λ b. has_within target (cond b (row ∷ left paths rows) (left paths rows)) ≡ false) [
       | true ↦ ap (λ w. w || has_within target (left paths rows)) parts.0 ∙ none_left target paths rows parts.1
       | false ↦ none_left target paths rows parts.1
     ]
-  where
-    neither : (a b : Bool) → (a || b) ≡ false → (a ≡ false) × (b ≡ false)
-    neither true b h = cc
-    neither false b h = (refl, h)
-
-or_true : (b : Bool) → (b || true) ≡ true
-or_true true = refl
-or_true false = refl
 
 -- where it isn't touched, there are untouched rows
 pub first_left : (target path : List Seg) (paths : List (List Seg)) (rows : List Row) → option_map path_of (slice_get (rows_within target rows) 0) ≡ Some path → is_listed path paths ≡ false → has_within target (left paths rows) ≡ true
@@ -103,7 +97,7 @@ first_left target path paths (row ∷ rows) first unlisted =
           let kept : is_listed row.path paths ≡ false = ap (λ p. is_listed p paths) same ∙ unlisted in
           ap (λ b. has_within target (cond (not b) (row ∷ left paths rows) (left paths rows))) kept ∙ ap (λ w. w || has_within target (left paths rows)) within
       | false ↦ λ within h. elim (not (is_listed row.path paths)) as (λ b. has_within target (cond b (row ∷ left paths rows) (left paths rows)) ≡ true) [
-        | true ↦ ap (λ b. is_within target row.path || b) (first_left target path paths rows h unlisted) ∙ or_true (is_within target row.path)
+        | true ↦ ap (λ b. is_within target row.path || b) (first_left target path paths rows h unlisted) ∙ or-true (is_within target row.path)
         | false ↦ first_left target path paths rows h unlisted
       ]
     ] refl first
@@ -116,10 +110,6 @@ all_past target path (row ∷ rows) all =
       | false ↦ all_past target path rows all.1
     ]
     ∙ ap (λ o. is_some (cond (is_lt o && is_within target row.path) (Some row) (next_row path target rows))) (sym all.0)
-
-and_false : (b : Bool) → (b && false) ≡ false
-and_false true = refl
-and_false false = refl
 
 -- where it is, they come past it
 pub first_gone : (target path : List Seg) (paths : List (List Seg)) (rows : List Row) → AreInOrder rows → option_map path_of (slice_get (rows_within target rows) 0) ≡ Some path → is_listed path paths ≡ true → has_within target (left paths rows) ≡ is_some (next_row path target (left paths rows))
@@ -139,7 +129,7 @@ first_gone target path paths (row ∷ rows) order first listed =
             | true ↦
                 ap (λ w. w || has_within target (left paths rows)) within
                 ∙ more
-                ∙ ap (λ b. is_some (cond b (Some row) (next_row path target (left paths rows)))) (sym (ap (λ w. is_lt (path_cmp path row.path) && w) within ∙ and_false (is_lt (path_cmp path row.path))))
+                ∙ ap (λ b. is_some (cond b (Some row) (next_row path target (left paths rows)))) (sym (ap (λ w. is_lt (path_cmp path row.path) && w) within ∙ and-false (is_lt (path_cmp path row.path))))
             | false ↦ more
           ]
     ] refl first
@@ -230,16 +220,12 @@ either_gone false true None = refl
 either_gone false true (Some value) = refl
 either_gone false false value = refl
 
-or_nothing : (b : Bool) → (b || false) ≡ b
-or_nothing true = refl
-or_nothing false = refl
-
 -- when all are, the rows at or below the target are touched
 pub all_touched : (target : List Seg) (first now : Touched) (all : List Lent) → AreInOrder first.rows → map lent_row all ≡ rows_within target first.rows → Touching first now all [] → TouchesWithin target first now
 all_touched target first now all order is touching =
     let rows = first.rows in
     let listed : (q : List Seg) → is_listed q now.paths ≡ (is_listed q first.paths || is_some (cond (is_within target q) (value_at q rows) None)) = λ q.
-    sym (or_nothing (is_listed q now.paths))
+    sym (or-false (is_listed q now.paths))
     ∙ touching.so_far q
     ∙ ap (λ b. is_listed q first.paths || b) (ap (is_listed q) (lent_paths all ∙ ap (map path_of) is) ∙ listed_there q (rows_within target rows) ∙ ap is_some (value_at_picked (is_within target) q rows)) in
     record {

@@ -11,7 +11,7 @@ use Rattle.yp_base.specs.declared.row.Row.{Row}
 use Rattle.yp_base.specs.Order.{path_cmp, is_within}
 use Rattle.yp_base.specs.OrderLaws.{segments_total, paths_total}
 use Rattle.yp_base.specs.Rows.{path_of, next_row, AreInOrder}
-use Rattle.std.proofs.lemmas.Bool.{and_from}
+use Rattle.std.proofs.lemmas.Bool.{and_parts, and_from}
 use Rattle.yp_tree.proofs.Nexts.{is_less}
 use Rattle.yp_edit.proofs.Alike.{IsBefore}
 
@@ -37,10 +37,6 @@ found_behind after target path (first ∷ rows) row next all =
       | false ↦ λ h. found_behind after target path rows row h all.1
     ] next
 
-left : (b c : Bool) → (b && c) ≡ true → b ≡ true
-left true c h = refl
-left false c h = cc
-
 -- a row isn't past a row that it is before
 not_later : (row target : List Seg) (first : Row) (rows : List Row) (o : Ordering) → path_cmp row first.path ≡ o → is_lt o ≡ false → later row target (first ∷ rows) ≡ later row target rows
 not_later row target first rows o is not =
@@ -55,7 +51,7 @@ next_first after target (first ∷ rows) row order next =
       | true ↦ λ past h.
           let same : first ≡ row = cc in
           let whole : first ∷ later after target rows ≡ first ∷ later first.path target (first ∷ rows) =
-          ap (λ (more : List Row). first ∷ more) (later_all after first.path target rows (is_less _ (left _ _ past)) order.0 ∙ sym (not_later first.path target first rows Equal (tied_itself paths_total first.path) refl)) in
+          ap (λ (more : List Row). first ∷ more) (later_all after first.path target rows (is_less _ (and_parts _ _ past).0) order.0 ∙ sym (not_later first.path target first rows Equal (tied_itself paths_total first.path) refl)) in
           subst (λ (r : Row). first ∷ later after target rows ≡ r ∷ later r.path target (first ∷ rows)) same whole
       | false ↦ λ past h.
           next_first after target rows row order.1 h
@@ -120,7 +116,7 @@ module _ (p : List Seg → Bool) where
             let out : p first.path ≡ false = ap (λ (r : Row). p r.path) same ∙ isnt in
             ap (λ b. next_row row.path under (cond b (first ∷ picked rows) (picked rows))) out
             ∙ ap (λ (r : Row). next_row r.path under (picked rows)) (sym same)
-            ∙ sym (past_same after first.path under (picked rows) (is_less _ (left _ _ past)) (before_picked first.path rows order.0))
+            ∙ sym (past_same after first.path under (picked rows) (is_less _ (and_parts _ _ past).0) (before_picked first.path rows order.0))
             ∙ ap (λ b. next_row after under (cond b (first ∷ picked rows) (picked rows))) (sym out)
         | false ↦ λ past h.
             let behind : path_cmp row.path first.path ≡ Greater = paths_total.antisymm row.path first.path ∙ ap ordering_reverse (found_behind after under first.path rows row h order.0) in
@@ -145,10 +141,6 @@ module _ (p : List Seg → Bool) where
           | false ↦ none_picked after under rows h
         ]
       ] refl none
-
-pub within_itself : (target : List Seg) → is_within target target ≡ true
-within_itself [] = refl
-within_itself (seg ∷ target) = and_from _ _ (ap is_eq (tied_itself segments_total seg)) (within_itself target)
 
 -- whether one is found is whether there is one
 pub next_told : {X : Type 0} (f : X → Row) (found : Option X) (next : Option Row) → option_map f found ≡ next → is_some found ≡ is_some next

@@ -6,6 +6,7 @@ use Rattle.yp_edit.specs.declared.halt.Halt.{Halt}
 use Rattle.yp_edit.specs.declared.halt.Halt.TheVariants as halt
 use Rattle.yp_edit.specs.declared.fault.EditFault.{EditFault}
 use Rattle.yp_edit.specs.declared.fault.EditFault.TheVariants.{Refused, Memory}
+use Rattle.yp_edit.specs.Patches.{RefusedEdit}
 
 -- ---- of an edit
 
@@ -24,15 +25,15 @@ Leaves (Err halt.Memory) after given = Unit {0}
 -- ---- of a patch
 
 -- what is answered is what the definition gives
-abbrev pub SaysAll : {X : Type 0} → Result X EditFault → Result X EditFault → Type 0
+abbrev pub SaysAll : {X : Type 0} → Result X EditFault → Result X RefusedEdit → Type 0
 SaysAll (Ok x) given = given ≡ Ok x
-SaysAll (Err (Refused edit tag path)) given = given ≡ Err (Refused edit tag path)
+SaysAll (Err (Refused edit tag path)) given = given ≡ Err (record { number = edit; tag = tag; path = path })
 SaysAll (Err Memory) given = Unit {0}
 
 -- the rows that are left are what the definition gives
-abbrev pub LeavesAll : {X : Type 0} → Result X EditFault → List Row → Result (List Row) EditFault → Type 0
+abbrev pub LeavesAll : {X : Type 0} → Result X EditFault → List Row → Result (List Row) RefusedEdit → Type 0
 LeavesAll (Ok x) after given = given ≡ Ok after
-LeavesAll (Err (Refused edit tag path)) after given = given ≡ Err (Refused edit tag path)
+LeavesAll (Err (Refused edit tag path)) after given = given ≡ Err (record { number = edit; tag = tag; path = path })
 LeavesAll (Err Memory) after given = Unit {0}
 
 -- a refusal names one of so many edits, which are counted from 0

@@ -42,8 +42,8 @@ are_alike (Some old) (Some new) = same_value old new
 abbrev pub change_of : List Seg → Option Value → Option Value → Option ChangedRow
 change_of path old new = if are_alike old new then None else Some (record { path = path; old = old; new = new })
 
-abbrev pub change_at : List Row → List Row → List Seg → Option ChangedRow
-change_at old new path = change_of path (value_at path old) (value_at path new)
+abbrev pub row_change : List Row → List Row → List Seg → Option ChangedRow
+row_change old new path = change_of path (value_at path old) (value_at path new)
 
 -- the paths of two lists in order, each once
 abbrev pub paths_of_both : List Row → List Row → List (List Seg)
@@ -51,4 +51,4 @@ paths_of_both old new = map path_of (put_rows new old)
 
 -- the rows that differ, in the order of their paths, once each
 abbrev pub changed_rows : List Row → List Row → List ChangedRow
-changed_rows old new = filter_map (change_at old new) (paths_of_both old new)
+changed_rows old new = filter_map (row_change old new) (paths_of_both old new)

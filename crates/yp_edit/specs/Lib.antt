@@ -4,4 +4,5 @@ pub mod Changes
 pub mod Commits
 pub mod Drafts
 pub mod Patches
+pub mod Records
 pub mod Shapes

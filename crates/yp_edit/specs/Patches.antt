@@ -3,6 +3,7 @@ use Rattle.std.specs.Prelude.{ℕ, ◌+◌, List, [], ◌∷◌, length, map, Bo
 use Rattle.std.specs.List.{list_all}
 use Rattle.yp_base.specs.declared.path.Seg.{Seg}
 use Rattle.yp_base.specs.declared.row.Row.{Row}
+use Rattle.yp_base.specs.Results.{◌>>=◌}
 use Rattle.yp_base.specs.Rows.{put_rows, has_within, rows_without}
 use Rattle.yp_schema.specs.declared.schema.SchemaNode.{SchemaNode}
 use Rattle.yp_schema.specs.Datastore.{ends_in_key, ends_in_entry, has_row}
@@ -16,20 +17,12 @@ use Rattle.serde_json.specs.Data.{Data}
 use Rattle.yp_edit.specs.declared.fault.Tag.{Tag}
 use Rattle.yp_edit.specs.declared.fault.Tag.TheVariants.{UnknownElement, InvalidValue, DataMissing, DataExists, TooBig}
 use Rattle.yp_edit.specs.declared.halt.Refusal.{Refusal}
-use Rattle.yp_edit.specs.declared.fault.EditFault.{EditFault}
-use Rattle.yp_edit.specs.declared.fault.EditFault.TheVariants.{Refused}
 use Rattle.yp_edit.specs.declared.patch.EditOp.{EditOp}
 use Rattle.yp_edit.specs.declared.patch.EditOp.TheVariants.{Create, Delete, Insert, Merge, Move, Replace, Remove}
 use Rattle.yp_edit.specs.declared.patch.Edit.{Edit}
 use Rattle.yp_edit.specs.declared.patch.Patch.{Patch}
 use Rattle.yp_edit.specs.declared.changed.ChangedRow.{ChangedRow}
 use Rattle.yp_edit.specs.Changes.{changed_rows}
-
--- a step, and the next one with what it gave; the first refusal stands
-infixl 10 ◌>>=◌
-abbrev pub ◌>>=◌ : {A B F : Type 0} → Result A F → (A → Result B F) → Result B F
-(Ok x) >>= f = f x
-(Err e) >>= f = Err e
 
 -- a refusal of this tag
 abbrev pub refused : {A : Type 0} → Tag → Result A Refusal
@@ -107,35 +100,41 @@ abbrev pub deleted : List Seg → List Row → Result (List Row) Refusal
 deleted target rows = if has_within target rows then Ok (rows_without target rows) else refused DataMissing
 
 -- the rows after an edit of an operation at a target, or its refusal (RFC 8072 section 2.5); of two refusals the one that is named first stands
-abbrev pub changed_by : EditOp → List SchemaNode → List Seg → Option Data → List Row → Result (List Row) Refusal
-changed_by Create nodes target value rows = new_rows nodes target value rows >>= λ new. created target new rows
-changed_by Merge nodes target value rows = new_rows nodes target value rows >>= λ new. Ok (put_rows new rows)
-changed_by Replace nodes target value rows = new_rows nodes target value rows >>= λ new. Ok (put_rows new (rows_without target rows))
-changed_by Delete nodes target value rows = deleted target rows
-changed_by Remove nodes target value rows = Ok (rows_without target rows)
-changed_by Insert nodes target value rows = refused InvalidValue
-changed_by Move nodes target value rows = refused InvalidValue
+abbrev pub performed : EditOp → List SchemaNode → List Seg → Option Data → List Row → Result (List Row) Refusal
+performed Create nodes target value rows = new_rows nodes target value rows >>= λ new. created target new rows
+performed Merge nodes target value rows = new_rows nodes target value rows >>= λ new. Ok (put_rows new rows)
+performed Replace nodes target value rows = new_rows nodes target value rows >>= λ new. Ok (put_rows new (rows_without target rows))
+performed Delete nodes target value rows = deleted target rows
+performed Remove nodes target value rows = Ok (rows_without target rows)
+performed Insert nodes target value rows = refused InvalidValue
+performed Move nodes target value rows = refused InvalidValue
 
 -- the rows after an edit, or its refusal
 abbrev pub edited : List SchemaNode → List Row → Edit → Result (List Row) Refusal
-edited nodes rows edit = target_of nodes edit.target >>= λ target. changed_by edit.op nodes target edit.value rows >>= within_limit
+edited nodes rows edit = target_of nodes edit.target >>= λ target. performed edit.op nodes target edit.value rows >>= within_limit
 
 -- ---- patches
 
+-- the refusal of a patch: the number of the edit that is refused, counted from 0, its error, and the text of its target where that is a key leaf
+pub record RefusedEdit : Type 0 where
+  pub number : ℕ
+  pub tag : Tag
+  pub path : Option (List ℕ)
+
 -- a refusal of the edit of this number
-abbrev pub of_edit : {A : Type 0} → ℕ → Result A Refusal → Result A EditFault
+abbrev pub of_edit : {A : Type 0} → ℕ → Result A Refusal → Result A RefusedEdit
 of_edit n (Ok x) = Ok x
-of_edit n (Err refusal) = Err (Refused n refusal.tag refusal.path)
+of_edit n (Err refusal) = Err (record { number = n; tag = refusal.tag; path = refusal.path })
 
 -- the rows after edits in order, the first of which has this number; the first refusal refuses them all
-abbrev pub all_edited : List SchemaNode → ℕ → List Row → List Edit → Result (List Row) EditFault
+abbrev pub all_edited : List SchemaNode → ℕ → List Row → List Edit → Result (List Row) RefusedEdit
 all_edited nodes n rows [] = Ok rows
 all_edited nodes n rows (edit ∷ edits) = of_edit n (edited nodes rows edit) >>= λ after. all_edited nodes (n + 1) after edits
 
 -- the rows after a patch, or the refusal of its first edit that is refused
-abbrev pub applied : List SchemaNode → List Row → Patch → Result (List Row) EditFault
+abbrev pub applied : List SchemaNode → List Row → Patch → Result (List Row) RefusedEdit
 applied nodes rows patch = all_edited nodes 0 rows patch.edits
 
 -- the rows that a patch changes
-abbrev pub changes_by : List SchemaNode → List Row → Patch → Result (List ChangedRow) EditFault
+abbrev pub changes_by : List SchemaNode → List Row → Patch → Result (List ChangedRow) RefusedEdit
 changes_by nodes rows patch = applied nodes rows patch >>= λ after. Ok (changed_rows rows after)

@@ -3,6 +3,7 @@ use Rattle.std.specs.Prelude.{◌≡◌, ℕ, ◌+◌, ◌==◌, ◌&&◌, ◌||
 use Rattle.serde_json.specs.Data.{Data, null, boolean, number, string, array, object, Items, no_items, item, Members}
 use Rattle.serde_json.specs.Find.{get_member, as_str, as_object, as_array}
 use Rattle.serde_json.specs.Events.{members_len}
+use Rattle.yp_base.specs.Json.{text_member}
 use Rattle.yp_base.specs.Types.{same_text, are_distinct}
 use Rattle.yp_edit.specs.declared.fault.PatchFault.{PatchFault}
 use Rattle.yp_edit.specs.declared.fault.PatchFault.TheVariants.{Shape, Memory}
@@ -22,10 +23,6 @@ ReadsAs (Err Shape) read = read ≡ None
 ReadsAs (Err Memory) read = Unit {0}
 
 -- ---- members
-
--- a member that is a text
-abbrev pub text_in : List ℕ → Members → Option (List ℕ)
-text_in name ms = option_and_then as_str (get_member name ms)
 
 -- a member that may be left out, read where it stands
 abbrev pub optional : {X : Type 0} → (Data → Option X) → Option Data → Option (Option X)
@@ -51,7 +48,7 @@ op_named name =
     else (if same_text name (codes "remove") then Some Remove else None))))))
 
 abbrev pub op_in : Members → Option EditOp
-op_in ms = option_and_then op_named (text_in (codes "operation") ms)
+op_in ms = option_and_then op_named (text_member (codes "operation") ms)
 
 -- the place of this name
 abbrev pub place_named : List ℕ → Option Place
@@ -94,7 +91,7 @@ abbrev pub is_alike : Bool → Bool → Bool
 is_alike true b = b
 is_alike false b = not b
 
--- a value exactly where the operation has one, a place only where it may have one, a point exactly where the place is beside an entry
+-- a value exactly when the operation has one, a place only when it may have one, a point exactly when the place is beside an entry
 abbrev pub has_parts : Edit → Bool
 has_parts edit =
     is_alike (is_some edit.value) (has_value edit.op) && is_alike (is_some edit.point) (is_beside edit.place) && (may_have_place edit.op || not (is_some edit.place))
@@ -112,7 +109,7 @@ abbrev pub edit_in : Members → Option Edit
 edit_in ms =
     option_and_then (λ id. option_and_then (λ op. option_and_then (λ target. option_and_then (λ point. option_and_then (λ place.
     edit_of (members_len ms) (record { id = id; op = op; target = target; point = point; place = place; value = get_member (codes "value") ms }))
-    (some_place ms)) (some_text (codes "point") ms)) (text_in (codes "target") ms)) (op_in ms)) (text_in (codes "edit-id") ms)
+    (some_place ms)) (some_text (codes "point") ms)) (text_member (codes "target") ms)) (op_in ms)) (text_member (codes "edit-id") ms)
 
 -- the edits that the items of an array are
 abbrev pub edits_in : Items → Option (List Edit)
@@ -142,7 +139,7 @@ abbrev pub patch_of : Members → Option Patch
 patch_of ms =
     option_and_then (λ id. option_and_then (λ comment. option_and_then (λ edits.
     if members_len ms == members_of_patch ms then Some (record { id = id; edits = edits }) else None)
-    (some_edits (get_member (codes "edit") ms))) (some_text (codes "comment") ms)) (text_in (codes "patch-id") ms)
+    (some_edits (get_member (codes "edit") ms))) (some_text (codes "comment") ms)) (text_member (codes "patch-id") ms)
 
 -- the members of an object of one member, where that has this name and is an object
 abbrev pub sole : List ℕ → Data → Option Members

@@ -7,11 +7,11 @@ ghost use Rattle.yp_edit.specs.Patches.{of_edit, edited, all_edited, changes_by,
 
 use crate::changed::Changed;
 use crate::commit::commit;
-use crate::draft::Draft;
 use crate::edit::make;
 use crate::fault::EditFault;
 use crate::halt::{Halt, Refusal};
 use crate::patch::{Edit, Edits, Patch};
+use crate::trial::Trial;
 use std::alloc::Global;
 use std::sync::ledger::Ledger;
 use yp_base::steps::Steps;
@@ -22,15 +22,15 @@ use yp_tree::tree::Tree;
 fn make_numbered<L: Ledger>(
     alloc: Global,
     schema: &Schema,
-    draft: &mut Draft,
+    trial: &mut Trial,
     number: u32,
     edit: &Edit,
     steps: &mut Steps<L>,
 ) -> Result<(), EditFault>
-    ensures rows { LeavesAll result draft.new.after (of_edit number (edited schema.now draft.old.after edit.now)) }
-    ensures before { OnOk result (draft.new.before ≡ draft.old.before) }
+    ensures rows { LeavesAll result trial.new.after (of_edit number (edited schema.now trial.old.after edit.now)) }
+    ensures before { OnOk result (trial.new.before ≡ trial.old.before) }
 {
-    match make(alloc, schema, draft, edit, steps) {
+    match make(alloc, schema, trial, edit, steps) {
         Ok(()) => Ok(()),
         Err(Halt::Refused(refusal)) => {
             let Refusal { tag, path } = refusal;
@@ -48,17 +48,17 @@ fn make_numbered<L: Ledger>(
 fn make_all<L: Ledger>(
     alloc: Global,
     schema: &Schema,
-    draft: &mut Draft,
+    trial: &mut Trial,
     edits: &Edits,
     steps: &mut Steps<L>,
 ) -> Result<(), EditFault>
     requires { length edits.now < 2 ^ 32 }
-    ensures rows { LeavesAll result draft.new.after (all_edited schema.now 0 draft.old.after edits.now) }
-    ensures before { OnOk result (draft.new.before ≡ draft.old.before) }
+    ensures rows { LeavesAll result trial.new.after (all_edited schema.now 0 trial.old.after edits.now) }
+    ensures before { OnOk result (trial.new.before ≡ trial.old.before) }
 {
     let mut number = 0;
     for edit in edits.items() {
-        make_numbered(alloc, schema, draft, number, edit, steps)?;
+        make_numbered(alloc, schema, trial, number, edit, steps)?;
         number += 1;
     }
     Ok(())
@@ -75,9 +75,9 @@ fn changes_of<L: Ledger>(
     requires { length patch.now.edits < 2 ^ 32 }
     ensures { SaysAll result (changes_by schema.now tree.now patch.now) }
 {
-    let mut draft = Draft::new(alloc, tree);
-    make_all(alloc, schema, &mut draft, &patch.edits, steps)?;
-    Ok(draft.changes(alloc, steps)?)
+    let mut trial = Trial::new(alloc, tree);
+    make_all(alloc, schema, &mut trial, &patch.edits, steps)?;
+    Ok(trial.changes(alloc, steps)?)
 }
 
 /// Applies a patch (RFC 8072): its edits in order, all of them or none. It gives the rows that differ
@@ -85,7 +85,7 @@ fn changes_of<L: Ledger>(
 /// undo each other leave none. `Refused` names the first edit that is refused, counted from 0, with the
 /// error of the first of these steps that it meets: the target's path, a key leaf as the target, an
 /// insert or a move, the value, what must stand above the target, what must or mustn't stand at it, and
-/// how many rows there are. After a refusal or want of memory the tree is as it was. A datastore of the
+/// how many rows there are. After a refusal, and where memory ran out, the tree is as it was. A datastore of the
 /// schema stays one.
 pub fn apply<L: Ledger>(
     alloc: Global,

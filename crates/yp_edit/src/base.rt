@@ -5,7 +5,7 @@ ghost use Rattle.std.specs.List.Sorted.{IsStrictlySortedBy};
 ghost use Rattle.yp_base.specs.Order.{path_cmp};
 ghost use Rattle.yp_base.specs.Rows.{path_of, value_at, next_row, has_within, rows_within, AreInOrder};
 ghost use Rattle.yp_tree.specs.Listed.{row_of};
-ghost use Rattle.yp_edit.specs.Changes.{change_at};
+ghost use Rattle.yp_edit.specs.Changes.{row_change};
 ghost use Rattle.yp_edit.specs.Bases.{is_listed, untouched, Touches, TouchesWithin, StaysTouched};
 
 use crate::changed::{Changed, change_of};
@@ -224,7 +224,7 @@ impl<'a> Base<'a> {
         put: &Tree,
         steps: &mut Steps<L>,
     ) -> Result<Changed, NoMemory>
-        ensures { IfOk result (λ changed. changed ≡ filter_map (change_at self.entry.rows put.now) self.entry.paths) }
+        ensures { IfOk result (λ changed. changed ≡ filter_map (row_change self.entry.rows put.now) self.entry.paths) }
     {
         let mut changed = Vec::new(alloc);
         for (path, old) in self.touched {

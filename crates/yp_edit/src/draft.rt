@@ -1,6 +1,6 @@
 //! Rows under change, over a tree that isn't changed yet.
 ghost use Rattle.std.specs.Prelude.{◌≡◌, length, is_some, IfOk, OnOk, OnErr};
-ghost use Rattle.yp_base.specs.Rows.{value_at, put_row, has_within, rows_without};
+ghost use Rattle.yp_base.specs.Rows.{value_at, put_row, has_within, rows_without, AreInOrder};
 ghost use Rattle.yp_edit.specs.Changes.{changed_rows};
 
 use crate::base::Base;
@@ -52,6 +52,13 @@ impl<'a> Draft<'a> {
             base: Base::new(alloc, tree),
             put: Tree::new(alloc),
         }
+    }
+
+    /// The rows are in the order of their paths.
+    pub fn in_order(&self)
+        ensures { AreInOrder self.now.after }
+    {
+        let _rows = (self.put.len(), self.base.len());
     }
 
     /// How many rows there are to be.

@@ -4,13 +4,13 @@ ghost use Rattle.yp_base.specs.Rows.{put_rows};
 ghost use Rattle.yp_schema.specs.Datastore.{is_entry_kind, is_path_of, is_place, last_node};
 ghost use Rattle.yp_edit.specs.Drafts.{Drafted};
 ghost use Rattle.yp_edit.specs.Answers.{Says, Leaves};
-ghost use Rattle.yp_edit.specs.Patches.{created, deleted, has_its_row, stand_above, new_rows, changed_by, edited};
+ghost use Rattle.yp_edit.specs.Patches.{created, deleted, has_its_row, stand_above, new_rows, performed, edited};
 
-use crate::draft::Draft;
 use crate::fault::Tag;
 use crate::halt::{Halt, refused};
 use crate::patch::{Edit, EditOp};
 use crate::target::{read_path, read_value};
+use crate::trial::Trial;
 use std::alloc::Global;
 use std::sync::ledger::Ledger;
 use yp_base::memory::{Duplicate, NoMemory};
@@ -33,31 +33,31 @@ fn is_entry(kind: Kind) -> bool
 /// Whether there is to be a row of a path, where it ends in a list entry or a presence container.
 fn has_its_row<L: Ledger>(
     schema: &Schema,
-    draft: &Draft,
+    trial: &Trial,
     node: u32,
     path: &Path,
     steps: &mut Steps<L>,
 ) -> bool
     requires last { last_node path.now ≡ Some node }
     requires within { node < length schema.now }
-    ensures { result ≡ has_its_row schema.now draft.now.after path.now }
+    ensures { result ≡ has_its_row schema.now trial.now.after path.now }
 {
     if !is_entry(schema.kind(node)) {
         return true;
     }
-    draft.has(path, steps)
+    trial.has(path, steps)
 }
 
 /// Whether each list entry and presence container above a target is to have its row.
 fn stands_above<L: Ledger>(
     alloc: Global,
     schema: &Schema,
-    draft: &Draft,
+    trial: &Trial,
     target: &Path,
     steps: &mut Steps<L>,
 ) -> Result<bool, NoMemory>
     requires { is_path_of schema.now target.now ≡ true }
-    ensures { IfOk result (λ stands. stands ≡ stand_above schema.now target.now draft.now.after) }
+    ensures { IfOk result (λ stands. stands ≡ stand_above schema.now target.now trial.now.after) }
 {
     let mut above = Path::from_vec(Vec::new(alloc));
     let mut rest = target.items();
@@ -65,10 +65,11 @@ fn stands_above<L: Ledger>(
         if more.is_empty() {
             return Ok(true);
         }
-        above = above.below(alloc, segment.copy(alloc)?)?;
-        if !has_its_row(schema, draft, segment.node, &above, steps) {
+        let longer = above.below(alloc, segment.copy(alloc)?)?;
+        if !has_its_row(schema, trial, segment.node, &longer, steps) {
             return Ok(false);
         }
+        above = longer;
         rest = more;
     }
     Ok(true)
@@ -77,14 +78,14 @@ fn stands_above<L: Ledger>(
 /// Puts rows, one after another.
 fn put_all<L: Ledger>(
     alloc: Global,
-    draft: &mut Draft,
+    trial: &mut Trial,
     rows: Rows,
     steps: &mut Steps<L>,
 ) -> Result<(), NoMemory>
-    ensures { OnOk result (draft.new ≡ record draft.old { after = put_rows rows draft.old.after }) }
+    ensures { OnOk result (trial.new ≡ record trial.old { after = put_rows rows trial.old.after }) }
 {
     for row in rows.into_vec(alloc)? {
-        draft.put(alloc, row, steps)?;
+        trial.put(alloc, row, steps)?;
     }
     Ok(())
 }
@@ -93,17 +94,17 @@ fn put_all<L: Ledger>(
 fn new_rows<L: Ledger>(
     alloc: Global,
     schema: &Schema,
-    draft: &Draft,
+    trial: &Trial,
     target: &Path,
     value: &Option<Payload>,
     steps: &mut Steps<L>,
 ) -> Result<Rows, Halt>
     requires path { is_path_of schema.now target.now ≡ true }
     requires place { is_place schema.now target.now ≡ true }
-    ensures { Says result (new_rows schema.now target.now value.now draft.now.after) }
+    ensures { Says result (new_rows schema.now target.now value.now trial.now.after) }
 {
     let rows = read_value(alloc, schema, target, value)?;
-    if !stands_above(alloc, schema, draft, target, steps)? {
+    if !stands_above(alloc, schema, trial, target, steps)? {
         return Err(refused(Tag::DataMissing));
     }
     Ok(rows)
@@ -112,35 +113,35 @@ fn new_rows<L: Ledger>(
 /// Puts rows at a target where there are none.
 fn create<L: Ledger>(
     alloc: Global,
-    draft: &mut Draft,
+    trial: &mut Trial,
     target: &Path,
     rows: Rows,
     steps: &mut Steps<L>,
 ) -> Result<(), Halt>
-    ensures rows { Leaves result draft.new.after (created target.now rows draft.old.after) }
-    ensures before { OnOk result (draft.new.before ≡ draft.old.before) }
+    ensures rows { Leaves result trial.new.after (created target.now rows trial.old.after) }
+    ensures before { OnOk result (trial.new.before ≡ trial.old.before) }
 {
-    if draft.has_within(alloc, target, steps)? {
+    if trial.has_within(alloc, target, steps)? {
         return Err(refused(Tag::DataExists));
     }
-    put_all(alloc, draft, rows, steps)?;
+    put_all(alloc, trial, rows, steps)?;
     Ok(())
 }
 
 /// Takes out the rows at a target where there are some.
 fn delete<L: Ledger>(
     alloc: Global,
-    draft: &mut Draft,
+    trial: &mut Trial,
     target: &Path,
     steps: &mut Steps<L>,
 ) -> Result<(), Halt>
-    ensures rows { Leaves result draft.new.after (deleted target.now draft.old.after) }
-    ensures before { OnOk result (draft.new.before ≡ draft.old.before) }
+    ensures rows { Leaves result trial.new.after (deleted target.now trial.old.after) }
+    ensures before { OnOk result (trial.new.before ≡ trial.old.before) }
 {
-    if !draft.has_within(alloc, target, steps)? {
+    if !trial.has_within(alloc, target, steps)? {
         return Err(refused(Tag::DataMissing));
     }
-    draft.cut(alloc, target, steps)?;
+    trial.cut(alloc, target, steps)?;
     Ok(())
 }
 
@@ -148,7 +149,7 @@ fn delete<L: Ledger>(
 fn change<L: Ledger>(
     alloc: Global,
     schema: &Schema,
-    draft: &mut Draft,
+    trial: &mut Trial,
     op: EditOp,
     target: &Path,
     value: &Option<Payload>,
@@ -156,25 +157,25 @@ fn change<L: Ledger>(
 ) -> Result<(), Halt>
     requires path { is_path_of schema.now target.now ≡ true }
     requires place { is_place schema.now target.now ≡ true }
-    ensures rows { Leaves result draft.new.after (changed_by op schema.now target.now value.now draft.old.after) }
-    ensures before { OnOk result (draft.new.before ≡ draft.old.before) }
+    ensures rows { Leaves result trial.new.after (performed op schema.now target.now value.now trial.old.after) }
+    ensures before { OnOk result (trial.new.before ≡ trial.old.before) }
 {
     match op {
         EditOp::Create => {
-            let rows = new_rows(alloc, schema, draft, target, value, steps)?;
-            create(alloc, draft, target, rows, steps)
+            let rows = new_rows(alloc, schema, trial, target, value, steps)?;
+            create(alloc, trial, target, rows, steps)
         }
         EditOp::Merge => {
-            let rows = new_rows(alloc, schema, draft, target, value, steps)?;
-            Ok(put_all(alloc, draft, rows, steps)?)
+            let rows = new_rows(alloc, schema, trial, target, value, steps)?;
+            Ok(put_all(alloc, trial, rows, steps)?)
         }
         EditOp::Replace => {
-            let rows = new_rows(alloc, schema, draft, target, value, steps)?;
-            draft.cut(alloc, target, steps)?;
-            Ok(put_all(alloc, draft, rows, steps)?)
+            let rows = new_rows(alloc, schema, trial, target, value, steps)?;
+            trial.cut(alloc, target, steps)?;
+            Ok(put_all(alloc, trial, rows, steps)?)
         }
-        EditOp::Delete => delete(alloc, draft, target, steps),
-        EditOp::Remove => Ok(draft.cut(alloc, target, steps)?),
+        EditOp::Delete => delete(alloc, trial, target, steps),
+        EditOp::Remove => Ok(trial.cut(alloc, target, steps)?),
         EditOp::Insert | EditOp::Move => Err(refused(Tag::InvalidValue)),
     }
 }
@@ -183,16 +184,16 @@ fn change<L: Ledger>(
 pub fn make<L: Ledger>(
     alloc: Global,
     schema: &Schema,
-    draft: &mut Draft,
+    trial: &mut Trial,
     edit: &Edit,
     steps: &mut Steps<L>,
 ) -> Result<(), Halt>
-    ensures rows { Leaves result draft.new.after (edited schema.now draft.old.after edit.now) }
-    ensures before { OnOk result (draft.new.before ≡ draft.old.before) }
+    ensures rows { Leaves result trial.new.after (edited schema.now trial.old.after edit.now) }
+    ensures before { OnOk result (trial.new.before ≡ trial.old.before) }
 {
     let target = read_path(alloc, schema, &edit.target)?;
-    change(alloc, schema, draft, edit.op, &target, &edit.value, steps)?;
-    if MOST_ROWS < draft.len() {
+    change(alloc, schema, trial, edit.op, &target, &edit.value, steps)?;
+    if trial.exceeds(alloc, MOST_ROWS, steps)? {
         return Err(refused(Tag::TooBig));
     }
     Ok(())

@@ -18,3 +18,4 @@ mod members;
 pub mod patch;
 pub mod reading;
 mod target;
+mod trial;

@@ -3,7 +3,8 @@ ghost use Rattle.std.specs.Prelude.{◌≡◌, option_map};
 ghost use Rattle.serde_json.specs.View.{view, members_view};
 ghost use Rattle.serde_json.specs.Find.{get_member};
 ghost use Rattle.serde_json.specs.Events.{members_len};
-ghost use Rattle.yp_edit.specs.Shapes.{ReadsAs, text_in, some_text, one_if, sole};
+ghost use Rattle.yp_base.specs.Json.{text_member};
+ghost use Rattle.yp_edit.specs.Shapes.{ReadsAs, some_text, one_if, sole};
 
 use crate::fault::PatchFault;
 use serde_json::{Map, Value as Json};
@@ -26,7 +27,7 @@ pub fn member_in<'a>(members: &'a Map<String, Json>, name: &str) -> Option<&'a J
 
 /// A member that is a text.
 pub fn text_in<'a>(members: &'a Map<String, Json>, name: &str) -> Option<&'a str>
-    ensures { option_map (λ text. text.now) result ≡ text_in name.now (members_view members.now.entries) }
+    ensures { option_map (λ text. text.now) result ≡ text_member name.now (members_view members.now.entries) }
 {
     match member_in(members, name) {
         Some(json) => json.as_str(),
@@ -36,7 +37,7 @@ pub fn text_in<'a>(members: &'a Map<String, Json>, name: &str) -> Option<&'a str
 
 /// The text of a member.
 pub fn read_text(alloc: Global, members: &Map<String, Json>, name: &str) -> Result<Txt, PatchFault>
-    ensures { ReadsAs result (text_in name.now (members_view members.now.entries)) }
+    ensures { ReadsAs result (text_member name.now (members_view members.now.entries)) }
 {
     match text_in(members, name) {
         Some(text) => Ok(Txt::from_string(String::from_str(alloc, text)?)),

@@ -4,7 +4,7 @@ ghost use Rattle.serde_json.specs.View.{view, members_view, items_view};
 ghost use Rattle.serde_json.specs.Find.{get_member, as_str, as_object};
 ghost use Rattle.serde_json.specs.Events.{members_len};
 ghost use Rattle.yp_base.specs.Types.{same_text, are_distinct, is_among};
-ghost use Rattle.yp_edit.specs.Shapes.{ReadsAs, text_in, optional, some_text, one_if, op_named, op_in, place_named, some_place, has_value, may_have_place, is_beside, has_parts, parts_of, edit_of, edit_in, edits_in, ids_of, distinct, some_edits, members_of_patch, patch_of, sole, patch_in};
+ghost use Rattle.yp_edit.specs.Shapes.{ReadsAs, optional, some_text, one_if, op_named, op_in, place_named, some_place, has_value, may_have_place, is_beside, has_parts, parts_of, edit_of, edit_in, edits_in, ids_of, distinct, some_edits, members_of_patch, patch_of, sole, patch_in};
 
 use crate::fault::PatchFault;
 use crate::members::{count, member_in, one_if, only, read_some_text, read_text, text_in};
@@ -281,7 +281,7 @@ fn read_members(alloc: Global, members: &Map<String, Json>) -> Result<Patch, Pat
 }
 
 /// Reads a patch (RFC 8072 section 2.2, in JSON by RFC 7951): an object of the one member `ietf-yang-patch:yang-patch`, with
-/// `patch-id`, and as may be a `comment` and edits. `Shape` comes exactly where the JSON isn't of this
+/// `patch-id`, and as may be a `comment` and edits. `Shape` is returned exactly when the JSON isn't of this
 /// form: with another member, a value of a wrong kind, two edits of one id, a value that an operation
 /// doesn't have, a place elsewhere than in an insert or a move, or a point but beside an entry. Targets
 /// and values are judged when the patch is applied.

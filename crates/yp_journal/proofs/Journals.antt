@@ -2,8 +2,7 @@
 use Rattle.std.proofs.Common.{◌≡◌, ◌+◌, List, [], ◌∷◌, ◌++◌, length, true, Result, Ok, Err, refl, ◌∙◌, arith}
 use Rattle.yp_base.specs.declared.row.Row.{Row}
 use Rattle.yp_schema.specs.declared.schema.SchemaNode.{SchemaNode}
-use Rattle.yp_edit.specs.declared.fault.EditFault.{EditFault}
-use Rattle.yp_edit.specs.Patches.{applied}
+use Rattle.yp_edit.specs.Patches.{RefusedEdit, applied}
 use Rattle.yp_journal.specs.declared.command.Command.{Command}
 use Rattle.yp_journal.specs.declared.command.Command.TheVariants.{Tick, Edit, Everything}
 use Rattle.yp_journal.specs.declared.entry.Entry.{Entry}
@@ -14,7 +13,7 @@ pub refusal_alone : (nodes : List SchemaNode) (state : JournalState) (command : 
 refusal_alone nodes state (Tick tick) h = cc
 refusal_alone nodes state (Everything by) h = cc
 refusal_alone nodes state (Edit patch) h =
-    elim (applied nodes state.rows patch) as (λ (after : Result (List Row) EditFault). is_refusal (patch_reply patch after) ≡ true → record (one_further state) { rows = rows_after state.rows after } ≡ one_further state) [
+    elim (applied nodes state.rows patch) as (λ (after : Result (List Row) RefusedEdit). is_refusal (patch_reply patch after) ≡ true → record (one_further state) { rows = rows_after state.rows after } ≡ one_further state) [
       | Ok after ↦ λ g. cc
       | Err fault ↦ λ g. refl
     ] h

@@ -5,8 +5,7 @@ use Rattle.yp_base.specs.declared.row.Row.{Row}
 use Rattle.yp_base.proofs.RowLaws.{none_order}
 use Rattle.yp_schema.specs.declared.schema.SchemaNode.{SchemaNode}
 use Rattle.yp_schema.specs.Datastore.{IsDatastore}
-use Rattle.yp_edit.specs.declared.fault.EditFault.{EditFault}
-use Rattle.yp_edit.specs.Patches.{applied}
+use Rattle.yp_edit.specs.Patches.{RefusedEdit, applied}
 use Rattle.yp_edit.proofs.Keeping.{patch_keeps}
 use Rattle.yp_journal.specs.declared.command.Command.{Command}
 use Rattle.yp_journal.specs.declared.command.Command.TheVariants.{Tick, Edit, Everything}
@@ -26,7 +25,7 @@ opening_datastore nodes receivers = record {
 pub command_keeps : (nodes : List SchemaNode) (state : JournalState) (command : Command) → IsDatastore nodes state.rows → IsDatastore nodes (next_state nodes state command).rows
 command_keeps nodes state (Tick tick) datastore = datastore
 command_keeps nodes state (Edit patch) datastore =
-    elim (applied nodes state.rows patch) as (λ (r : Result (List Row) EditFault). applied nodes state.rows patch ≡ r → IsDatastore nodes (rows_after state.rows r)) [
+    elim (applied nodes state.rows patch) as (λ (r : Result (List Row) RefusedEdit). applied nodes state.rows patch ≡ r → IsDatastore nodes (rows_after state.rows r)) [
       | Ok after ↦ λ is. patch_keeps nodes state.rows after patch datastore is
       | Err fault ↦ λ is. datastore
     ] refl

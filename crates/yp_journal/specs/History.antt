@@ -3,11 +3,9 @@ use Rattle.std.specs.Prelude.{◌≡◌, ℕ, ◌+◌, ◌<◌, ◌≤◌, ◌^�
 use Rattle.serde_json.specs.Data.{Data}
 use Rattle.yp_base.specs.declared.row.Row.{Row}
 use Rattle.yp_schema.specs.declared.schema.SchemaNode.{SchemaNode}
-use Rattle.yp_edit.specs.declared.fault.EditFault.{EditFault}
-use Rattle.yp_edit.specs.declared.fault.EditFault.TheVariants as edit_fault
 use Rattle.yp_edit.specs.declared.patch.Edit.{Edit as PatchEdit}
 use Rattle.yp_edit.specs.declared.patch.Patch.{Patch}
-use Rattle.yp_edit.specs.Patches.{applied}
+use Rattle.yp_edit.specs.Patches.{RefusedEdit, applied}
 use Rattle.yp_edit.specs.Shapes.{ids_of, patch_in}
 use Rattle.yp_journal.specs.declared.command.Command.{Command}
 use Rattle.yp_journal.specs.declared.command.Command.TheVariants.{Tick, Edit, Everything}
@@ -19,17 +17,18 @@ use Rattle.yp_journal.specs.declared.subscription.Subscription.{Subscription}
 
 -- ---- the state
 
--- what a command finds: the rows of the datastore, the tick, how many commands came before, the subscriptions given so far, and the receivers, which stay as they were declared
+-- what a command finds: the rows of the datastore, the tick, how many commands came before, how many ids were given so far, the subscriptions, and the receivers, which stay as they were declared
 pub record JournalState : Type 0 where
   pub rows : List Row
   pub stamp : ℕ
   pub position : ℕ
+  pub given : ℕ
   pub subscriptions : List Subscription
   pub receivers : List ReceiverInfo
 
 -- what the first command finds
 abbrev pub first_state : List ReceiverInfo → JournalState
-first_state receivers = record { rows = []; stamp = 0; position = 0; subscriptions = []; receivers = receivers }
+first_state receivers = record { rows = []; stamp = 0; position = 0; given = 0; subscriptions = []; receivers = receivers }
 
 -- the state one position further, with all else as it was
 abbrev pub one_further : JournalState → JournalState
@@ -42,30 +41,29 @@ with_tick state tick = record (one_further state) { stamp = max state.stamp tick
 -- ---- patches
 
 -- the rows after a patch; one that is refused leaves those that it found
-abbrev pub rows_after : List Row → Result (List Row) EditFault → List Row
+abbrev pub rows_after : List Row → Result (List Row) RefusedEdit → List Row
 rows_after rows (Ok after) = after
-rows_after rows (Err fault) = rows
+rows_after rows (Err refusal) = rows
 
 -- the id of the edit of this number, from 0 on
 abbrev pub id_at : ℕ → List PatchEdit → List ℕ
 id_at number edits = slice_index_or (ids_of edits) number []
 
--- the reply to a patch; no patch is refused for want of memory
-abbrev pub patch_reply : Patch → Result (List Row) EditFault → Reply
+-- the reply to a patch
+abbrev pub patch_reply : Patch → Result (List Row) RefusedEdit → Reply
 patch_reply patch (Ok after) = Done
-patch_reply patch (Err (edit_fault.Refused number tag path)) = EditRefused (id_at number patch.edits) tag path
-patch_reply patch (Err edit_fault.Memory) = Done
+patch_reply patch (Err refusal) = EditRefused (id_at refusal.number patch.edits) refusal.tag refusal.path
 
 -- ---- subscriptions
 
--- the id of the next subscription, where so many were given: ids rise from the first, and none is given twice
+-- the id of the next subscription, where so many ids were given: ids rise from the first, and none is given twice
 abbrev pub next_id : ℕ → ℕ
 next_id given = 2147483648 + given
 
 -- one subscription more, for the receiver of this number
 abbrev pub with_subscription : JournalState → ℕ → JournalState
 with_subscription state by =
-    record (one_further state) { subscriptions = state.subscriptions ++ record { id = next_id (length state.subscriptions); receiver = by } ∷ [] }
+    record (one_further state) { given = state.given + 1; subscriptions = state.subscriptions ++ record { id = next_id state.given; receiver = by } ∷ [] }
 
 -- ---- commands
 
@@ -74,7 +72,7 @@ abbrev pub accepted : List SchemaNode → JournalState → Command → JournalSt
 accepted nodes state (Tick tick) = (with_tick state tick, Done)
 accepted nodes state (Edit patch) =
     (record (one_further state) { rows = rows_after state.rows (applied nodes state.rows patch) }, patch_reply patch (applied nodes state.rows patch))
-accepted nodes state (Everything by) = (with_subscription state by, Id (next_id (length state.subscriptions)))
+accepted nodes state (Everything by) = (with_subscription state by, Id (next_id state.given))
 
 abbrev pub next_state : List SchemaNode → JournalState → Command → JournalState
 next_state nodes state command = (accepted nodes state command).0

@@ -3,7 +3,7 @@
 //! `state::State` is the fold of the commands that it accepted. Contracts see it as a record of lists
 //! and numbers, and each command as a function of that record (`specs/History.antt`, which also says
 //! which journals are legal). Commands, replies and entries are plain variants and fields, whose copies
-//! are equal. A refused command changes the position alone; after want of memory nothing is changed.
+//! are equal. A refused command changes the position alone; where memory runs out nothing is changed.
 //! Patches follow RFC 8072, subscriptions RFC 8639 and RFC 8641.
 #![tactic(auto)]
 

@@ -6,7 +6,7 @@ use yp_base::memory::{Duplicate, NoMemory};
 use yp_base::txt::Txt;
 use yp_edit::fault::Tag;
 
-/// The reply to a command. It never tells want of memory.
+/// The reply to a command. It never tells that memory ran out.
 #[derive(Drop)]
 pub enum Reply {
     /// The command is done.

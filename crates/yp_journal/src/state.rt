@@ -31,6 +31,8 @@ pub struct State {
     tree: Tree,
     stamp: u64,
     position: u64,
+    /// How many ids of subscriptions were given.
+    given: u32,
     subscriptions: Vec<Subscription>,
     receivers: Receivers,
 }
@@ -41,7 +43,7 @@ impl Model for State {
 
     ghost Value = { JournalState };
 
-    ghost view = { λ s. record { rows = s.tree; stamp = s.stamp; position = s.position; subscriptions = s.subscriptions.items; receivers = s.receivers } };
+    ghost view = { λ s. record { rows = s.tree; stamp = s.stamp; position = s.position; given = s.given; subscriptions = s.subscriptions.items; receivers = s.receivers } };
 
     ghost invariant = { λ s. s.stamp ≤ tick_limit };
 }
@@ -116,6 +118,7 @@ impl State {
             tree: Tree::new(alloc),
             stamp: 0,
             position: 0,
+            given: 0,
             subscriptions: Vec::new(alloc),
             receivers: copies_of(alloc, receivers)?,
         })
@@ -143,7 +146,7 @@ impl State {
         self.position
     }
 
-    /// The subscriptions that were given, in order.
+    /// The subscriptions, in the order in which they were given.
     pub fn subscriptions(&self) -> &[Subscription]
         ensures given { result.now ≡ self.now.subscriptions }
     {
@@ -152,7 +155,7 @@ impl State {
 
     /// Takes a command: the state goes on to what it leaves, and its reply and the rows that it changed
     /// are told. A command that is refused moves the position alone. After `NoMemory` the state is as it
-    /// was; it comes too where 2147483648 subscriptions were given and one more is asked for. Rows that
+    /// was; it is returned too where 2147483648 ids were given and a subscription is asked for. Rows that
     /// are a datastore of the schema stay one.
     #[tactic(auto, using(yp_edit::proofs::Differing::none_differ, crate::proofs::Keeping::command_kept))]
     pub fn accept(
@@ -232,11 +235,12 @@ impl State {
     fn subscribe(&mut self, alloc: Global, by: u32) -> Result<Outcome, NoMemory>
         requires { self.old.position < 2 ^ 63 }
         ensures state { OnOk result (self.new ≡ with_subscription self.old by) }
-        ensures outcome { IfOk result (λ outcome. outcome ≡ record { stamp = self.old.stamp; reply = Reply.Id (next_id (length self.old.subscriptions)); changed = [] }) }
+        ensures outcome { IfOk result (λ outcome. outcome ≡ record { stamp = self.old.stamp; reply = Reply.Id (next_id self.old.given); changed = [] }) }
         ensures unchanged { OnErr result (self.new ≡ self.old) }
     {
-        let id = next_id(self.subscriptions.len())?;
+        let id = next_id(self.given)?;
         self.subscriptions.push(Subscription { id, receiver: by })?;
+        self.given += 1;
         Ok(self.advance(Reply::Id(id), no_changes(alloc)))
     }
 }

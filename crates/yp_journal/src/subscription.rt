@@ -8,7 +8,7 @@ use yp_base::memory::NoMemory;
 const FIRST_ID: u32 = 2147483648;
 
 /// How many ids there are from the first on.
-const MOST_GIVEN: usize = 2147483648;
+const MOST_GIVEN: u32 = 2147483648;
 
 /// A subscription that was given: its id, and the number of its receiver, from 0 on in the order of
 /// their declaration.
@@ -18,13 +18,13 @@ pub struct Subscription {
     pub receiver: u32,
 }
 
-/// The id of the next subscription, where so many were given.
-pub(crate) fn next_id(given: usize) -> Result<u32, NoMemory>
+/// The id of the next subscription, where so many ids were given.
+pub(crate) fn next_id(given: u32) -> Result<u32, NoMemory>
     ensures { IfOk result (λ id. id ≡ next_id given) }
 {
     // A script has far fewer lines than there are ids.
     if given >= MOST_GIVEN {
         return Err(NoMemory);
     }
-    Ok(FIRST_ID + given as u32)
+    Ok(FIRST_ID + given)
 }

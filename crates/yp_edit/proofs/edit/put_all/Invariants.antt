@@ -5,6 +5,6 @@ use Rattle.yp_edit.proofs.edit.put_all.Given as goal
 
 abbrev pub invariant-loop-row : goal.invariant-loop-row
 invariant-loop-row g l = record {
-  before : l.draft.before ≡ l.fn.draft.before;
-  after : put_rows (into_iter_items l.row-iterator) l.draft.after ≡ put_rows l.fn.rows l.fn.draft.after;
+  before : l.trial.before ≡ l.fn.trial.before;
+  after : put_rows (into_iter_items l.row-iterator) l.trial.after ≡ put_rows l.fn.rows l.fn.trial.after;
 }

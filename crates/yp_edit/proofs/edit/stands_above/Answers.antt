@@ -8,33 +8,33 @@ use Rattle.yp_edit.proofs.edit.stands_above.Goals as goal
 
 pub loop-segment-init : goal.loop-segment-init
 loop-segment-init g c =
-    let front : c.in_ok-front.front.items ≡ [] = c.in_ok-front.ensures.items in
-    let test : List Seg → Bool = has_its_row c.args.schema.now c.args.draft.now.after in
+    let top : c.from_vec-above.result ≡ [] = c.from_vec-above.ensures ∙ c.new.ensures.items in
+    let test : List Seg → Bool = has_its_row c.args.schema.now c.args.trial.now.after in
     record {
       nodes = subst (λ (path : List Seg). AllByRecursion (λ segment. segment.node < length c.args.schema.now) path) (sym c.items-rest.ensures) (each_within c.args.schema.now c.args.target.now c.requires);
-      passed = ap test front;
-      so_far = λ i. list_all (λ above. test (front i ++ above)) (paths_above (c.items-rest.ensures i));
+      passed = ap test top;
+      so_far = λ i. list_all (λ above. test (top i ++ above)) (paths_above (c.items-rest.ensures i));
     }
 
-pub has_its_row-stands-requires-clause-last : goal.has_its_row-stands-requires-clause-last
-has_its_row-stands-requires-clause-last g c =
-    ap last_node (with_copy c.loop-segment.front.items c.push.new.self.items c.in_ok-copy.field-0 c.in-Some.segment.now c.in_ok-push.ensures.items c.in_ok-copy.ensures)
-    ∙ last_node-append c.loop-segment.front.items c.in-Some.segment.now
+pub has_its_row-requires-clause-last : goal.has_its_row-requires-clause-last
+has_its_row-requires-clause-last g c =
+    ap last_node (with_copy c.loop-segment.above c.in_ok-longer.longer c.in_ok-copy.field-0 c.in-Some.segment.now c.in_ok-longer.ensures c.in_ok-copy.ensures)
+    ∙ last_node-append c.loop-segment.above c.in-Some.segment.now
 
-pub returns-then-not-stands : goal.returns-then-not-stands
-returns-then-not-stands g c =
-    let test : List Seg → Bool = has_its_row c.args.schema.now c.args.draft.now.after in
-    let pushed : c.push.new.self.items ≡ c.loop-segment.front.items ++ c.in-Some.segment.now ∷ [] = with_copy c.loop-segment.front.items c.push.new.self.items c.in_ok-copy.field-0 c.in-Some.segment.now c.in_ok-push.ensures.items c.in_ok-copy.ensures in
-    one_fails test c.push.new.self.items c.in-Some.more.now c.is_empty.result _ c.is_empty.ensures c.if-is_empty.false (sym c.has_its_row-stands.ensures.has ∙ c.if-not-stands.true)
-    (one_further test c.loop-segment.front.items c.push.new.self.items c.in-Some.segment.now c.loop-segment.rest.now c.in-Some.more.now _ c.in-Some.ensures.cases.0 pushed c.loop-segment.invariant.passed c.loop-segment.invariant.so_far)
+pub returns-then-not-has_its_row : goal.returns-then-not-has_its_row
+returns-then-not-has_its_row g c =
+    let test : List Seg → Bool = has_its_row c.args.schema.now c.args.trial.now.after in
+    let whole : c.in_ok-longer.longer ≡ c.loop-segment.above ++ c.in-Some.segment.now ∷ [] = with_copy c.loop-segment.above c.in_ok-longer.longer c.in_ok-copy.field-0 c.in-Some.segment.now c.in_ok-longer.ensures c.in_ok-copy.ensures in
+    one_fails test c.in_ok-longer.longer c.in-Some.more.now c.is_empty.result _ c.is_empty.ensures c.if-is_empty.false (sym c.has_its_row.ensures ∙ c.if-not-has_its_row.true)
+    (one_further test c.loop-segment.above c.in_ok-longer.longer c.in-Some.segment.now c.loop-segment.rest.now c.in-Some.more.now _ c.in-Some.ensures.cases.0 whole c.loop-segment.invariant.passed c.loop-segment.invariant.so_far)
 
 pub loop-segment-preserved : goal.loop-segment-preserved
 loop-segment-preserved g c =
-    let test : List Seg → Bool = has_its_row c.args.schema.now c.args.draft.now.after in
+    let test : List Seg → Bool = has_its_row c.args.schema.now c.args.trial.now.after in
     let nodes = subst (λ (path : List Seg). AllByRecursion (λ segment. segment.node < length c.args.schema.now) path) c.in-Some.ensures.cases.0 c.loop-segment.invariant.nodes in
-    let pushed : c.push.new.self.items ≡ c.loop-segment.front.items ++ c.in-Some.segment.now ∷ [] = with_copy c.loop-segment.front.items c.push.new.self.items c.in_ok-copy.field-0 c.in-Some.segment.now c.in_ok-push.ensures.items c.in_ok-copy.ensures in
+    let whole : c.in_ok-longer.longer ≡ c.loop-segment.above ++ c.in-Some.segment.now ∷ [] = with_copy c.loop-segment.above c.in_ok-longer.longer c.in_ok-copy.field-0 c.in-Some.segment.now c.in_ok-longer.ensures c.in_ok-copy.ensures in
     record {
       nodes = nodes.1;
-      passed = ap test c.has_its_row-stands.ensures.same ∙ sym c.has_its_row-stands.ensures.has ∙ c.if-not-stands.false;
-      so_far = one_further test c.loop-segment.front.items c.has_its_row-stands.result.1.items c.in-Some.segment.now c.loop-segment.rest.now c.in-Some.more.now _ c.in-Some.ensures.cases.0 (c.has_its_row-stands.ensures.same ∙ pushed) c.loop-segment.invariant.passed c.loop-segment.invariant.so_far;
+      passed = sym c.has_its_row.ensures ∙ c.if-not-has_its_row.false;
+      so_far = one_further test c.loop-segment.above c.in_ok-longer.longer c.in-Some.segment.now c.loop-segment.rest.now c.in-Some.more.now _ c.in-Some.ensures.cases.0 whole c.loop-segment.invariant.passed c.loop-segment.invariant.so_far;
     }

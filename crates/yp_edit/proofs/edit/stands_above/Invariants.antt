@@ -6,8 +6,8 @@ use Rattle.yp_edit.proofs.edit.stands_above.Given as goal
 abbrev pub invariant-loop-segment : goal.invariant-loop-segment
 invariant-loop-segment g l = record {
   nodes : AllByRecursion (λ segment. segment.node < length l.schema) l.rest;
-  passed : has_its_row l.schema l.draft.after l.front.items ≡ true;
-  so_far : list_all (λ above. has_its_row l.schema l.draft.after (l.front.items ++ above)) (paths_above l.rest) ≡ stand_above l.schema l.target l.draft.after;
+  passed : has_its_row l.schema l.trial.after l.above ≡ true;
+  so_far : list_all (λ above. has_its_row l.schema l.trial.after (l.above ++ above)) (paths_above l.rest) ≡ stand_above l.schema l.target l.trial.after;
 }
 
 abbrev pub decreases-loop-segment : goal.decreases-loop-segment
