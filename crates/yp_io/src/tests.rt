@@ -72,11 +72,17 @@ impl Write for Interrupted {
 #[test]
 fn a_signal_ends_neither_reading_nor_writing(rt: HostRuntime) -> Result<(), Fail> {
     let alloc = rt.alloc();
-    let interrupted = Interrupted { given: 0, signals: 2 };
+    let interrupted = Interrupted {
+        given: 0,
+        signals: 2,
+    };
     let mut source = StdSource::new(Persistent::reader(interrupted));
     let whole = read_whole(alloc, &mut source, 100)?;
     assert_eq!(rt; whole.bytes.items(), [0u8, 1, 2].as_slice());
-    let interrupted = Interrupted { given: 0, signals: 2 };
+    let interrupted = Interrupted {
+        given: 0,
+        signals: 2,
+    };
     let mut sink = StdSink::new(Persistent::writer(interrupted));
     assert!(rt; write_whole(&mut sink, b"abc").is_ok());
     let broken = read_whole(alloc, &mut StdSource::new(Persistent::reader(Broken)), 100);
