@@ -30,9 +30,17 @@ is_blank (b ∷ bytes) = (b == 32 || b == 9 || b == 13) && is_blank bytes
 abbrev pub json_of : List ℕ → Option Data
 json_of text = if utf8_valid_len text == length text then read_text text else None
 
+-- a script has this many bytes at most
+abbrev pub byte_limit : ℕ
+byte_limit = 67108864
+
+-- and this many lines
+abbrev pub line_limit : ℕ
+line_limit = 100000
+
 -- whether a line of this number that ends behind so many bytes lies within the limits of a script
 abbrev pub is_in_script : ℕ → ℕ → Bool
-is_in_script number end = nat_le number 100000 && nat_le end 67108864
+is_in_script number end = nat_le number line_limit && nat_le end byte_limit
 
 -- the JSON of a line, where it lies within the limits of a script, isn't too long and is JSON: the limits of lines and bytes come before all else
 abbrev pub json_in : Bool → List ℕ → Said Data

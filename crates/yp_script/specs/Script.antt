@@ -22,7 +22,7 @@ use Rattle.yp_script.specs.declared.stage.Stage.{Stage}
 use Rattle.yp_script.specs.declared.stage.Stage.TheVariants.{Opening, Started, Schemas, Receivers, Before, Within, After}
 use Rattle.yp_script.specs.Faults.{Said, said_map, holding}
 use Rattle.yp_script.specs.Forms.{is_receiver_name, is_user_name, names_of, form_of, start_said, part_said, receiver_said, command_said, lanes_said, lane_said, is_join}
-use Rattle.yp_script.specs.Lines.{Line, pieces_of, lines_from}
+use Rattle.yp_script.specs.Lines.{Line, pieces_of, lines_from, byte_limit}
 use Rattle.yp_script.specs.Order.{may_stand, behind_command, is_complete, InOrder}
 
 -- ---- what the lines so far say
@@ -146,9 +146,9 @@ script_from end progress (line ∷ lines) = at_line line.number (said_in progres
 abbrev pub script_of : List ℕ → Result Script ScriptFault
 script_of text = script_from (length (pieces_of text) + 1) no_progress (lines_from 0 0 (pieces_of text))
 
--- the script of a source's bytes; nothing past byte 67,108,865 is looked at, since that byte is a fault of its line
+-- the script of a source's bytes; nothing past the first byte over the limit is looked at, since that byte is a fault of its line
 abbrev pub script_in : List ℕ → Result Script ScriptFault
-script_in bytes = script_of (take 67108865 bytes)
+script_in bytes = script_of (take (byte_limit + 1) bytes)
 
 -- ---- what each script keeps
 

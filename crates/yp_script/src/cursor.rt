@@ -8,10 +8,10 @@ use std::alloc::Global;
 use yp_base::memory::NoMemory;
 
 /// The most lines of a script.
-const MOST_LINES: u32 = 100_000;
+const LINE_LIMIT: u32 = 100_000;
 
 /// The most bytes of a script.
-const MOST_BYTES: usize = 67_108_864;
+pub const BYTE_LIMIT: usize = 67_108_864;
 
 /// A line that says something: its number, and its JSON or the fault for which it has none.
 #[derive(Drop)]
@@ -65,7 +65,7 @@ impl<'a> Lines<'a> {
             self.rest = rest;
             self.number = number;
             self.at = at;
-            let within = number <= MOST_LINES && at <= MOST_BYTES;
+            let within = number <= LINE_LIMIT && at <= BYTE_LIMIT;
             if !(within && is_blank_line(text)) {
                 return Ok(Some(Line {
                     number,

@@ -1,24 +1,21 @@
 //! Reading a script.
-ghost use Rattle.std.specs.Prelude.{◌≡◌, ◌≤◌, length, take, IfOk, OnOk};
+ghost use Rattle.std.specs.Prelude.{◌≡◌, ◌+◌, ◌≤◌, length, take, IfOk, OnOk};
 ghost use Rattle.yp_schema.specs.WellFormed.{IsSchema};
 ghost use Rattle.yp_time.specs.Instants.{IsStart};
 ghost use Rattle.yp_script.specs.Commands.{HasFew};
-ghost use Rattle.yp_script.specs.Lines.{lines_from, pieces_of};
+ghost use Rattle.yp_script.specs.Lines.{byte_limit, line_limit, lines_from, pieces_of};
 ghost use Rattle.yp_script.specs.Readings.{Gives};
 ghost use Rattle.yp_script.specs.Script.{AreInOrder, AreReceivers, MayRun, count_commands, script_in, script_of};
 
-use crate::cursor::Lines;
+use crate::cursor::{BYTE_LIMIT, Lines};
 use crate::fault::ScriptFault;
 use crate::reader::Reader;
 use crate::script::Script;
 use std::alloc::Global;
 
-/// The most bytes that are looked at: with the last of them a script has one too many.
-const MOST_READ: usize = 67_108_865;
-
 /// Reads the script of a text.
 fn read_text(alloc: Global, text: &[u8]) -> Result<Script, ScriptFault>
-    requires { length text.now ≤ 67108865 }
+    requires { length text.now ≤ byte_limit + 1 }
     ensures read { Gives result (script_of text.now) }
     ensures few { IfOk result HasFew }
     ensures start { IfOk result (λ script. IsStart script.start) }
@@ -38,13 +35,13 @@ fn read_text(alloc: Global, text: &[u8]) -> Result<Script, ScriptFault>
 /// commands of a script that was read may run in a journal of its receivers, and are 100,000 at most.
 pub fn read_script(alloc: Global, bytes: &[u8]) -> Result<Script, ScriptFault>
     ensures read { Gives result (script_in bytes.now) }
-    ensures order { OnOk result (AreInOrder (lines_from 0 0 (pieces_of (take 67108865 bytes.now)))) }
+    ensures order { OnOk result (AreInOrder (lines_from 0 0 (pieces_of (take (byte_limit + 1) bytes.now)))) }
     ensures start { IfOk result (λ script. IsStart script.start) }
     ensures schema { IfOk result (λ script. IsSchema script.schema) }
     ensures receivers { IfOk result (λ script. AreReceivers script.receivers) }
     ensures commands { IfOk result MayRun }
-    ensures count { IfOk result (λ script. count_commands script ≤ 100000) }
+    ensures count { IfOk result (λ script. count_commands script ≤ line_limit) }
 {
-    let (text, _) = bytes.split_at(bytes.len().min(MOST_READ));
+    let (text, _) = bytes.split_at(bytes.len().min(BYTE_LIMIT + 1));
     read_text(alloc, text)
 }
