@@ -1,18 +1,16 @@
--- What each script keeps: a schema, receivers of distinct names, and commands of these receivers.
+-- What each script keeps: receivers of distinct names, and commands of these receivers.
 use Rattle.std.proofs.Common.{◌≡◌, ℕ, ◌+◌, ◌-◌, ◌<◌, ◌≤◌, inl, inr, option_and_then, codes, Bool, true, false, true≢false, not, ◌&&◌, ◌||◌, List, [], ◌∷◌, ◌++◌, length, take, min, get_or, Option, Some, None, is_some, Result, Ok, Err, refl, sym, ap, ◌∙◌, subst, arith, nat_le, IfSome, IfOk, length-append}
 use Rattle.std.specs.List.{All, list_any}
 use Rattle.std.specs.Cmp.Lexicographic.{nat_list_eq_equiv}
-use Rattle.std.proofs.lemmas.Bool.{leb-true, cases_lt}
+use Rattle.std.proofs.lemmas.Bool.{leb-true, cases_lt, or_parts}
 use Rattle.std.proofs.lemmas.List.{length-map, map-append, get_or_past, take_all}
 use Rattle.std.proofs.lemmas.List.Elements.{All-push, All-nil, All-set, All-get_or, All-weaker, All-replicate}
 use Rattle.serde_json.specs.Data.{Data, Members}
 use Rattle.serde_json.specs.Find.{get_member}
+use Rattle.yp_base.specs.Json.{text_member}
 use Rattle.yp_base.specs.Types.{same_text, is_among, are_distinct}
 use Rattle.yp_schema.specs.declared.schema.SchemaNode.{SchemaNode}
-use Rattle.yp_schema.specs.Rounds.{Nodes, Fault, parts_in, ◌>>=◌}
-use Rattle.yp_schema.specs.Reading.{numbered, schema_of}
-use Rattle.yp_schema.specs.WellFormed.{IsSchema}
-use Rattle.yp_schema.proofs.Schemas.{parts_are_schema}
+use Rattle.yp_schema.specs.Reading.{schema_of}
 use Rattle.yp_edit.specs.Shapes.{patch_in}
 use Rattle.yp_journal.specs.declared.command.Command.{Command}
 use Rattle.yp_journal.specs.declared.command.Command.TheVariants as commands
@@ -35,13 +33,9 @@ use Rattle.yp_script.specs.Lines.{Line, pieces_of, lines_from}
 use Rattle.yp_script.specs.Readings.{Gives}
 use Rattle.yp_script.specs.Order.{may_stand, is_complete}
 use Rattle.yp_script.specs.Script.{Progress, no_progress, with_start, with_part, with_receiver, with_command, with_lanes, with_laned, with_join, script_with, schema_said, part_taken, taken, placed, said_in, at_line, script_from, script_of, IsReceiver, AreReceivers, MayRun}
-use Rattle.yp_script.specs.Words.{members_if, sole, text_at, where_true, whole_said}
+use Rattle.yp_script.specs.Words.{members_if, sole, where_true, whole_said}
 use Rattle.yp_script.proofs.Positions.{position_within, none_there}
-use Rattle.yp_script.proofs.SaidLaws.{map_is, some_is, then_is, if_is, ok_is, or_is, both_is, holding_is, where_is, itself_is, any_is, weaker_is, weaker_some, then_some, line_is, bound_is, whole_is}
-
-both_true : (a b : Bool) → (a && b) ≡ true → (a ≡ true) × (b ≡ true)
-both_true true b h = (refl, h)
-both_true false b h = absurd (true≢false (sym h))
+use Rattle.yp_script.proofs.SaidLaws.{both_true, map_is, some_is, then_is, if_is, ok_is, or_is, both_is, holding_is, where_is, itself_is, any_is, weaker_is, weaker_some, then_some, line_is, bound_is, whole_is}
 
 -- ---- receivers' names
 
@@ -51,10 +45,6 @@ number_within receivers name =
     weaker_some (number_of receivers name) (λ n. n < length (names_of receivers)) (λ n. n < length receivers) (position_within (same_text name) (names_of receivers))
     (λ n h. let same : length (names_of receivers) ≡ length receivers = length-map receivers (λ (r : ReceiverInfo). r.name) in omega arith)
 
-neither : (a b : Bool) → (a || b) ≡ false → (a ≡ false) × (b ≡ false)
-neither true b h = absurd (true≢false h)
-neither false b h = (refl, h)
-
 not_true : (b : Bool) → not b ≡ true → b ≡ false
 not_true true h = absurd (true≢false (sym h))
 not_true false h = refl
@@ -62,7 +52,7 @@ not_true false h = refl
 among_more : (text other : List ℕ) (names : List (List ℕ)) → is_among text names ≡ false → same_text text other ≡ false → is_among text (names ++ other ∷ []) ≡ false
 among_more text other [] among differs = ap (λ b. b || false) differs
 among_more text other (name ∷ names) among differs =
-    let parts = neither (same_text text name) (is_among text names) among in
+    let parts = or_parts (same_text text name) (is_among text names) among in
     ap (λ b. b || is_among text (names ++ other ∷ [])) parts.0 ∙ among_more text other names parts.1 differs
 
 -- names stay distinct where one is added that isn't there
@@ -70,7 +60,7 @@ distinct_more : (other : List ℕ) (names : List (List ℕ)) → are_distinct na
 distinct_more other [] are new = refl
 distinct_more other (name ∷ names) are new =
     let parts = both_true (not (is_among name names)) (are_distinct names) are in
-    let others = neither (same_text other name) (list_any (same_text other) names) new in
+    let others = or_parts (same_text other name) (list_any (same_text other) names) new in
     let differs : same_text name other ≡ false = nat_list_eq_equiv.symm name other ∙ others.0 in
     ap (λ b. not b && are_distinct (names ++ other ∷ [])) (among_more name other names (not_true (is_among name names) parts.0) differs)
     ∙ distinct_more other names parts.1 others.1
@@ -102,10 +92,10 @@ places_are receivers ms =
     (λ n bounds. (leb-true (length receivers + 1) 16 room, bounds.0, bounds.1)))
 
 name_is : (receivers : List ReceiverInfo) (ms : Members) → IfOk (name_said receivers ms) (λ name. is_new_name receivers name ≡ true)
-name_is receivers ms = or_is kinds.Member (where_true (is_new_name receivers) (text_at (codes "name") ms)) (λ name. is_new_name receivers name ≡ true) (where_is (is_new_name receivers) (text_at (codes "name") ms))
+name_is receivers ms = or_is kinds.Member (where_true (is_new_name receivers) (text_member (codes "name") ms)) (λ name. is_new_name receivers name ≡ true) (where_is (is_new_name receivers) (text_member (codes "name") ms))
 
 user_is : (ms : Members) → IfOk (user_said ms) (λ user. is_user_name user ≡ true)
-user_is ms = or_is kinds.Member (where_true is_user_name (text_at (codes "user") ms)) (λ user. is_user_name user ≡ true) (where_is is_user_name (text_at (codes "user") ms))
+user_is ms = or_is kinds.Member (where_true is_user_name (text_member (codes "user") ms)) (λ user. is_user_name user ≡ true) (where_is is_user_name (text_member (codes "user") ms))
 
 receiver_is : (receivers : List ReceiverInfo) (ms : Members) → IfOk (receiver_in receivers ms) (MayJoin receivers)
 receiver_is receivers ms =
@@ -159,10 +149,10 @@ patch_is receivers d =
 
 everything_is : (receivers : List ReceiverInfo) (ms : Members) → IfOk (everything_in receivers ms) (IsOf receivers)
 everything_is receivers ms =
-    if_is kinds.Member (is_of_everything ms) (said_map commands.Everything (said_or kinds.Member (option_and_then (number_of receivers) (text_at (codes "by") ms)))) (IsOf receivers) (λ whole.
-    map_is commands.Everything (said_or kinds.Member (option_and_then (number_of receivers) (text_at (codes "by") ms))) (λ n. n < length receivers) (IsOf receivers)
-    (or_is kinds.Member (option_and_then (number_of receivers) (text_at (codes "by") ms)) (λ n. n < length receivers)
-    (then_some (number_of receivers) (text_at (codes "by") ms) (λ n. n < length receivers) (number_within receivers)))
+    if_is kinds.Member (is_of_everything ms) (said_map commands.Everything (said_or kinds.Member (option_and_then (number_of receivers) (text_member (codes "by") ms)))) (IsOf receivers) (λ whole.
+    map_is commands.Everything (said_or kinds.Member (option_and_then (number_of receivers) (text_member (codes "by") ms))) (λ n. n < length receivers) (IsOf receivers)
+    (or_is kinds.Member (option_and_then (number_of receivers) (text_member (codes "by") ms)) (λ n. n < length receivers)
+    (then_some (number_of receivers) (text_member (codes "by") ms) (λ n. n < length receivers) (number_within receivers)))
     (λ n is. is))
 
 asked_is : (receivers : List ReceiverInfo) (asked : Asked) (d : Data) → IfOk (said_of_asked receivers asked d) (IsOf receivers)
@@ -185,7 +175,6 @@ laned_is receivers established count asked d =
 
 -- what a script keeps, and what it keeps so far
 pub record Keeps (script : Script) : Type 0 where
-  pub schema : IsSchema script.schema
   pub receivers : AreReceivers script.receivers
   pub before : All (IsOf script.receivers) script.before
   pub lanes : All (All (IsOf script.receivers)) script.lanes
@@ -194,29 +183,16 @@ pub record Keeps (script : Script) : Type 0 where
 abbrev Keep : Progress → Type 0
 Keep progress = Keeps progress.script
 
-schema_at : (r : Result Nodes Fault) (parts : List Data) (nodes : List SchemaNode) → parts_in 0 parts [] ≡ r → (r >>= λ made. Ok (numbered made)) ≡ Ok nodes → IsSchema nodes
-schema_at (Ok made) parts nodes read is = let same : numbered made ≡ nodes = cc in subst IsSchema same (parts_are_schema parts made read)
-schema_at (Err fault) parts nodes read is = absurd (cc)
-
-schema_is : (parts : List Data) (nodes : List SchemaNode) → schema_of parts ≡ Ok nodes → IsSchema nodes
-schema_is parts nodes is = schema_at (parts_in 0 parts []) parts nodes refl is
-
-schema_said_is : (r : Result (List SchemaNode) Fault) → IfOk (schema_said r) (λ nodes. r ≡ Ok nodes)
-schema_said_is (Ok nodes) = refl
-schema_said_is (Err fault) = tt
-
 keeps_part : (progress : Progress) (said : Said Data) → Keep progress → IfOk (part_taken progress said) Keep
 keeps_part progress (Ok part) keeps =
-    map_is (with_part progress part) (schema_said (schema_of (progress.parts ++ part ∷ []))) (λ nodes. schema_of (progress.parts ++ part ∷ []) ≡ Ok nodes) Keep
-    (schema_said_is (schema_of (progress.parts ++ part ∷ [])))
-    (λ nodes is. record { schema = schema_is (progress.parts ++ part ∷ []) nodes is; receivers = keeps.receivers; before = keeps.before; lanes = keeps.lanes; after = keeps.after })
+    map_is (with_part progress part) (schema_said (schema_of (progress.parts ++ part ∷ []))) (λ nodes. schema_said (schema_of (progress.parts ++ part ∷ [])) ≡ Ok nodes) Keep (any_is (schema_said (schema_of (progress.parts ++ part ∷ []))))
+    (λ nodes is. record { receivers = keeps.receivers; before = keeps.before; lanes = keeps.lanes; after = keeps.after })
 keeps_part progress (Err kind) keeps = tt
 
 keeps_receiver : (progress : Progress) (receiver : ReceiverInfo) → Keep progress → MayJoin progress.script.receivers receiver → Keep (with_receiver progress receiver)
 keeps_receiver progress receiver keeps may =
     let receivers = progress.script.receivers in
     record {
-      schema = keeps.schema;
       receivers = joined progress.script.receivers receiver keeps.receivers may;
       before = all_more progress.script.receivers receiver progress.script.before keeps.before;
       lanes = All-weaker (All (IsOf progress.script.receivers)) (All (IsOf (progress.script.receivers ++ receiver ∷ []))) (all_more progress.script.receivers receiver) progress.script.lanes keeps.lanes;
@@ -225,11 +201,11 @@ keeps_receiver progress receiver keeps may =
 
 keeps_before : (script : Script) (command : Command) → Keeps script → IsOf script.receivers command → Keeps (record script { before = script.before ++ command ∷ [] })
 keeps_before script command keeps is =
-    record { schema = keeps.schema; receivers = keeps.receivers; before = All-push (IsOf script.receivers) script.before command keeps.before is; lanes = keeps.lanes; after = keeps.after }
+    record { receivers = keeps.receivers; before = All-push (IsOf script.receivers) script.before command keeps.before is; lanes = keeps.lanes; after = keeps.after }
 
 keeps_after : (script : Script) (command : Command) → Keeps script → IsOf script.receivers command → Keeps (record script { after = script.after ++ command ∷ [] })
 keeps_after script command keeps is =
-    record { schema = keeps.schema; receivers = keeps.receivers; before = keeps.before; lanes = keeps.lanes; after = All-push (IsOf script.receivers) script.after command keeps.after is }
+    record { receivers = keeps.receivers; before = keeps.before; lanes = keeps.lanes; after = All-push (IsOf script.receivers) script.after command keeps.after is }
 
 keeps_command : (stage : Stage) (script : Script) (command : Command) → Keeps script → IsOf script.receivers command → Keeps (script_with stage script command)
 keeps_command Opening script command keeps is = keeps_before script command keeps is
@@ -252,7 +228,6 @@ keeps_laned asked progress laned keeps is =
     let lane : All (IsOf progress.script.receivers) (get_or progress.script.lanes (laned.lane - 1) [] ++ laned.command ∷ []) =
     All-push (IsOf progress.script.receivers) (get_or progress.script.lanes (laned.lane - 1) []) laned.command (lane_at (IsOf progress.script.receivers) progress.script.lanes (laned.lane - 1) keeps.lanes) is in
     record {
-      schema = keeps.schema;
       receivers = keeps.receivers;
       before = keeps.before;
       lanes = All-set (All (IsOf progress.script.receivers)) progress.script.lanes (laned.lane - 1) (get_or progress.script.lanes (laned.lane - 1) [] ++ laned.command ∷ []) lane keeps.lanes;
@@ -263,7 +238,7 @@ keeps_laned asked progress laned keeps is =
 keeps_taken : (progress : Progress) (d : Data) (form : Form) → Keep progress → IfOk (taken progress d form) Keep
 keeps_taken progress d forms.Start keeps =
     map_is (with_start progress) (start_said d) (λ start. start_said d ≡ Ok start) Keep (any_is (start_said d))
-    (λ start is. record { schema = keeps.schema; receivers = keeps.receivers; before = keeps.before; lanes = keeps.lanes; after = keeps.after })
+    (λ start is. record { receivers = keeps.receivers; before = keeps.before; lanes = keeps.lanes; after = keeps.after })
 keeps_taken progress d forms.Schema keeps = keeps_part progress (part_said d) keeps
 keeps_taken progress d forms.Receiver keeps =
     map_is (with_receiver progress) (receiver_said progress.script.receivers d) (MayJoin progress.script.receivers) Keep (receiver_may progress.script.receivers d)
@@ -274,7 +249,6 @@ keeps_taken progress d (forms.Command asked) keeps =
 keeps_taken progress d forms.Lanes keeps =
     map_is (with_lanes progress) (lanes_said d) (λ count. lanes_said d ≡ Ok count) Keep (any_is (lanes_said d))
     (λ count is. record {
-      schema = keeps.schema;
       receivers = keeps.receivers;
       before = keeps.before;
       lanes = All-replicate (All (IsOf progress.script.receivers)) count [] (All-nil (IsOf progress.script.receivers));
@@ -285,7 +259,7 @@ keeps_taken progress d (forms.Lane asked) keeps =
     (laned_is progress.script.receivers progress.established (length progress.script.lanes) asked d) (λ laned is. keeps_laned asked progress laned keeps is)
 keeps_taken progress d forms.Join keeps =
     holding_is kinds.Member (is_join d) (Ok (with_join progress)) Keep
-    (λ yes. record { schema = keeps.schema; receivers = keeps.receivers; before = keeps.before; lanes = keeps.lanes; after = keeps.after })
+    (λ yes. record { receivers = keeps.receivers; before = keeps.before; lanes = keeps.lanes; after = keeps.after })
 
 keeps_placed : (progress : Progress) (d : Data) (form : Option Form) → Keep progress → IfOk (placed progress d form) Keep
 keeps_placed progress d None keeps = tt
@@ -308,7 +282,6 @@ no_receivers = record { few = omega arith; distinct = refl; each = All-nil IsRec
 pub script_keeps : (end : ℕ) (lines : List Line) → IfOk (script_from end no_progress lines) Keeps
 script_keeps end lines =
     keeps_lines end no_progress lines (record {
-      schema = schema_is [] [] refl;
       receivers = no_receivers;
       before = All-nil (IsOf []);
       lanes = All-nil (All (IsOf []));
@@ -334,10 +307,6 @@ may_run script keeps few = record {
 pub read_keeps : (r : Result Script ScriptFault) (text : List ℕ) → Gives r (script_of text) → IfOk r Keeps
 read_keeps (Ok script) text is = subst (λ (read : Result Script ScriptFault). IfOk read Keeps) is (script_keeps (length (pieces_of text) + 1) (lines_from 0 0 (pieces_of text)))
 read_keeps (Err fault) text is = tt
-
-pub read_schema : (r : Result Script ScriptFault) → IfOk r Keeps → IfOk r (λ script. IsSchema script.schema)
-read_schema (Ok script) keeps = keeps.schema
-read_schema (Err fault) keeps = tt
 
 pub read_receivers : (r : Result Script ScriptFault) → IfOk r Keeps → IfOk r (λ script. AreReceivers script.receivers)
 read_receivers (Ok script) keeps = keeps.receivers

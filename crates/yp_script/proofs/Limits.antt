@@ -9,8 +9,10 @@ use Rattle.yp_script.specs.declared.fault.ScriptFault.{ScriptFault}
 use Rattle.yp_script.specs.declared.script.Script.{Script}
 use Rattle.yp_script.specs.Faults.{Said, holding}
 use Rattle.yp_script.specs.Forms.{form_of}
-use Rattle.yp_script.specs.Lines.{Line, onto, pieces_of, without_feed, is_blank, is_in_script, json_in, lines_from}
+use Rattle.yp_base.specs.Cuts.{onto_first}
+use Rattle.yp_script.specs.Lines.{Line, pieces_of, without_feed, is_blank, is_in_script, json_in, lines_from}
 use Rattle.yp_script.specs.Order.{is_complete}
+use Rattle.yp_script.proofs.SaidLaws.{both_true}
 use Rattle.yp_script.specs.Script.{Progress, no_progress, placed, said_in, at_line, script_from, script_of, script_in}
 
 -- ---- each line of a script has its JSON
@@ -53,11 +55,11 @@ abbrev total : List (List ℕ) → ℕ
 total [] = 0
 total (piece ∷ pieces) = length piece + total pieces
 
-total_onto : (b : ℕ) (pieces : List (List ℕ)) → total (onto b pieces) ≡ total pieces + 1
+total_onto : (b : ℕ) (pieces : List (List ℕ)) → total (onto_first b pieces) ≡ total pieces + 1
 total_onto b [] = refl
 total_onto b (piece ∷ pieces) = omega arith
 
-total_cut : (c : Bool) (b : ℕ) (pieces : List (List ℕ)) → total (cond c ((10 ∷ []) ∷ pieces) (onto b pieces)) ≡ total pieces + 1
+total_cut : (c : Bool) (b : ℕ) (pieces : List (List ℕ)) → total (cond c ((10 ∷ []) ∷ pieces) (onto_first b pieces)) ≡ total pieces + 1
 total_cut true b pieces = omega arith
 total_cut false b pieces = total_onto b pieces
 
@@ -65,13 +67,8 @@ total_pieces : (text : List ℕ) → total (pieces_of text) ≡ length text
 total_pieces [] = refl
 total_pieces (b ∷ text) = total_cut (b == 10) b (pieces_of text) ∙ omega (arith, total_pieces text)
 
-both : (a b : Bool) → (a && b) ≡ true → (a ≡ true) × (b ≡ true)
-both true true h = (refl, refl)
-both true false h = absurd (true≢false (sym h))
-both false b h = absurd (true≢false (sym h))
-
 within_at : (a : Bool) (number end : ℕ) → is_in_script number end ≡ a → a ≡ true → end ≤ 67108864
-within_at true number end is h = grind (arith, (both (nat_le number 100000) (nat_le end 67108864) is).1)
+within_at true number end is h = grind (arith, (both_true (nat_le number 100000) (nat_le end 67108864) is).1)
 within_at false number end is h = absurd (true≢false (sym h))
 
 -- a line that has its JSON lies within them

@@ -2,23 +2,24 @@
 use Rattle.std.proofs.Common.{◌≡◌, ◌≢◌, ℕ, zero, suc, ◌+◌, ◌-◌, ◌<◌, ◌≤◌, min, cond, List, [], ◌∷◌, length, take, drop, get_or, refl, sym, ap, ◌∙◌, arith, inl, inr, length-drop}
 use Rattle.std.proofs.lemmas.Bool.{ne_eqb, eq-eqb, cases_lt}
 use Rattle.std.proofs.lemmas.List.{drop_all, take_all}
-use Rattle.yp_script.specs.Lines.{onto, pieces_of, without_feed}
+use Rattle.yp_base.specs.Cuts.{onto_first}
+use Rattle.yp_script.specs.Lines.{pieces_of, without_feed}
 
 -- the first piece ends behind the first line feed
 pub first_piece : (bytes : List ℕ) (n : ℕ) → n < length bytes → ((k : ℕ) → k < n → get_or bytes k 0 ≢ 10) → get_or bytes n 0 ≡ 10 → pieces_of bytes ≡ take (suc n) bytes ∷ pieces_of (drop (suc n) bytes)
 first_piece [] n within none found = absurd (omega arith)
-first_piece (b ∷ bytes) zero within none found = ap (λ t. cond t ((10 ∷ []) ∷ pieces_of bytes) (onto b (pieces_of bytes))) (eq-eqb b 10 found) ∙ ap (λ x. (x ∷ []) ∷ pieces_of bytes) (sym found)
+first_piece (b ∷ bytes) zero within none found = ap (λ t. cond t ((10 ∷ []) ∷ pieces_of bytes) (onto_first b (pieces_of bytes))) (eq-eqb b 10 found) ∙ ap (λ x. (x ∷ []) ∷ pieces_of bytes) (sym found)
 first_piece (b ∷ bytes) (suc n) within none found =
-    ap (λ t. cond t ((10 ∷ []) ∷ pieces_of bytes) (onto b (pieces_of bytes))) (ne_eqb b 10 (none 0 (omega arith)))
-    ∙ ap (onto b) (first_piece bytes n (omega arith) (λ k h. none (suc k) (omega arith)) found)
+    ap (λ t. cond t ((10 ∷ []) ∷ pieces_of bytes) (onto_first b (pieces_of bytes))) (ne_eqb b 10 (none 0 (omega arith)))
+    ∙ ap (onto_first b) (first_piece bytes n (omega arith) (λ k h. none (suc k) (omega arith)) found)
 
 -- a text without a line feed is one piece
 pub only_piece : (bytes : List ℕ) → 0 < length bytes → ((k : ℕ) → k < length bytes → get_or bytes k 0 ≢ 10) → pieces_of bytes ≡ bytes ∷ []
 only_piece [] some none = absurd (omega arith)
-only_piece (b ∷ []) some none = ap (λ t. cond t ((10 ∷ []) ∷ []) (onto b [])) (ne_eqb b 10 (none 0 (omega arith)))
+only_piece (b ∷ []) some none = ap (λ t. cond t ((10 ∷ []) ∷ []) (onto_first b [])) (ne_eqb b 10 (none 0 (omega arith)))
 only_piece (b ∷ c ∷ bytes) some none =
-    ap (λ t. cond t ((10 ∷ []) ∷ pieces_of (c ∷ bytes)) (onto b (pieces_of (c ∷ bytes)))) (ne_eqb b 10 (none 0 (omega arith)))
-    ∙ ap (onto b) (only_piece (c ∷ bytes) (omega arith) (λ k h. none (suc k) (omega arith)))
+    ap (λ t. cond t ((10 ∷ []) ∷ pieces_of (c ∷ bytes)) (onto_first b (pieces_of (c ∷ bytes)))) (ne_eqb b 10 (none 0 (omega arith)))
+    ∙ ap (onto_first b) (only_piece (c ∷ bytes) (omega arith) (λ k h. none (suc k) (omega arith)))
 
 -- what stands before the first line feed is the line
 pub line_of_piece : (bytes : List ℕ) (n : ℕ) → n < length bytes → ((k : ℕ) → k < n → get_or bytes k 0 ≢ 10) → get_or bytes n 0 ≡ 10 → without_feed (take (suc n) bytes) ≡ take n bytes

@@ -1,5 +1,5 @@
 -- What holds of all that a part of a line can say.
-use Rattle.std.proofs.Common.{◌≡◌, ℕ, ◌≤◌, Bool, true, false, ◌&&◌, Option, Some, None, Result, Ok, Err, refl, subst, nat_le, IfSome, IfOk, option_and_then, if◌then◌else◌}
+use Rattle.std.proofs.Common.{◌≡◌, ℕ, ◌≤◌, Bool, true, false, true≢false, ◌&&◌, Option, Some, None, Result, Ok, Err, refl, sym, subst, nat_le, IfSome, IfOk, option_and_then, if◌then◌else◌}
 use Rattle.std.proofs.lemmas.Bool.{leb-true}
 use Rattle.serde_json.specs.Data.{unsigned, negative, float, Data, null, boolean, number, string, array, object}
 use Rattle.yp_script.specs.declared.fault.ScriptKind.{ScriptKind}
@@ -10,6 +10,11 @@ use Rattle.yp_script.specs.Forms.{said_of_some}
 use Rattle.yp_script.specs.Script.{at_line}
 use Rattle.yp_script.specs.Words.{where_true, whole_said}
 use Rattle.yp_schema.specs.Rounds.{◌>>=◌}
+
+-- both of two tests hold
+pub both_true : (a b : Bool) → (a && b) ≡ true → (a ≡ true) × (b ≡ true)
+both_true true b h = (refl, h)
+both_true false b h = absurd (true≢false (sym h))
 
 pub map_is : {X Y : Type 0} (f : X → Y) (said : Said X) (P : X → Type 0) (Q : Y → Type 0) → IfOk said P → ((x : X) → P x → Q (f x)) → IfOk (said_map f said) Q
 map_is f (Ok x) P Q is each = each x is

@@ -3,6 +3,7 @@ use Rattle.std.specs.Prelude.{ℕ, ◌+◌, ◌==◌, ◌&&◌, ◌||◌, List, 
 use Rattle.serde_json.specs.Data.{Data, null, boolean, number, string, array, object, Members}
 use Rattle.serde_json.specs.Find.{get_member, as_object}
 use Rattle.serde_json.specs.Events.{members_len}
+use Rattle.yp_base.specs.Json.{text_member}
 use Rattle.yp_base.specs.Types.{same_text}
 use Rattle.yp_edit.specs.Shapes.{patch_in}
 use Rattle.yp_journal.specs.declared.command.Command.{Command}
@@ -17,7 +18,7 @@ use Rattle.yp_script.specs.declared.form.Asked.TheVariants as ask
 use Rattle.yp_script.specs.declared.form.Form.{Form}
 use Rattle.yp_script.specs.declared.form.Form.TheVariants as forms
 use Rattle.yp_script.specs.Faults.{Said, said_or, said_map, said_then, both, holding}
-use Rattle.yp_script.specs.Words.{members_if, sole, is_sole, text_at, where_true, says, has, whole_said, is_bare, is_laden, is_yes}
+use Rattle.yp_script.specs.Words.{members_if, sole, is_sole, where_true, says, has, whole_said, is_bare, is_laden, is_yes}
 
 -- ---- which form a line has
 
@@ -43,7 +44,7 @@ is_other_store (Some text) = not (same_text text (codes "ietf-datastores:operati
 abbrev pub asks_more : Members → Bool
 asks_more ms =
     has (codes "encoding") ms || has (codes "datastore-subtree-filter") ms || has (codes "datastore-xpath-filter") ms || has (codes "periodic") ms
-    || is_other_store (text_at (codes "datastore") ms) || is_laden (get_member (codes "on-change") ms)
+    || is_other_store (text_member (codes "datastore") ms) || is_laden (get_member (codes "on-change") ms)
 
 -- which command JSON asks for
 abbrev pub asked_of : Data → Option Asked
@@ -144,10 +145,10 @@ abbrev pub has_receiver_form : Members → Bool
 has_receiver_form ms = members_len ms == 4 && says (codes "take") (codes "auto") ms
 
 abbrev pub name_said : List ReceiverInfo → Members → Said (List ℕ)
-name_said receivers ms = said_or kinds.Member (where_true (is_new_name receivers) (text_at (codes "name") ms))
+name_said receivers ms = said_or kinds.Member (where_true (is_new_name receivers) (text_member (codes "name") ms))
 
 abbrev pub user_said : Members → Said (List ℕ)
-user_said ms = said_or kinds.Member (where_true is_user_name (text_at (codes "user") ms))
+user_said ms = said_or kinds.Member (where_true is_user_name (text_member (codes "user") ms))
 
 -- how many packets the queue of one receiver more, of 16 at most, holds
 abbrev pub places_said : List ReceiverInfo → Members → Said ℕ
@@ -183,7 +184,7 @@ is_of_everything ms = members_len ms == 3 && says (codes "datastore") (codes "ie
 
 abbrev pub everything_in : List ReceiverInfo → Members → Said Command
 everything_in receivers ms =
-    if is_of_everything ms then said_map commands.Everything (said_or kinds.Member (option_and_then (number_of receivers) (text_at (codes "by") ms))) else Err kinds.Member
+    if is_of_everything ms then said_map commands.Everything (said_or kinds.Member (option_and_then (number_of receivers) (text_member (codes "by") ms))) else Err kinds.Member
 
 abbrev pub everything_said : List ReceiverInfo → Data → Said Command
 everything_said receivers d = said_then (everything_in receivers) (object_said (codes "establish") d)

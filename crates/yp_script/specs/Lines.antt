@@ -3,18 +3,13 @@ use Rattle.std.specs.Prelude.{ℕ, ◌+◌, ◌==◌, ◌&&◌, ◌||◌, List, 
 use Rattle.std.specs.Str.Lossy.{utf8_valid_len}
 use Rattle.serde_json.specs.Data.{Data}
 use Rattle.serde_json.specs.Read.{read as read_text}
+use Rattle.yp_base.specs.Cuts.{cut_after}
 use Rattle.yp_script.specs.declared.fault.ScriptKind.TheVariants.{TooLong, NotJson, Limit}
 use Rattle.yp_script.specs.Faults.{Said, said_or}
 
--- a byte at the front of the first piece
-abbrev pub onto : ℕ → List (List ℕ) → List (List ℕ)
-onto b [] = (b ∷ []) ∷ []
-onto b (piece ∷ pieces) = (b ∷ piece) ∷ pieces
-
--- a text cut behind each line feed; the last piece may lack one
+-- a text cut after each line feed; the last piece may lack one
 abbrev pub pieces_of : List ℕ → List (List ℕ)
-pieces_of [] = []
-pieces_of (b ∷ bytes) = if b == 10 then (10 ∷ []) ∷ pieces_of bytes else onto b (pieces_of bytes)
+pieces_of text = cut_after 10 text
 
 -- a line without its line feed
 abbrev pub without_feed : List ℕ → List ℕ

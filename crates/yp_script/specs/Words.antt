@@ -1,8 +1,9 @@
 -- Words for the JSON of a script's lines (RFC 8259), each with its fault.
 use Rattle.std.specs.Prelude.{ℕ, ◌==◌, ◌&&◌, List, Bool, true, false, Option, Some, None, is_some, option_and_then, Ok, Err, if◌then◌else◌, nat_le}
 use Rattle.serde_json.specs.Data.{unsigned, negative, float, Data, null, boolean, number, string, array, object, Members, no_members, member}
-use Rattle.serde_json.specs.Find.{get_member, as_str}
+use Rattle.serde_json.specs.Find.{get_member}
 use Rattle.serde_json.specs.Events.{members_len}
+use Rattle.yp_base.specs.Json.{text_member}
 use Rattle.yp_base.specs.Types.{same_text}
 use Rattle.yp_script.specs.declared.fault.ScriptKind.TheVariants.{Member, Limit}
 use Rattle.yp_script.specs.Faults.{Said}
@@ -24,17 +25,13 @@ sole name d = option_and_then (get_member name) (members_if 1 d)
 abbrev pub is_sole : List ℕ → Data → Bool
 is_sole name d = is_some (sole name d)
 
--- a member that is a text
-abbrev pub text_at : List ℕ → Members → Option (List ℕ)
-text_at name ms = option_and_then as_str (get_member name ms)
-
 abbrev pub is_text : Option (List ℕ) → List ℕ → Bool
 is_text None word = false
 is_text (Some text) word = same_text text word
 
 -- whether a member is this text
 abbrev pub says : List ℕ → List ℕ → Members → Bool
-says name word ms = is_text (text_at name ms) word
+says name word ms = is_text (text_member name ms) word
 
 -- what passes a test
 abbrev pub where_true : {X : Type 0} → (X → Bool) → Option X → Option X

@@ -1,8 +1,9 @@
 //! The forms of a script's lines.
 ghost use Rattle.std.specs.Prelude.{◌≡◌, option_map, codes};
 ghost use Rattle.serde_json.specs.View.{view, members_view};
+ghost use Rattle.yp_base.specs.Json.{text_member};
 ghost use Rattle.yp_script.specs.Forms.{waits, is_other_store, is_without, asks_more, asked_of, done_in_lane, form_of};
-ghost use Rattle.yp_script.specs.Words.{text_at, sole};
+ghost use Rattle.yp_script.specs.Words.{sole};
 
 use crate::members::{
     has, has_text, is_laden_object, is_sole, member_in, members_of, only, text_in,
@@ -41,7 +42,7 @@ pub enum Form {
 
 /// Whether a member names a datastore other than the operational one.
 fn has_other_store(members: &Map<String, Json>) -> bool
-    ensures { result ≡ is_other_store (text_at (codes "datastore") (members_view members.now.entries)) }
+    ensures { result ≡ is_other_store (text_member (codes "datastore") (members_view members.now.entries)) }
 {
     match text_in(members, "datastore") {
         Some(text) => text != "ietf-datastores:operational",

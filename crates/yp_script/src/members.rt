@@ -3,9 +3,10 @@ ghost use Rattle.std.specs.Prelude.{◌≡◌, ◌≤◌, option_map, is_some, I
 ghost use Rattle.serde_json.specs.View.{view, members_view};
 ghost use Rattle.serde_json.specs.Find.{get_member};
 ghost use Rattle.serde_json.specs.Events.{members_len};
+ghost use Rattle.yp_base.specs.Json.{text_member};
 ghost use Rattle.yp_script.specs.Faults.{said_map};
 ghost use Rattle.yp_script.specs.Forms.{object_said};
-ghost use Rattle.yp_script.specs.Words.{members_if, sole, is_sole, text_at, says, has, whole_said, is_bare, is_laden};
+ghost use Rattle.yp_script.specs.Words.{members_if, sole, is_sole, says, has, whole_said, is_bare, is_laden};
 
 use crate::fault::ScriptKind;
 use serde_json::{Map, Value as Json};
@@ -74,7 +75,7 @@ pub fn is_sole(json: &Json, name: &str) -> bool
 
 /// A member that is a text.
 pub fn text_in<'a>(members: &'a Map<String, Json>, name: &str) -> Option<&'a str>
-    ensures { option_map (λ text. text.now) result ≡ text_at name.now (members_view members.now.entries) }
+    ensures { option_map (λ text. text.now) result ≡ text_member name.now (members_view members.now.entries) }
 {
     match member_in(members, name) {
         Some(json) => json.as_str(),

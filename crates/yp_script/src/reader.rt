@@ -51,6 +51,7 @@ pub struct Reader {
 impl Reader {
     ghost use Rattle.std.specs.Prelude.{◌≡◌, ◌≤◌, ℕ, List, [], ◌∷◌, ◌++◌, length, map, true, false, Some, Ok, Err, IfOk, OnOk};
     ghost use Rattle.serde_json.specs.View.{view};
+    ghost use Rattle.yp_schema.specs.WellFormed.{IsSchema};
     ghost use Rattle.yp_schema.specs.declared.schema.SchemaNode.{SchemaNode};
     ghost use Rattle.yp_time.specs.Instants.{IsStart};
     ghost use Rattle.yp_script.specs.Commands.{HasFewEdits, HasFew};
@@ -417,6 +418,7 @@ impl Reader {
         ensures read { Gives result (at_line end (Ok (progress_of self).script)) }
         ensures few { IfOk result HasFew }
         ensures start { IfOk result (λ script. IsStart script.start) }
+        ensures schema { IfOk result (λ script. IsSchema script.schema) }
     {
         let Reader {
             start,
@@ -427,6 +429,7 @@ impl Reader {
             after,
             ..
         } = self;
+        schema.stands();
         match start {
             Some(start) => Ok(Script {
                 start,
@@ -448,6 +451,7 @@ impl Reader {
         ensures read { Gives result (script_left end self []) }
         ensures few { IfOk result HasFew }
         ensures start { IfOk result (λ script. IsStart script.start) }
+        ensures schema { IfOk result (λ script. IsSchema script.schema) }
     {
         self.settle(alloc)?;
         if is_complete(self.stage) {

@@ -19,6 +19,7 @@ fn read_text(alloc: Global, text: &[u8]) -> Result<Script, ScriptFault>
     ensures read { Gives result (script_of text.now) }
     ensures few { IfOk result HasFew }
     ensures start { IfOk result (λ script. IsStart script.start) }
+    ensures schema { IfOk result (λ script. IsSchema script.schema) }
 {
     let mut lines = Lines::of_text(text);
     let mut reader = Reader::new(alloc)?;

@@ -1,9 +1,10 @@
 //! Receiver lines.
 ghost use Rattle.std.specs.Prelude.{◌≡◌, ◌<◌, ◌≤◌, None, IfOk, OnOk, IfSome, length, option_map, codes};
 ghost use Rattle.serde_json.specs.View.{view, members_view};
+ghost use Rattle.yp_base.specs.Json.{text_member};
 ghost use Rattle.yp_script.specs.Forms.{is_receiver_name, is_user_name, is_new_name, number_of, places_said, receiver_in, receiver_said};
 ghost use Rattle.yp_script.specs.Readings.{Tells};
-ghost use Rattle.yp_script.specs.Words.{text_at, where_true};
+ghost use Rattle.yp_script.specs.Words.{where_true};
 
 use crate::fault::ScriptKind;
 use crate::members::{count, has_text, member_in, object_by, text_in, whole};
@@ -36,7 +37,7 @@ fn is_name(text: &str) -> bool
 /// A member that is the name of a receiver that isn't declared yet.
 fn new_name<'a>(receivers: &Receivers, members: &'a Map<String, Json>) -> Option<&'a str>
     ensures new { IfSome result (λ text. number_of receivers.now text.now ≡ None) }
-    ensures read { option_map (λ text. text.now) result ≡ where_true (is_new_name receivers.now) (text_at (codes "name") (members_view members.now.entries)) }
+    ensures read { option_map (λ text. text.now) result ≡ where_true (is_new_name receivers.now) (text_member (codes "name") (members_view members.now.entries)) }
 {
     match text_in(members, "name") {
         Some(text) => {
@@ -52,7 +53,7 @@ fn new_name<'a>(receivers: &Receivers, members: &'a Map<String, Json>) -> Option
 
 /// A member that is the name of a user.
 fn user_name(members: &Map<String, Json>) -> Option<&str>
-    ensures { option_map (λ text. text.now) result ≡ where_true is_user_name (text_at (codes "user") (members_view members.now.entries)) }
+    ensures { option_map (λ text. text.now) result ≡ where_true is_user_name (text_member (codes "user") (members_view members.now.entries)) }
 {
     match text_in(members, "user") {
         Some(text) => {

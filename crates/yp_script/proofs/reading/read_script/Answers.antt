@@ -3,16 +3,13 @@ use Rattle.yp_script.specs.Readings.{Gives}
 use Rattle.yp_script.specs.Lines.{lines_from, pieces_of}
 use Rattle.yp_script.specs.Script.{AreInOrder, script_of}
 use Rattle.yp_script.proofs.Counting.{read_count}
-use Rattle.yp_script.proofs.Keeping.{read_keeps, read_schema, read_receivers, read_commands, take_least}
+use Rattle.yp_script.proofs.Keeping.{read_keeps, read_receivers, read_commands, take_least}
 use Rattle.yp_script.proofs.OrderLaws.{read_in_order}
 use Rattle.yp_script.proofs.reading.read_script.Goals as goal
 
 pub returns-clause-read : goal.returns-clause-read
 returns-clause-read c =
     subst (λ (text : List ℕ). Gives c.read_text.result (script_of text)) (c.split_at.ensures.front ∙ take_least c.args.bytes.now 67108865 c.min.result c.min.ensures) c.read_text.ensures.read
-
-pub returns-clause-schema : goal.returns-clause-schema
-returns-clause-schema c = read_schema c.read_text.result (read_keeps c.read_text.result c.split_at.result.0.now c.read_text.ensures.read)
 
 pub returns-clause-order : goal.returns-clause-order
 returns-clause-order c =
