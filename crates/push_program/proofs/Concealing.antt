@@ -7,11 +7,11 @@ use Rattle.yp_schema.specs.declared.schema.SchemaNode.{SchemaNode}
 use Rattle.yp_journal.specs.declared.entry.Entry.{Entry}
 use Rattle.yp_journal.specs.declared.subscription.Subscription.{Subscription}
 use Rattle.yp_journal.specs.History.{JournalState, first_state, next_state}
-use Rattle.yp_script.specs.declared.script.Script.{Script}
+use Rattle.yp_journal.specs.declared.receiver.ReceiverInfo.{ReceiverInfo}
+use Rattle.push_program.specs.Access.{visible_rows}
 use Rattle.push_program.specs.Concealed.{IsReadableChange, NamesReadable, Conceals}
-use Rattle.push_program.specs.Notices.{Made, selection, is_given, change_update, updates_of, made_of, made_for, made_at, made_from}
-use Rattle.push_program.specs.Records.{change_record}
-use Rattle.push_program.specs.Turns.{journal_of}
+use Rattle.push_program.specs.Notices.{Made, is_given, change_update, updates_of, made_of, made_for, made_at, made_from, made_by}
+use Rattle.yp_edit.specs.Records.{change_record}
 use Rattle.push_program.proofs.RecordLaws.{record_conceals}
 use Rattle.push_program.proofs.Selections.{selected_readable}
 
@@ -23,8 +23,8 @@ change_conceals nodes id n state [] all = tt
 change_conceals nodes id n state (change ∷ changes) all = (all, tt)
 
 updates_conceal : (given : Bool) (nodes : List SchemaNode) (before after : JournalState) (id : ℕ)
-    → Conceal nodes (made_of after (cond given (change_update id after.position (change_record (selection nodes before.rows) (selection nodes after.rows))) (notices.Full id (selection nodes after.rows) ∷ [])))
-updates_conceal true nodes before after id = change_conceals nodes id after.position after (change_record (selection nodes before.rows) (selection nodes after.rows)) (record_conceals nodes before.rows after.rows)
+    → Conceal nodes (made_of after (cond given (change_update id after.position (change_record (visible_rows nodes before.rows) (visible_rows nodes after.rows))) (notices.Full id (visible_rows nodes after.rows) ∷ [])))
+updates_conceal true nodes before after id = change_conceals nodes id after.position after (change_record (visible_rows nodes before.rows) (visible_rows nodes after.rows)) (record_conceals nodes before.rows after.rows)
 updates_conceal false nodes before after id = (selected_readable nodes after.rows, tt)
 
 joined : (nodes : List SchemaNode) (made more : List Made) → Conceal nodes made → Conceal nodes more → Conceal nodes (made ++ more)
@@ -48,5 +48,5 @@ all_conceal nodes receiver state (entry ∷ entries) =
     joined nodes (made_at nodes receiver state (next_state nodes state entry.command)) (made_from nodes receiver (next_state nodes state entry.command) entries)
     (step_conceals nodes receiver state (next_state nodes state entry.command) (next_state nodes state entry.command).subscriptions) (all_conceal nodes receiver (next_state nodes state entry.command) entries)
 
-pub conceals : (script : Script) → Conceals script
-conceals script receiver = all_conceal script.schema receiver (first_state script.receivers) (journal_of script)
+pub conceals : (nodes : List SchemaNode) (receivers : List ReceiverInfo) (entries : List Entry) (receiver : ℕ) → Conceals nodes (made_by nodes receivers entries receiver)
+conceals nodes receivers entries receiver = all_conceal nodes receiver (first_state receivers) entries

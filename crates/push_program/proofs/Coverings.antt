@@ -10,7 +10,7 @@ use Rattle.yp_data_json.proofs.AtPlace.{front_rest}
 use Rattle.yp_data_json.proofs.Growing.{within_more, within_self}
 use Rattle.yp_edit.specs.Bases.{is_listed}
 use Rattle.yp_edit.proofs.Alike.{are_one, ties_itself}
-use Rattle.push_program.specs.Records.{is_above, roots_of}
+use Rattle.yp_base.specs.Paths.{is_above, topmost as roots_of}
 
 -- whether a path is at or below one of these
 abbrev pub has_root : List Seg → List (List Seg) → Bool

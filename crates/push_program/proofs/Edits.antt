@@ -10,9 +10,8 @@ use Rattle.yp_schema.specs.Datastore.{is_path_of, IsRowOf, IsDatastore}
 use Rattle.yp_edit.specs.declared.changed.ChangedRow.{ChangedRow}
 use Rattle.yp_edit.specs.Changes.{changed_rows}
 use Rattle.yp_encode.specs.Sendable.{IsSendableChange}
-use Rattle.push_program.specs.Access.{is_readable}
-use Rattle.push_program.specs.Notices.{selection}
-use Rattle.push_program.specs.Records.{change_record}
+use Rattle.push_program.specs.Access.{is_readable, visible_rows}
+use Rattle.yp_edit.specs.Records.{change_record}
 use Rattle.push_program.specs.Roots.{edit_of}
 use Rattle.push_program.proofs.Recorded.{topmost, recorded}
 use Rattle.push_program.proofs.Selected.{IsBetween, all_between, changed_paths_keep}
@@ -45,7 +44,7 @@ edits_from nodes selected root rows = map (edit_of selected) (topmost (is_readab
 -- edits made so far, where a root was found last and these rows of all changed ones are left
 pub record Makes (nodes : List SchemaNode) (rows : List Row) (changed left : List ChangedRow) (root : Option (List Seg)) (made : List Change) : Type 0 where
   pub changes : AllByRecursion (IsChangeTo nodes rows) left
-  pub edits : made ++ edits_from nodes (selection nodes rows) root left ≡ edits_from nodes (selection nodes rows) None changed
+  pub edits : made ++ edits_from nodes (visible_rows nodes rows) root left ≡ edits_from nodes (visible_rows nodes rows) None changed
   pub sendable : AllByRecursion (IsSendableChange nodes) made
 
 module _ (nodes : List SchemaNode) (rows : List Row) (changed : List ChangedRow) where
@@ -55,10 +54,10 @@ module _ (nodes : List SchemaNode) (rows : List Row) (changed : List ChangedRow)
 
   -- the edits of all changed rows are the record
   pub all_made : (before : List Row) (left : List ChangedRow) (root : Option (List Seg)) (made : List Change) → Makes nodes rows changed left root made → left ≡ [] → IsDatastore nodes before → changed ≡ changed_rows before rows
-      → made ≡ change_record (selection nodes before) (selection nodes rows)
+      → made ≡ change_record (visible_rows nodes before) (visible_rows nodes rows)
   all_made before left root made so_far none old are =
       sym (append-nil made)
-      ∙ ap (λ left. made ++ edits_from nodes (selection nodes rows) root left) (sym none)
+      ∙ ap (λ left. made ++ edits_from nodes (visible_rows nodes rows) root left) (sym none)
       ∙ so_far.edits
-      ∙ ap (edits_from nodes (selection nodes rows) None) are
+      ∙ ap (edits_from nodes (visible_rows nodes rows) None) are
       ∙ recorded (is_readable nodes) before rows old.in_order

@@ -37,7 +37,7 @@ replies_on script turn left before after goes more =
 
 desks_on : (script : Script) (turn : Turn) (left : List Turn) (before after : Progress) → Goes script (turn ∷ left) before → Advances script turn before after
     → map (λ (desk : Sending). with_lines script.schema script.start (made_from script.schema desk.number after.state (entries_from script.schema after.state left)) desk) after.desks.items
-    ≡ desks_for script.schema script.start (made_by script) 0 script.receivers
+    ≡ desks_for script.schema script.start (made_by script.schema script.receivers (journal_of script)) 0 script.receivers
 desks_on script turn left before after goes more =
     let next = next_state script.schema before.state turn.command in
     let here : Sending → Sending = λ desk. with_lines script.schema script.start (made_at script.schema desk.number before.state after.state) desk in
@@ -68,7 +68,7 @@ goes_first script run state replies desks = record {
   replies = λ i. replies i ++ reply_lines (state i).position (entries_from script.schema (state i) (turns_in script));
   desks =
       (λ i. map (λ (desk : Sending). with_lines script.schema script.start (made_from script.schema desk.number (state i) (entries_from script.schema (state i) (turns_in script))) desk) (desks i))
-      ∙ desks_first script.schema script.start (made_by script) 0 script.receivers;
+      ∙ desks_first script.schema script.start (made_by script.schema script.receivers (journal_of script)) 0 script.receivers;
 }
 
 pub ready_first : (script : Script) (run : Progress) → Fits script.schema (first_state script.receivers) → run.state ≡ first_state script.receivers → run.mirrors.items ≡ [] → Ready script run

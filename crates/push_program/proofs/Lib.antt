@@ -4,9 +4,11 @@ pub mod Edited
 pub mod Edits
 pub mod Ends
 pub mod Goes
+pub mod Journals
 pub mod Mirror
 pub mod Own
 pub mod Picks
+pub mod Promises
 pub mod RecordLaws
 pub mod Recorded
 pub mod Replies
@@ -21,3 +23,4 @@ pub mod Topmost
 pub mod Trees
 pub mod TurnLaws
 pub mod Turns
+pub mod Updated

@@ -13,20 +13,19 @@ use Rattle.yp_journal.specs.declared.receiver.ReceiverInfo.{ReceiverInfo}
 use Rattle.yp_journal.specs.declared.subscription.Subscription.{Subscription}
 use Rattle.yp_journal.specs.History.{JournalState, first_state, next_state, state_of}
 use Rattle.yp_journal.proofs.Keeping.{opening_datastore, command_keeps}
-use Rattle.yp_script.specs.declared.script.Script.{Script}
-use Rattle.push_program.specs.Concealed.{RisesPast, Rises}
-use Rattle.push_program.specs.Notices.{Made, selection, is_given, change_update, updates_of, made_of, made_at, made_from, made_by}
+use Rattle.push_program.specs.Access.{visible_rows}
+use Rattle.push_program.specs.Concealed.{RisesPast, NeverFall}
+use Rattle.push_program.specs.Notices.{of_id, Made, is_given, change_update, updates_of, made_of, made_at, made_from, made_by, state_at, want}
 use Rattle.push_program.specs.Progress.{Fits}
-use Rattle.push_program.specs.Received.{changed_by, heard, received, updates, Mirrors}
-use Rattle.push_program.specs.Records.{change_record}
-use Rattle.push_program.specs.Report.{given_by}
-use Rattle.push_program.specs.Turns.{journal_of}
+use Rattle.yp_base.specs.Rows.{changed_by}
+use Rattle.push_program.specs.Received.{heard, received, updates, IsFresh, Mirrors, Opens}
+use Rattle.yp_edit.specs.Records.{change_record}
 use Rattle.push_program.proofs.Own.{own, own_update, own_at, received_own, own_split}
 use Rattle.push_program.proofs.RecordLaws.{record_mirrors, no_record}
-use Rattle.push_program.proofs.Subscriptions.{of_id, given_is, given_kept, ids_kept, given_stays, has_id}
+use Rattle.push_program.proofs.Subscriptions.{given_is, given_kept, ids_kept, given_stays, has_id}
 
-pub fits_first : (script : Script) → IsSchema script.schema → Fits script.schema (first_state script.receivers)
-fits_first script schema = record { schema = schema; datastore = opening_datastore script.schema script.receivers; given = refl; ids = tt }
+pub fits_first : (nodes : List SchemaNode) (receivers : List ReceiverInfo) → IsSchema nodes → Fits nodes (first_state receivers)
+fits_first nodes receivers schema = record { schema = schema; datastore = opening_datastore nodes receivers; given = refl; ids = tt }
 
 pub fits_next : (nodes : List SchemaNode) (state : JournalState) (command : Command) → Fits nodes state → Fits nodes (next_state nodes state command)
 fits_next nodes state command fits = record { schema = fits.schema; datastore = command_keeps nodes state command fits.datastore; given = given_kept nodes state command fits.given; ids = ids_kept nodes state command fits.given fits.ids }
@@ -40,12 +39,12 @@ next_position nodes state (commands.Everything by) = refl
 
 -- where a subscription is the receiver's, these rows are held of it
 abbrev Holds : List SchemaNode → ℕ → ℕ → JournalState → Option (List Row) → Type 0
-Holds nodes receiver id state held = (s : Subscription) → of_id id state.subscriptions ≡ Some s → (s.receiver == receiver) ≡ true → held ≡ Some (selection nodes state.rows)
+Holds nodes receiver id state held = (s : Subscription) → of_id id state.subscriptions ≡ Some s → (s.receiver == receiver) ≡ true → held ≡ Some (want nodes state s)
 
 -- what a step makes for a subscription: nothing where nothing has to be heard, or one update that leaves fresh selection
 abbrev IsStep : List SchemaNode → ℕ → ℕ → JournalState → Option (List Row) → List Made → Type 0
 IsStep nodes receiver id after held [] = Holds nodes receiver id after held
-IsStep nodes receiver id after held (made ∷ []) = (made.position ≡ after.position) × (heard id made.notice held ≡ Some (selection nodes after.rows))
+IsStep nodes receiver id after held (made ∷ []) = (made.position ≡ after.position) × IsFresh nodes after receiver id (heard id made.notice held)
 IsStep nodes receiver id after held (made ∷ other ∷ more) = ⊥
 
 none_held : (nodes : List SchemaNode) (receiver id : ℕ) (after : JournalState) (held : Option (List Row)) (s : Subscription) → of_id id after.subscriptions ≡ Some s → (s.receiver == receiver) ≡ false → Holds nodes receiver id after held
@@ -54,20 +53,27 @@ none_held nodes receiver id after held s is other t there mine = let one : s ≡
 itself : (id other : ℕ) → other ≡ id → (other == id) ≡ true
 itself id other is = grind (arith, is)
 
+same_one : (a b : ℕ) → (a == b) ≡ true → a ≡ b
+same_one a b is = grind (arith, is)
+
 -- a subscription that was there hears what changed
 given_step : (nodes : List SchemaNode) (receiver id : ℕ) (before after : JournalState) (held : Option (List Row)) (s : Subscription) (changes : List Change)
-    → changes ≡ change_record (selection nodes before.rows) (selection nodes after.rows) → Fits nodes before → Fits nodes after → held ≡ Some (selection nodes before.rows) → s.id ≡ id
-    → IsStep nodes receiver id after held (made_of after (change_update s.id after.position changes))
-given_step nodes receiver id before after held s [] is fits next held_is same = λ t there mine.
+    → changes ≡ change_record (visible_rows nodes before.rows) (visible_rows nodes after.rows) → Fits nodes before → Fits nodes after → held ≡ Some (visible_rows nodes before.rows) → s.id ≡ id → of_id id after.subscriptions ≡ Some s
+    → (s.receiver == receiver) ≡ true → IsStep nodes receiver id after held (made_of after (change_update s.id after.position changes))
+given_step nodes receiver id before after held s [] is fits next held_is same there_is is_mine = λ t there mine.
     held_is ∙ ap (λ (rows : List Row). Some rows) (no_record nodes before.rows after.rows fits.schema fits.datastore next.datastore (sym is))
-given_step nodes receiver id before after held s (change ∷ changes) is fits next held_is same = (
+given_step nodes receiver id before after held s (change ∷ changes) is fits next held_is same there_is is_mine = (
   refl,
-  (
-      ap (λ b. cond b (Some (changed_by (change ∷ changes) (unwrap_or held []))) held) (itself id s.id same)
-      ∙ ap (λ h. Some (changed_by (change ∷ changes) (unwrap_or h []))) held_is
-      ∙ ap (λ cs. Some (changed_by cs (selection nodes before.rows))) is
-      ∙ ap (λ (rows : List Row). Some rows) (record_mirrors nodes before.rows after.rows fits.schema fits.datastore next.datastore)
-      ),
+  record {
+    subscription = s;
+    given = there_is;
+    mine = same_one s.receiver receiver is_mine;
+    rows =
+        ap (λ b. cond b (Some (changed_by (change ∷ changes) (unwrap_or held []))) held) (itself id s.id same)
+        ∙ ap (λ h. Some (changed_by (change ∷ changes) (unwrap_or h []))) held_is
+        ∙ ap (λ cs. Some (changed_by cs (visible_rows nodes before.rows))) is
+        ∙ ap (λ (rows : List Row). Some rows) (record_mirrors nodes before.rows after.rows fits.schema fits.datastore next.datastore);
+  },
 )
 
 was_given : (nodes : List SchemaNode) (receiver id : ℕ) (before after : JournalState) (held : Option (List Row)) (s : Subscription) (r : Bool)
@@ -77,8 +83,8 @@ was_given nodes receiver id before after held s false mine was is fits next hold
 was_given nodes receiver id before after held s true mine was is fits next holds =
     let same : s.id ≡ id = has_id id before.subscriptions s was in
     let given : is_given s.id before.subscriptions ≡ true = ap (λ n. is_given n before.subscriptions) same ∙ given_is id before.subscriptions ∙ ap (λ (o : Option Subscription). is_some o) was in
-    subst (λ (b : Bool). IsStep nodes receiver id after held (made_of after (cond b (change_update s.id after.position (change_record (selection nodes before.rows) (selection nodes after.rows))) (Full s.id (selection nodes after.rows) ∷ [])))) (sym given)
-    (given_step nodes receiver id before after held s (change_record (selection nodes before.rows) (selection nodes after.rows)) refl fits next (holds s was mine) same)
+    subst (λ (b : Bool). IsStep nodes receiver id after held (made_of after (cond b (change_update s.id after.position (change_record (visible_rows nodes before.rows) (visible_rows nodes after.rows))) (Full s.id (visible_rows nodes after.rows) ∷ [])))) (sym given)
+    (given_step nodes receiver id before after held s (change_record (visible_rows nodes before.rows) (visible_rows nodes after.rows)) refl fits next (holds s was mine) same is mine)
 
 -- one that the step establishes hears all
 is_new : (nodes : List SchemaNode) (receiver id : ℕ) (before after : JournalState) (held : Option (List Row)) (s : Subscription) (r : Bool)
@@ -88,8 +94,8 @@ is_new nodes receiver id before after held s false mine was is = none_held nodes
 is_new nodes receiver id before after held s true mine was is =
     let same : s.id ≡ id = has_id id after.subscriptions s is in
     let given : is_given s.id before.subscriptions ≡ false = ap (λ n. is_given n before.subscriptions) same ∙ given_is id before.subscriptions ∙ ap (λ (o : Option Subscription). is_some o) was in
-    subst (λ (b : Bool). IsStep nodes receiver id after held (made_of after (cond b (change_update s.id after.position (change_record (selection nodes before.rows) (selection nodes after.rows))) (Full s.id (selection nodes after.rows) ∷ [])))) (sym given)
-    (refl, ap (λ b. cond b (Some (selection nodes after.rows)) held) (itself id s.id same))
+    subst (λ (b : Bool). IsStep nodes receiver id after held (made_of after (cond b (change_update s.id after.position (change_record (visible_rows nodes before.rows) (visible_rows nodes after.rows))) (Full s.id (visible_rows nodes after.rows) ∷ [])))) (sym given)
+    (refl, record { subscription = s; given = is; mine = same_one s.receiver receiver mine; rows = ap (λ b. cond b (Some (visible_rows nodes after.rows)) held) (itself id s.id same) })
 
 new_or_none : (nodes : List SchemaNode) (receiver id : ℕ) (before after : JournalState) (held : Option (List Row)) (now : Option Subscription)
     → of_id id before.subscriptions ≡ None → of_id id after.subscriptions ≡ now → IsStep nodes receiver id after held (own_update nodes receiver before after now)
@@ -113,18 +119,22 @@ step_own nodes receiver id before command held fits holds =
 -- ---- all steps
 
 -- after an update at some position the rows that are held are fresh selection at that position
-record IsMirrored (nodes : List SchemaNode) (id : ℕ) (state : JournalState) (held : Option (List Row)) (entries : List Entry) (before : List Made) (update : Made) : Type 0 where
+record IsMirrored (nodes : List SchemaNode) (receiver id : ℕ) (state : JournalState) (held : Option (List Row)) (entries : List Entry) (before : List Made) (update : Made) : Type 0 where
   count : ℕ
   position : update.position ≡ state.position + count
-  rows : received id held (before ++ update ∷ []) ≡ Some (selection nodes (state_of nodes state (take count entries)).rows)
+  fresh : IsFresh nodes (state_of nodes state (take count entries)) receiver id (received id held (before ++ update ∷ []))
 
-further : (nodes : List SchemaNode) (id : ℕ) (state : JournalState) (entry : Entry) (entries : List Entry) (held was : Option (List Row)) (before all : List Made) (update : Made)
+-- a step that made an update leaves what each subscription of the id selects
+fresh_holds : (nodes : List SchemaNode) (state : JournalState) (receiver id : ℕ) (held : Option (List Row)) → IsFresh nodes state receiver id held → Holds nodes receiver id state held
+fresh_holds nodes state receiver id held fresh s there mine = fresh.rows
+
+further : (nodes : List SchemaNode) (receiver id : ℕ) (state : JournalState) (entry : Entry) (entries : List Entry) (held was : Option (List Row)) (before all : List Made) (update : Made)
     → received id was (all ++ update ∷ []) ≡ received id held (before ++ update ∷ [])
-    → IsMirrored nodes id (next_state nodes state entry.command) held entries before update → IsMirrored nodes id state was (entry ∷ entries) all update
-further nodes id state entry entries held was before all update same is = record {
+    → IsMirrored nodes receiver id (next_state nodes state entry.command) held entries before update → IsMirrored nodes receiver id state was (entry ∷ entries) all update
+further nodes receiver id state entry entries held was before all update same is = record {
   count = suc is.count;
   position = omega (arith, is.position, next_position nodes state entry.command);
-  rows = same ∙ is.rows;
+  fresh = subst (λ (rows : Option (List Row)). IsFresh nodes (state_of nodes (next_state nodes state entry.command) (take is.count entries)) receiver id rows) (sym same) is.fresh;
 }
 
 -- what one step makes stands in front
@@ -132,26 +142,26 @@ mirrored_at : (nodes : List SchemaNode) (receiver id : ℕ) (state : JournalStat
     → IsStep nodes receiver id (next_state nodes state entry.command) held made
     → made ++ own id (made_from nodes receiver (next_state nodes state entry.command) entries) ≡ before ++ update ∷ after
     → ((now : Option (List Row)) (front : List Made) → Holds nodes receiver id (next_state nodes state entry.command) now → own id (made_from nodes receiver (next_state nodes state entry.command) entries) ≡ front ++ update ∷ after
-    → IsMirrored nodes id (next_state nodes state entry.command) now entries front update)
-    → IsMirrored nodes id state held (entry ∷ entries) before update
+    → IsMirrored nodes receiver id (next_state nodes state entry.command) now entries front update)
+    → IsMirrored nodes receiver id state held (entry ∷ entries) before update
 mirrored_at nodes receiver id state held entry entries [] before update after step is later =
-    further nodes id state entry entries held held before before update refl (later held before step is)
+    further nodes receiver id state entry entries held held before before update refl (later held before step is)
 mirrored_at nodes receiver id state held entry entries (made ∷ []) [] update after step is later =
     let one : made ≡ update = cc in
     record {
       count = 1;
       position = ap (λ (m : Made). m.position) (sym one) ∙ step.0 ∙ next_position nodes state entry.command;
-      rows = ap (λ (m : Made). heard id m.notice held) (sym one) ∙ step.1;
+      fresh = subst (λ (m : Made). IsFresh nodes (next_state nodes state entry.command) receiver id (heard id m.notice held)) one step.1;
     }
 mirrored_at nodes receiver id state held entry entries (made ∷ []) (m ∷ before) update after step is later =
     let one : made ≡ m = cc in
     let rest : own id (made_from nodes receiver (next_state nodes state entry.command) entries) ≡ before ++ update ∷ after = cc in
-    further nodes id state entry entries (heard id made.notice held) held before (m ∷ before) update (ap (λ (x : Made). received id (heard id x.notice held) (before ++ update ∷ [])) (sym one))
-    (later (heard id made.notice held) before (λ s there mine. step.1) rest)
+    further nodes receiver id state entry entries (heard id made.notice held) held before (m ∷ before) update (ap (λ (x : Made). received id (heard id x.notice held) (before ++ update ∷ [])) (sym one))
+    (later (heard id made.notice held) before (fresh_holds nodes (next_state nodes state entry.command) receiver id (heard id made.notice held) step.1) rest)
 mirrored_at nodes receiver id state held entry entries (made ∷ other ∷ more) before update after step is later = absurd step
 
 mirrored : (nodes : List SchemaNode) (receiver id : ℕ) (state : JournalState) (held : Option (List Row)) (entries : List Entry) (before : List Made) (update : Made) (after : List Made) → Fits nodes state → Holds nodes receiver id state held
-    → own id (made_from nodes receiver state entries) ≡ before ++ update ∷ after → IsMirrored nodes id state held entries before update
+    → own id (made_from nodes receiver state entries) ≡ before ++ update ∷ after → IsMirrored nodes receiver id state held entries before update
 mirrored nodes receiver id state held [] [] update after fits holds is = absurd cc
 mirrored nodes receiver id state held [] (m ∷ before) update after fits holds is = absurd cc
 mirrored nodes receiver id state held (entry ∷ entries) before update after fits holds is =
@@ -163,16 +173,16 @@ mirrored nodes receiver id state held (entry ∷ entries) before update after fi
 pub none_given : (nodes : List SchemaNode) (receiver id : ℕ) (receivers : List ReceiverInfo) → Holds nodes receiver id (first_state receivers) None
 none_given nodes receiver id receivers s there mine = let never : None ≡ Some s = there in cc
 
-pub mirrors : (script : Script) → IsSchema script.schema → Mirrors script
-mirrors script schema receiver id before update after is mine =
-    let m = mirrored script.schema receiver id (first_state script.receivers) None (journal_of script) (own id before) update (own id after) (fits_first script schema) (none_given script.schema receiver id script.receivers)
+pub mirrors : (nodes : List SchemaNode) (receivers : List ReceiverInfo) (entries : List Entry) (receiver : ℕ) → IsSchema nodes → Mirrors nodes receivers entries receiver (made_by nodes receivers entries receiver)
+mirrors nodes receivers entries receiver schema id before update after is mine =
+    let m = mirrored nodes receiver id (first_state receivers) None entries (own id before) update (own id after) (fits_first nodes receivers schema) (none_given nodes receiver id receivers)
     (ap (own id) is ∙ own_split id before update after mine) in
     let position : update.position ≡ 0 + m.count = m.position in
     let at : m.count ≡ update.position = omega (arith, position) in
-    received_own id (before ++ update ∷ []) None
-    ∙ ap (λ made. received id None made) (own_split id before update [] mine)
-    ∙ m.rows
-    ∙ ap (λ n. Some (selection script.schema (state_of script.schema (first_state script.receivers) (take n (journal_of script))).rows)) at
+    let same : received id None (before ++ update ∷ []) ≡ received id None (own id before ++ update ∷ []) =
+    received_own id (before ++ update ∷ []) None ∙ ap (λ made. received id None made) (own_split id before update [] mine) in
+    subst (λ (rows : Option (List Row)). IsFresh nodes (state_at nodes receivers entries update.position) receiver id rows) (sym same)
+    (subst (λ (n : ℕ). IsFresh nodes (state_of nodes (first_state receivers) (take n entries)) receiver id (received id None (own id before ++ update ∷ []))) at m.fresh)
 
 -- ---- at the end
 
@@ -181,7 +191,7 @@ held_at : (nodes : List SchemaNode) (receiver id : ℕ) (state : JournalState) (
     → Holds nodes receiver id (state_of nodes (next_state nodes state entry.command) entries) (received id now (own id (made_from nodes receiver (next_state nodes state entry.command) entries))))
     → Holds nodes receiver id (state_of nodes (next_state nodes state entry.command) entries) (received id held (made ++ own id (made_from nodes receiver (next_state nodes state entry.command) entries)))
 held_at nodes receiver id state held entry entries [] step later = later held step
-held_at nodes receiver id state held entry entries (made ∷ []) step later = later (heard id made.notice held) (λ s there mine. step.1)
+held_at nodes receiver id state held entry entries (made ∷ []) step later = later (heard id made.notice held) (fresh_holds nodes (next_state nodes state entry.command) receiver id (heard id made.notice held) step.1)
 held_at nodes receiver id state held entry entries (made ∷ other ∷ more) step later = absurd step
 
 held_on : (nodes : List SchemaNode) (receiver id : ℕ) (state : JournalState) (held : Option (List Row)) (entries : List Entry) → Fits nodes state → Holds nodes receiver id state held
@@ -194,11 +204,11 @@ held_on nodes receiver id state held (entry ∷ entries) fits holds =
     (λ now holds_now. held_on nodes receiver id (next_state nodes state entry.command) now entries (fits_next nodes state entry.command fits) holds_now))
 
 -- a subscription that was given has fresh selection held of it
-pub held_at_end : (script : Script) (receiver : ℕ) (s : Subscription) → IsSchema script.schema → of_id s.id (given_by script) ≡ Some s → (s.receiver == receiver) ≡ true
-    → received s.id None (made_by script receiver) ≡ Some (selection script.schema (state_of script.schema (first_state script.receivers) (journal_of script)).rows)
-held_at_end script receiver s schema there mine =
-    received_own s.id (made_by script receiver) None
-    ∙ held_on script.schema receiver s.id (first_state script.receivers) None (journal_of script) (fits_first script schema) (none_given script.schema receiver s.id script.receivers) s there mine
+pub held_at_end : (nodes : List SchemaNode) (receivers : List ReceiverInfo) (entries : List Entry) (receiver : ℕ) (s : Subscription) → IsSchema nodes → of_id s.id (state_of nodes (first_state receivers) entries).subscriptions ≡ Some s → (s.receiver == receiver) ≡ true
+    → received s.id None (made_by nodes receivers entries receiver) ≡ Some (visible_rows nodes (state_of nodes (first_state receivers) entries).rows)
+held_at_end nodes receivers entries receiver s schema there mine =
+    received_own s.id (made_by nodes receivers entries receiver) None
+    ∙ held_on nodes receiver s.id (first_state receivers) None entries (fits_first nodes receivers schema) (none_given nodes receiver s.id receivers) s there mine
 
 -- ---- positions
 
@@ -214,7 +224,7 @@ rise_at nodes receiver id state held entry entries [] step later =
     sooner state.position (next_state nodes state entry.command).position (own id (made_from nodes receiver (next_state nodes state entry.command) entries)) past (later held step)
 rise_at nodes receiver id state held entry entries (made ∷ []) step later =
     let past : state.position < made.position = omega (arith, step.0, next_position nodes state entry.command) in
-    (past, subst (λ (n : ℕ). RisesPast n (own id (made_from nodes receiver (next_state nodes state entry.command) entries))) (sym step.0) (later (heard id made.notice held) (λ s there mine. step.1)))
+    (past, subst (λ (n : ℕ). RisesPast n (own id (made_from nodes receiver (next_state nodes state entry.command) entries))) (sym step.0) (later (heard id made.notice held) (fresh_holds nodes (next_state nodes state entry.command) receiver id (heard id made.notice held) step.1)))
 rise_at nodes receiver id state held entry entries (made ∷ other ∷ more) step later = absurd step
 
 rise : (nodes : List SchemaNode) (receiver id : ℕ) (state : JournalState) (held : Option (List Row)) (entries : List Entry) → Fits nodes state → Holds nodes receiver id state held → RisesPast state.position (own id (made_from nodes receiver state entries))
@@ -225,5 +235,5 @@ rise nodes receiver id state held (entry ∷ entries) fits holds =
     (rise_at nodes receiver id state held entry entries (own id (made_at nodes receiver state (next_state nodes state entry.command))) (step_own nodes receiver id state entry.command held fits holds)
     (λ now holds_now. rise nodes receiver id (next_state nodes state entry.command) now entries (fits_next nodes state entry.command fits) holds_now))
 
-pub rises : (script : Script) → IsSchema script.schema → Rises script
-rises script schema receiver id = rise script.schema receiver id (first_state script.receivers) None (journal_of script) (fits_first script schema) (none_given script.schema receiver id script.receivers)
+pub never_fall : (nodes : List SchemaNode) (receivers : List ReceiverInfo) (entries : List Entry) (receiver : ℕ) → IsSchema nodes → NeverFall (made_by nodes receivers entries receiver)
+never_fall nodes receivers entries receiver schema id = rise nodes receiver id (first_state receivers) None entries (fits_first nodes receivers schema) (none_given nodes receiver id receivers)

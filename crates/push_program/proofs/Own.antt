@@ -8,11 +8,13 @@ use Rattle.yp_base.specs.declared.row.Row.{Row}
 use Rattle.yp_schema.specs.declared.schema.SchemaNode.{SchemaNode}
 use Rattle.yp_journal.specs.declared.subscription.Subscription.{Subscription}
 use Rattle.yp_journal.specs.History.{JournalState, next_id}
-use Rattle.push_program.specs.Notices.{Made, selection, is_given, change_update, updates_of, made_of, made_for, made_at}
-use Rattle.push_program.specs.Received.{changed_by, heard, received, updates}
-use Rattle.push_program.specs.Records.{change_record}
+use Rattle.push_program.specs.Access.{visible_rows}
+use Rattle.push_program.specs.Notices.{of_id, Made, is_given, change_update, updates_of, made_of, made_for, made_at}
+use Rattle.yp_base.specs.Rows.{changed_by}
+use Rattle.push_program.specs.Received.{heard, received, updates}
+use Rattle.yp_edit.specs.Records.{change_record}
 use Rattle.push_program.specs.Progress.{AreIds}
-use Rattle.push_program.proofs.Subscriptions.{of_id, none_of_id}
+use Rattle.push_program.proofs.Subscriptions.{none_of_id}
 
 -- those of some notices that are updates of a subscription
 abbrev pub own : ℕ → List Made → List Made
@@ -32,11 +34,11 @@ changes_own id other true state n (change ∷ changes) is = ap (λ b. cond b (re
 changes_own id other false state n (change ∷ changes) is = ap (λ b. cond b (record { position = state.position; stamp = state.stamp; notice = Changes other n (change ∷ changes) false } ∷ []) []) is
 
 updates_own : (g : Bool) (b : Bool) (nodes : List SchemaNode) (id : ℕ) (before after : JournalState) (subscription : Subscription) → (subscription.id == id) ≡ b
-    → own id (made_of after (cond g (change_update subscription.id after.position (change_record (selection nodes before.rows) (selection nodes after.rows))) (Full subscription.id (selection nodes after.rows) ∷ [])))
-    ≡ cond b (made_of after (cond g (change_update subscription.id after.position (change_record (selection nodes before.rows) (selection nodes after.rows))) (Full subscription.id (selection nodes after.rows) ∷ []))) []
-updates_own true b nodes id before after subscription is = changes_own id subscription.id b after after.position (change_record (selection nodes before.rows) (selection nodes after.rows)) is
-updates_own false true nodes id before after subscription is = ap (λ b. cond b (record { position = after.position; stamp = after.stamp; notice = Full subscription.id (selection nodes after.rows) } ∷ []) []) is
-updates_own false false nodes id before after subscription is = ap (λ b. cond b (record { position = after.position; stamp = after.stamp; notice = Full subscription.id (selection nodes after.rows) } ∷ []) []) is
+    → own id (made_of after (cond g (change_update subscription.id after.position (change_record (visible_rows nodes before.rows) (visible_rows nodes after.rows))) (Full subscription.id (visible_rows nodes after.rows) ∷ [])))
+    ≡ cond b (made_of after (cond g (change_update subscription.id after.position (change_record (visible_rows nodes before.rows) (visible_rows nodes after.rows))) (Full subscription.id (visible_rows nodes after.rows) ∷ []))) []
+updates_own true b nodes id before after subscription is = changes_own id subscription.id b after after.position (change_record (visible_rows nodes before.rows) (visible_rows nodes after.rows)) is
+updates_own false true nodes id before after subscription is = ap (λ b. cond b (record { position = after.position; stamp = after.stamp; notice = Full subscription.id (visible_rows nodes after.rows) } ∷ []) []) is
+updates_own false false nodes id before after subscription is = ap (λ b. cond b (record { position = after.position; stamp = after.stamp; notice = Full subscription.id (visible_rows nodes after.rows) } ∷ []) []) is
 
 one_own : (r b : Bool) (nodes : List SchemaNode) (id : ℕ) (before after : JournalState) (subscription : Subscription) → (subscription.id == id) ≡ b
     → own id (cond r (made_of after (updates_of nodes before after subscription)) []) ≡ cond b (cond r (made_of after (updates_of nodes before after subscription)) []) []

@@ -10,7 +10,7 @@ use Rattle.yp_base.specs.declared.row.Row.{Row}
 use Rattle.yp_base.specs.declared.leaf_type.LeafType.{LeafType}
 use Rattle.yp_base.specs.declared.notice.Change.{Change}
 use Rattle.yp_base.specs.Order.{path_cmp, is_within}
-use Rattle.yp_base.specs.Rows.{AreInOrder, value_at, put_rows, rows_within, rows_without}
+use Rattle.yp_base.specs.Rows.{AreInOrder, value_at, put_rows, rows_within, rows_without, changed_by}
 use Rattle.yp_base.proofs.RowLaws.{none_order, value_at_without, puts_order, within_keeps_order, without_keeps_order}
 use Rattle.yp_schema.specs.declared.schema.SchemaNode.{SchemaNode}
 use Rattle.yp_schema.specs.declared.schema.Kind.{Kind}
@@ -23,7 +23,7 @@ use Rattle.yp_data_json.proofs.Steps.{leaf_ends}
 use Rattle.yp_edit.specs.declared.changed.ChangedRow.{ChangedRow}
 use Rattle.yp_edit.specs.Bases.{is_listed}
 use Rattle.yp_edit.specs.Changes.{are_alike, change_of, changed_rows, paths_of_both}
-use Rattle.yp_edit.specs.Changes.{change_at as difference_at}
+use Rattle.yp_edit.specs.Changes.{row_change as difference_at}
 use Rattle.yp_edit.proofs.Alike.{at, same_rows}
 use Rattle.yp_edit.proofs.Committing.{alike_is}
 use Rattle.yp_edit.proofs.Differing.{changed_entries, changed_at}
@@ -31,8 +31,8 @@ use Rattle.yp_edit.proofs.Drafts.{or_else, value_at_puts}
 use Rattle.yp_edit.proofs.Keeping.{holds_at, or_cases}
 use Rattle.push_program.specs.Access.{is_readable, visible_rows}
 use Rattle.push_program.specs.Concealed.{AllReadable, IsReadableChange}
-use Rattle.push_program.specs.Received.{changed_by}
-use Rattle.push_program.specs.Records.{changed_paths, is_above, roots_of, carried_rows, change_at, change_record}
+use Rattle.yp_base.specs.Paths.{is_above, topmost as roots_of}
+use Rattle.yp_edit.specs.Records.{changed_paths, carried_rows, change_at, change_record}
 use Rattle.push_program.proofs.Selections.{value_at_picked, all_picked, selection_is, selected_readable}
 use Rattle.push_program.proofs.Coverings.{has_root, listed_rooted, some_paths}
 

@@ -11,7 +11,8 @@ use Rattle.yp_edit.specs.declared.changed.ChangedRow.{ChangedRow}
 use Rattle.yp_edit.specs.Changes.{changed_rows}
 use Rattle.yp_edit.proofs.Alike.{keys}
 use Rattle.yp_edit.proofs.Differing.{changed_entries, changed_sorted}
-use Rattle.push_program.specs.Records.{change_at, changed_paths, roots_of, change_record}
+use Rattle.yp_base.specs.Paths.{topmost as roots_of}
+use Rattle.yp_edit.specs.Records.{change_at, changed_paths, change_record}
 use Rattle.push_program.specs.Roots.{is_covered, edit_of}
 use Rattle.push_program.proofs.Selected.{IsBetween, all_between, value_picked, chosen, changed_picked}
 use Rattle.push_program.proofs.Topmost.{tops, roots_found}

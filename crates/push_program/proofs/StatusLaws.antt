@@ -7,15 +7,10 @@ use Rattle.yp_script.specs.declared.fault.ScriptKind.{ScriptKind}
 use Rattle.yp_script.specs.declared.script.Script.{Script}
 use Rattle.push_program.specs.declared.top.Status.{Status}
 use Rattle.push_program.specs.declared.top.Status.TheVariants.{Done, BadWords, BadScript, ReadFault, WriteFault, NoMemory}
-use Rattle.push_program.specs.Answers.{Streams, Answers, CanRun, is_run, tells_good_words, Reports, ReportsFront, IsKept, HasLegalJournal, tells_whole_reading, TellsReading, TellsWriting, tells_no_writing, FitsScript, IsComplete}
-use Rattle.push_program.specs.Concealed.{Conceals, Rises}
-use Rattle.push_program.specs.Received.{Mirrors}
-use Rattle.push_program.specs.Report.{report_text}
+use Rattle.push_program.specs.Answers.{Streams, Answers, is_run, tells_good_words, tells_whole_reading, TellsReading, TellsWriting, tells_no_writing, FitsScript, IsComplete}
+use Rattle.push_program.specs.Promise.{WritesTold, WritesPrefix}
 use Rattle.yp_script.specs.Script.{script_in}
 use Rattle.yp_script.proofs.Limits.{nothing_behind}
-use Rattle.push_program.proofs.Concealing.{conceals}
-use Rattle.push_program.proofs.Mirror.{mirrors, rises}
-use Rattle.push_program.proofs.Turns.{legal}
 
 pub words_told : (words : List (List ℕ)) (s : Streams) (status : Status) → Answers words s status → tells_good_words status ≡ is_run words
 words_told words s Done h = sym h.0
@@ -33,49 +28,19 @@ unread_told words s ReadFault h is = cc
 unread_told words s WriteFault h is = cc
 unread_told words s NoMemory h is = cc
 
-reported : (left before after : Option (List ℕ)) → IfSome left (λ bytes. (script : Script) × (script_in bytes ≡ Ok script) × CanRun script × IfSome before (λ front. after ≡ Some (front ++ report_text script))) → Reports left before after
-reported None before after h = h
-reported (Some bytes) before after h = (h.0, h.1, h.3)
-
-pub done_told : (words : List (List ℕ)) (s : Streams) (status : Status) → Answers words s status → status ≡ Done → Reports s.left_before s.written_before s.written_after
-done_told words s Done h is = reported s.left_before s.written_before s.written_after h.2
+pub done_told : (words : List (List ℕ)) (s : Streams) (status : Status) → Answers words s status → status ≡ Done → WritesTold s.left_before s.written_before s.written_after
+done_told words s Done h is = h.2
 done_told words s BadWords h is = absurd cc
 done_told words s (BadScript line kind) h is = absurd cc
 done_told words s ReadFault h is = absurd cc
 done_told words s WriteFault h is = absurd cc
 done_told words s NoMemory h is = absurd cc
 
--- what each script keeps that can be run is kept of the script that was run
-module _ (Promise : Script → Type 0) (keeps : (script : Script) → CanRun script → Promise script) where
-  kept : (left before after : Option (List ℕ)) → IfSome left (λ bytes. (script : Script) × (script_in bytes ≡ Ok script) × CanRun script × IfSome before (λ front. after ≡ Some (front ++ report_text script))) → IsKept Promise left
-  kept None before after h = h
-  kept (Some bytes) before after h = λ script is. let same : h.0 ≡ script = cc in subst Promise same (keeps h.0 h.2)
-
-  promise_told : (words : List (List ℕ)) (s : Streams) (status : Status) → Answers words s status → status ≡ Done → IsKept Promise s.left_before
-  promise_told words s Done h is = kept s.left_before s.written_before s.written_after h.2
-  promise_told words s BadWords h is = absurd cc
-  promise_told words s (BadScript line kind) h is = absurd cc
-  promise_told words s ReadFault h is = absurd cc
-  promise_told words s WriteFault h is = absurd cc
-  promise_told words s NoMemory h is = absurd cc
-
-pub mirrored_told : (words : List (List ℕ)) (s : Streams) (status : Status) → Answers words s status → status ≡ Done → IsKept Mirrors s.left_before
-mirrored_told = promise_told Mirrors (λ script can. mirrors script can.schema)
-
-pub rising_told : (words : List (List ℕ)) (s : Streams) (status : Status) → Answers words s status → status ≡ Done → IsKept Rises s.left_before
-rising_told = promise_told Rises (λ script can. rises script can.schema)
-
-pub concealed_told : (words : List (List ℕ)) (s : Streams) (status : Status) → Answers words s status → status ≡ Done → IsKept Conceals s.left_before
-concealed_told = promise_told Conceals (λ script can. conceals script)
-
-pub legal_told : (words : List (List ℕ)) (s : Streams) (status : Status) → Answers words s status → status ≡ Done → IsKept HasLegalJournal s.left_before
-legal_told = promise_told HasLegalJournal (λ script can. legal script can.commands)
-
 ended : (left before after written : Option (List ℕ)) → IfSome left (λ bytes. after ≡ Some (drop 67108865 bytes))
-    → IfSome left (λ bytes. (script : Script) × (script_in bytes ≡ Ok script) × CanRun script × IfSome before (λ front. written ≡ Some (front ++ report_text script)))
+    → WritesTold left before written
     → IfSome left (λ bytes. after ≡ Some [])
 ended None before after written read h = h
-ended (Some bytes) before after written read h = read ∙ ap (λ (rest : List ℕ). Some rest) (nothing_behind bytes h.0 h.1)
+ended (Some bytes) before after written read h = read ∙ ap (λ (rest : List ℕ). Some rest) (nothing_behind bytes h.1.script h.1.read)
 
 pub end_told : (words : List (List ℕ)) (s : Streams) (status : Status) → Answers words s status → status ≡ Done → IfSome s.left_before (λ bytes. s.left_after ≡ Some [])
 end_told words s Done h is = ended s.left_before s.written_before s.left_after s.written_after h.1.0 h.2
@@ -121,7 +86,7 @@ writing_told words s ReadFault h = h.2.1
 writing_told words s WriteFault h = h.3
 writing_told words s NoMemory h = h.2.1
 
-pub front_told : (words : List (List ℕ)) (s : Streams) (status : Status) → Answers words s status → status ≡ WriteFault → ReportsFront s.left_before s.written_before s.written_after
+pub front_told : (words : List (List ℕ)) (s : Streams) (status : Status) → Answers words s status → status ≡ WriteFault → WritesPrefix s.left_before s.written_before s.written_after
 front_told words s Done h is = absurd cc
 front_told words s BadWords h is = absurd cc
 front_told words s (BadScript line kind) h is = absurd cc
@@ -139,10 +104,9 @@ unwritten_told words s NoMemory h is = h.2.0
 
 -- ---- completeness
 
-fits_done : (left before after : Option (List ℕ)) → IfSome left (λ bytes. (script : Script) × (script_in bytes ≡ Ok script) × CanRun script × IfSome before (λ front. after ≡ Some (front ++ report_text script)))
-    → IfSome left (λ bytes. FitsScript (script_in bytes) Done)
+fits_done : (left before after : Option (List ℕ)) → WritesTold left before after → IfSome left (λ bytes. FitsScript (script_in bytes) Done)
 fits_done None before after h = h
-fits_done (Some bytes) before after h = subst (λ (r : Result Script ScriptFault). FitsScript r Done) (sym h.1) tt
+fits_done (Some bytes) before after h = subst (λ (r : Result Script ScriptFault). FitsScript r Done) (sym h.1.read) tt
 
 fits_fault : (left : Option (List ℕ)) (line : ℕ) (kind : ScriptKind) → IfSome left (λ bytes. script_in bytes ≡ Err (At line kind)) → IfSome left (λ bytes. FitsScript (script_in bytes) (BadScript line kind))
 fits_fault None line kind h = h

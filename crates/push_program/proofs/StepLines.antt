@@ -10,13 +10,15 @@ use Rattle.yp_schema.specs.declared.schema.SchemaNode.{SchemaNode}
 use Rattle.yp_edit.proofs.Differing.{none_differ}
 use Rattle.yp_journal.specs.declared.subscription.Subscription.{Subscription}
 use Rattle.yp_journal.specs.History.{JournalState, next_id, with_subscription}
+use Rattle.push_program.specs.Access.{visible_rows}
 use Rattle.push_program.specs.Desks.{Sending, with_lines, told_changes, notice_for}
-use Rattle.push_program.specs.Notices.{Made, selection, is_given, change_update, updates_of, made_of, made_for, made_at}
+use Rattle.push_program.specs.Notices.{of_id, Made, is_given, change_update, updates_of, made_of, made_for, made_at}
 use Rattle.push_program.specs.Progress.{AreIds}
-use Rattle.push_program.specs.Received.{changed_by}
-use Rattle.push_program.specs.Records.{roots_of, change_at, change_record}
+use Rattle.yp_base.specs.Rows.{changed_by}
+use Rattle.yp_base.specs.Paths.{topmost as roots_of}
+use Rattle.yp_edit.specs.Records.{change_at, change_record}
 use Rattle.push_program.specs.Report.{sent_line, sent_lines}
-use Rattle.push_program.proofs.Subscriptions.{of_id, given_is}
+use Rattle.push_program.proofs.Subscriptions.{given_is}
 
 -- ---- lines
 
@@ -88,17 +90,17 @@ none_for receiver n stamp [] = refl
 none_for receiver n stamp (change ∷ changes) = refl
 
 made_given : (nodes : List SchemaNode) (receiver : ℕ) (before after : JournalState) (front subscriptions : List Subscription) → before.subscriptions ≡ front ++ subscriptions
-    → made_for nodes receiver before after subscriptions ≡ told_changes receiver after.position after.stamp (change_record (selection nodes before.rows) (selection nodes after.rows)) subscriptions
-made_given nodes receiver before after front [] is = sym (none_for receiver after.position after.stamp (change_record (selection nodes before.rows) (selection nodes after.rows)))
+    → made_for nodes receiver before after subscriptions ≡ told_changes receiver after.position after.stamp (change_record (visible_rows nodes before.rows) (visible_rows nodes after.rows)) subscriptions
+made_given nodes receiver before after front [] is = sym (none_for receiver after.position after.stamp (change_record (visible_rows nodes before.rows) (visible_rows nodes after.rows)))
 made_given nodes receiver before after front (s ∷ subscriptions) is =
     let given : is_given s.id before.subscriptions ≡ true = ap (is_given s.id) is ∙ given_here front s subscriptions in
-    ap (λ b. cond (s.receiver == receiver) (made_of after (cond b (change_update s.id after.position (change_record (selection nodes before.rows) (selection nodes after.rows))) (Full s.id (selection nodes after.rows) ∷ []))) [] ++ made_for nodes receiver before after subscriptions) given
-    ∙ told_same receiver before after s subscriptions (change_record (selection nodes before.rows) (selection nodes after.rows)) (made_for nodes receiver before after subscriptions)
+    ap (λ b. cond (s.receiver == receiver) (made_of after (cond b (change_update s.id after.position (change_record (visible_rows nodes before.rows) (visible_rows nodes after.rows))) (Full s.id (visible_rows nodes after.rows) ∷ []))) [] ++ made_for nodes receiver before after subscriptions) given
+    ∙ told_same receiver before after s subscriptions (change_record (visible_rows nodes before.rows) (visible_rows nodes after.rows)) (made_for nodes receiver before after subscriptions)
     (made_given nodes receiver before after (front ++ s ∷ []) subscriptions (is ∙ sym (append_assoc front (s ∷ []) subscriptions)))
 
 -- a step that establishes nothing makes change updates alone
 pub made_changes : (nodes : List SchemaNode) (receiver : ℕ) (before after : JournalState) → before.subscriptions ≡ after.subscriptions
-    → made_at nodes receiver before after ≡ told_changes receiver after.position after.stamp (change_record (selection nodes before.rows) (selection nodes after.rows)) after.subscriptions
+    → made_at nodes receiver before after ≡ told_changes receiver after.position after.stamp (change_record (visible_rows nodes before.rows) (visible_rows nodes after.rows)) after.subscriptions
 made_changes nodes receiver before after same = made_given nodes receiver before after [] after.subscriptions same
 
 -- ---- where one was established
@@ -132,13 +134,13 @@ not_given given subscriptions count ids =
 -- a step that establishes a subscription makes its full update alone
 pub made_full : (nodes : List SchemaNode) (receiver by : ℕ) (before : JournalState) → before.given ≡ length before.subscriptions → AreIds 0 before.subscriptions
     → made_at nodes receiver before (with_subscription before by)
-    ≡ notice_for by (with_subscription before by).position (with_subscription before by).stamp receiver (Full (next_id before.given) (selection nodes before.rows))
+    ≡ notice_for by (with_subscription before by).position (with_subscription before by).stamp receiver (Full (next_id before.given) (visible_rows nodes before.rows))
 made_full nodes receiver by before given ids =
     let after : JournalState = with_subscription before by in
     let new : Subscription = record { id = next_id before.given; receiver = by } in
     made_joined nodes receiver before after before.subscriptions (new ∷ [])
     ∙ ap (λ t. t ++ made_for nodes receiver before after (new ∷ []))
     (made_given nodes receiver before after [] before.subscriptions refl
-    ∙ ap (λ cs. told_changes receiver after.position after.stamp cs before.subscriptions) (nothing_changed (selection nodes before.rows)))
-    ∙ ap (λ b. cond (by == receiver) (made_of after (cond b (change_update new.id after.position (change_record (selection nodes before.rows) (selection nodes before.rows))) (Full new.id (selection nodes before.rows) ∷ []))) [] ++ []) (not_given before.given before.subscriptions given ids)
-    ∙ new_made (by == receiver) receiver by after (Full new.id (selection nodes before.rows))
+    ∙ ap (λ cs. told_changes receiver after.position after.stamp cs before.subscriptions) (nothing_changed (visible_rows nodes before.rows)))
+    ∙ ap (λ b. cond (by == receiver) (made_of after (cond b (change_update new.id after.position (change_record (visible_rows nodes before.rows) (visible_rows nodes before.rows))) (Full new.id (visible_rows nodes before.rows) ∷ []))) [] ++ []) (not_given before.given before.subscriptions given ids)
+    ∙ new_made (by == receiver) receiver by after (Full new.id (visible_rows nodes before.rows))

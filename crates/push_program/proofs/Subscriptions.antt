@@ -1,17 +1,12 @@
 -- The subscriptions that commands give: each has an id of its own, and each command gives one more at most.
 use Rattle.std.proofs.Common.{◌≡◌, ℕ, ◌+◌, ◌==◌, ◌<◌, ◌||◌, Bool, true, false, List, [], ◌∷◌, ◌++◌, length, length-append, Option, Some, None, is_some, refl, sym, ap, ◌∙◌, subst, cond, arith}
-use Rattle.std.specs.List.{find}
 use Rattle.yp_schema.specs.declared.schema.SchemaNode.{SchemaNode}
 use Rattle.yp_journal.specs.declared.command.Command.{Command}
 use Rattle.yp_journal.specs.declared.command.Command.TheVariants.{Tick, Edit, Everything}
 use Rattle.yp_journal.specs.declared.subscription.Subscription.{Subscription}
 use Rattle.yp_journal.specs.History.{JournalState, next_id, next_state}
-use Rattle.push_program.specs.Notices.{is_given}
+use Rattle.push_program.specs.Notices.{of_id, is_given}
 use Rattle.push_program.specs.Progress.{AreIds}
-
--- the subscription of an id
-abbrev pub of_id : ℕ → List Subscription → Option Subscription
-of_id id subscriptions = find (λ subscription. subscription.id == id) subscriptions
 
 pub given_is : (id : ℕ) (subscriptions : List Subscription) → is_given id subscriptions ≡ is_some (of_id id subscriptions)
 given_is id [] = refl

@@ -5,8 +5,7 @@ use Rattle.yp_io.specs.Whole.{ReadsWhole, Appends, AppendsPrefix}
 use Rattle.yp_script.specs.declared.fault.ScriptFault.{ScriptFault}
 use Rattle.yp_script.specs.declared.script.Script.{Script}
 use Rattle.yp_script.specs.Script.{script_of, script_in}
-use Rattle.push_program.specs.Answers.{CanRun}
-use Rattle.push_program.specs.Report.{report_text}
+use Rattle.push_program.specs.Promise.{Tells, WritesTold, WritesPrefix}
 
 take_twice : (n : ℕ) (xs : List ℕ) → take n (take n xs) ≡ take n xs
 take_twice zero xs = refl
@@ -24,17 +23,25 @@ pub script_read : (o after : Option (List ℕ)) (bytes : List ℕ) (over : Bool)
 script_read None after bytes over script read is = read
 script_read (Some before) after bytes over script read is = sym (ap script_in read.front ∙ ap script_of (take_twice 67108865 before)) ∙ is
 
--- the report that was written
-pub report_written : (o w after : Option (List ℕ)) (script : Script) (text : List ℕ) → CanRun script → IfSome o (λ before. script_in before ≡ Ok script) → text ≡ report_text script → IfSome w (λ before. Appends before after text)
-    → IfSome o (λ bytes. (s : Script) × (script_in bytes ≡ Ok s) × CanRun s × IfSome w (λ before. after ≡ Some (before ++ report_text s)))
-report_written None w after script text can is told written = is
-report_written (Some bytes) w after script text can is told written = (script, is, can, appended w written)
-  where
-    appended : (w : Option (List ℕ)) → IfSome w (λ before. Appends before after text) → IfSome w (λ before. after ≡ Some (before ++ report_text script))
-    appended None h = h
-    appended (Some before) h = h ∙ ap (λ t. Some (before ++ t)) told
+-- the text that was written tells of what was read, if what was taken of it does
+told_of : (before bytes text : List ℕ) (after : Option (List ℕ)) (over : Bool) → ReadsWhole 67108864 before after bytes over → Tells bytes text → Tells before text
+told_of before bytes text after over read told = record {
+  script = told.script;
+  entries = told.entries;
+  made = told.made;
+  read = sym (ap script_in read.front ∙ ap script_of (take_twice 67108865 before)) ∙ told.read;
+  journal = told.journal;
+  serial = told.serial;
+  legal = told.legal;
+  each = told.each;
+  serves = told.serves;
+  report = told.report;
+}
 
-pub prefix_written : (o w after : Option (List ℕ)) (script : Script) (text : List ℕ) → IfSome o (λ before. script_in before ≡ Ok script) → text ≡ report_text script → IfSome w (λ before. AppendsPrefix before after text)
-    → IfSome o (λ bytes. (s : Script) × (script_in bytes ≡ Ok s) × IfSome w (λ before. AppendsPrefix before after (report_text s)))
-prefix_written None w after script text is told written = is
-prefix_written (Some bytes) w after script text is told written = (script, is, subst (λ (t : List ℕ). IfSome w (λ before. AppendsPrefix before after t)) told written)
+pub told_written : (o w after rest : Option (List ℕ)) (bytes text : List ℕ) (over : Bool) → IfSome o (λ before. ReadsWhole 67108864 before rest bytes over) → Tells bytes text → IfSome w (λ before. Appends before after text) → WritesTold o w after
+told_written None w after rest bytes text over read told written = read
+told_written (Some before) w after rest bytes text over read told written = (text, told_of before bytes text rest over read told, written)
+
+pub prefix_written : (o w after rest : Option (List ℕ)) (bytes text : List ℕ) (over : Bool) → IfSome o (λ before. ReadsWhole 67108864 before rest bytes over) → Tells bytes text → IfSome w (λ before. AppendsPrefix before after text) → WritesPrefix o w after
+prefix_written None w after rest bytes text over read told written = read
+prefix_written (Some before) w after rest bytes text over read told written = (text, told_of before bytes text rest over read told, written)

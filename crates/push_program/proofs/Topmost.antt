@@ -14,7 +14,7 @@ use Rattle.yp_data_json.proofs.Growing.{within_more}
 use Rattle.yp_tree.proofs.Nexts.{less_not_greater}
 use Rattle.yp_edit.proofs.Alike.{IsBefore}
 use Rattle.yp_base.proofs.PathLaws.{within_itself}
-use Rattle.push_program.specs.Records.{is_above, roots_of}
+use Rattle.yp_base.specs.Paths.{is_above, topmost as roots_of}
 use Rattle.push_program.specs.Roots.{is_covered}
 
 -- what comes before a path isn't at or below it

@@ -14,12 +14,13 @@ use Rattle.yp_journal.specs.declared.reply.Reply.{Reply}
 use Rattle.yp_journal.specs.declared.subscription.Subscription.{Subscription}
 use Rattle.yp_journal.specs.History.{JournalState, next_id, next_state, reply_to, with_subscription}
 use Rattle.yp_script.specs.declared.script.Script.{Script}
+use Rattle.push_program.specs.Access.{visible_rows}
 use Rattle.push_program.specs.declared.progress.Progress.{Progress}
 use Rattle.push_program.specs.Desks.{Sending, with_lines, told_changes, notice_for, id_in}
-use Rattle.push_program.specs.Notices.{selection, made_at}
+use Rattle.push_program.specs.Notices.{made_at}
 use Rattle.push_program.specs.Progress.{AllMirror, Fits, Ready, TellsEdit, Advances}
-use Rattle.push_program.specs.Received.{changed_by}
-use Rattle.push_program.specs.Records.{change_record}
+use Rattle.yp_base.specs.Rows.{changed_by}
+use Rattle.yp_edit.specs.Records.{change_record}
 use Rattle.push_program.specs.Report.{reply_line}
 use Rattle.push_program.specs.Turns.{Turn}
 use Rattle.push_program.proofs.Mirror.{fits_next}
@@ -38,7 +39,7 @@ taken_is script turn before after n reply state at is told = record {
   replies = told ∙ (λ i. string_bytes before.replies ++ reply_line (at i) turn.lane turn.index (is i));
 }
 
-heard_all : (nodes : List SchemaNode) (before after : List Row) (changes : List Change) (mirrors : List (List Row)) → changed_by changes (selection nodes before) ≡ selection nodes after → AllMirror nodes before mirrors → AllMirror nodes after (map (changed_by changes) mirrors)
+heard_all : (nodes : List SchemaNode) (before after : List Row) (changes : List Change) (mirrors : List (List Row)) → changed_by changes (visible_rows nodes before) ≡ visible_rows nodes after → AllMirror nodes before mirrors → AllMirror nodes after (map (changed_by changes) mirrors)
 heard_all nodes before after changes [] is all = tt
 heard_all nodes before after changes (held ∷ mirrors) is all = (ap (changed_by changes) all.0 ∙ is, heard_all nodes before after changes mirrors is all.1)
 
@@ -55,15 +56,15 @@ written_is v f ws is =
 -- a patch tells what it changed of what may be read
 pub edit_advances : (script : Script) (lane index : ℕ) (patch : Patch) (before after : Progress) (changes : List Change) → Ready script before
     → Taken script (record { lane = lane; index = index; command = commands.Edit patch }) before after
-    → changes ≡ change_record (selection script.schema before.state.rows) (selection script.schema after.state.rows)
+    → changes ≡ change_record (visible_rows script.schema before.state.rows) (visible_rows script.schema after.state.rows)
     → after.desks.items ≡ map (λ (desk : Sending). with_lines script.schema script.start (told_changes desk.number after.state.position after.state.stamp changes after.state.subscriptions) desk) before.desks.items
     → after.mirrors.items ≡ map (changed_by changes) before.mirrors.items
     → Advances script (record { lane = lane; index = index; command = commands.Edit patch }) before after
 edit_advances script lane index patch before after changes ready taken is desks mirrors =
     let same : before.state.subscriptions ≡ after.state.subscriptions = ap (λ (state : JournalState). state.subscriptions) (sym taken.state) in
     let fits : Fits script.schema after.state = subst (λ (state : JournalState). Fits script.schema state) (sym taken.state) (fits_next script.schema before.state (commands.Edit patch) ready.fits) in
-    let leads : changed_by changes (selection script.schema before.state.rows) ≡ selection script.schema after.state.rows =
-    ap (λ cs. changed_by cs (selection script.schema before.state.rows)) is ∙ record_mirrors script.schema before.state.rows after.state.rows ready.fits.schema ready.fits.datastore fits.datastore in
+    let leads : changed_by changes (visible_rows script.schema before.state.rows) ≡ visible_rows script.schema after.state.rows =
+    ap (λ cs. changed_by cs (visible_rows script.schema before.state.rows)) is ∙ record_mirrors script.schema before.state.rows after.state.rows ready.fits.schema ready.fits.datastore fits.datastore in
     record {
       state = taken.state;
       replies = taken.replies;
@@ -83,8 +84,8 @@ pub tick_advances : (script : Script) (lane index tick : ℕ) (before after : Pr
 tick_advances script lane index tick before after ready taken desks mirrors =
     let same : before.state.subscriptions ≡ after.state.subscriptions = ap (λ (state : JournalState). state.subscriptions) (sym taken.state) in
     let rows : before.state.rows ≡ after.state.rows = ap (λ (state : JournalState). state.rows) (sym taken.state) in
-    let none : change_record (selection script.schema before.state.rows) (selection script.schema after.state.rows) ≡ [] =
-    ap (λ (now : List Row). change_record (selection script.schema before.state.rows) (selection script.schema now)) (sym rows) ∙ nothing_changed (selection script.schema before.state.rows) in
+    let none : change_record (visible_rows script.schema before.state.rows) (visible_rows script.schema after.state.rows) ≡ [] =
+    ap (λ (now : List Row). change_record (visible_rows script.schema before.state.rows) (visible_rows script.schema now)) (sym rows) ∙ nothing_changed (visible_rows script.schema before.state.rows) in
     record {
       state = taken.state;
       replies = taken.replies;
@@ -98,18 +99,18 @@ tick_advances script lane index tick before after ready taken desks mirrors =
       each = ap length mirrors ∙ ready.each ∙ ap length same;
     }
 
-one_more : (nodes : List SchemaNode) (rows : List Row) (mirrors : List (List Row)) → AllMirror nodes rows mirrors → AllMirror nodes rows (mirrors ++ selection nodes rows ∷ [])
+one_more : (nodes : List SchemaNode) (rows : List Row) (mirrors : List (List Row)) → AllMirror nodes rows mirrors → AllMirror nodes rows (mirrors ++ visible_rows nodes rows ∷ [])
 one_more nodes rows [] all = (refl, tt)
 one_more nodes rows (held ∷ mirrors) all = (all.0, one_more nodes rows mirrors all.1)
 
 -- a subscription that is established is told all that may be read
 pub full_advances : (script : Script) (lane index by id : ℕ) (before after : Progress) → Ready script before → Taken script (record { lane = lane; index = index; command = commands.Everything by }) before after
     → id ≡ next_id before.state.given
-    → after.desks.items ≡ map (λ (desk : Sending). with_lines script.schema script.start (notice_for by after.state.position after.state.stamp desk.number (Full id (selection script.schema after.state.rows))) desk) before.desks.items
-    → after.mirrors.items ≡ before.mirrors.items ++ selection script.schema after.state.rows ∷ []
+    → after.desks.items ≡ map (λ (desk : Sending). with_lines script.schema script.start (notice_for by after.state.position after.state.stamp desk.number (Full id (visible_rows script.schema after.state.rows))) desk) before.desks.items
+    → after.mirrors.items ≡ before.mirrors.items ++ visible_rows script.schema after.state.rows ∷ []
     → Advances script (record { lane = lane; index = index; command = commands.Everything by }) before after
 full_advances script lane index by id before after ready taken given desks mirrors =
-    let told : JournalState → ℕ → Sending → Sending = λ state n desk. with_lines script.schema script.start (notice_for by state.position state.stamp desk.number (Full n (selection script.schema state.rows))) desk in
+    let told : JournalState → ℕ → Sending → Sending = λ state n desk. with_lines script.schema script.start (notice_for by state.position state.stamp desk.number (Full n (visible_rows script.schema state.rows))) desk in
     let rows : before.state.rows ≡ after.state.rows = ap (λ (state : JournalState). state.rows) (sym taken.state) in
     record {
       state = taken.state;
@@ -121,9 +122,9 @@ full_advances script lane index by id before after ready taken given desks mirro
           (λ desk. ap (λ made. with_lines script.schema script.start made desk) (sym (made_full script.schema desk.number by before.state ready.fits.given ready.fits.ids))) before.desks.items
           ∙ (λ i. map (λ (desk : Sending). with_lines script.schema script.start (made_at script.schema desk.number before.state (sym taken.state i)) desk) before.desks.items);
       mirrors = subst (λ (now : List Row). AllMirror script.schema now after.mirrors.items) rows
-          (subst (λ (ms : List (List Row)). AllMirror script.schema before.state.rows ms) (sym (mirrors ∙ ap (λ (now : List Row). before.mirrors.items ++ selection script.schema now ∷ []) (sym rows))) (one_more script.schema before.state.rows before.mirrors.items ready.mirrors));
+          (subst (λ (ms : List (List Row)). AllMirror script.schema before.state.rows ms) (sym (mirrors ∙ ap (λ (now : List Row). before.mirrors.items ++ visible_rows script.schema now ∷ []) (sym rows))) (one_more script.schema before.state.rows before.mirrors.items ready.mirrors));
       each =
-          ap length mirrors ∙ length-append before.mirrors.items (selection script.schema after.state.rows ∷ []) ∙ ap (λ n. n + 1) ready.each
+          ap length mirrors ∙ length-append before.mirrors.items (visible_rows script.schema after.state.rows ∷ []) ∙ ap (λ n. n + 1) ready.each
           ∙ sym (length-append before.state.subscriptions (record { id = next_id before.state.given; receiver = by } ∷ [])) ∙ ap (λ (state : JournalState). length state.subscriptions) (sym taken.state);
     }
 
@@ -146,22 +147,22 @@ pub edit_turn : (script : Script) (lane index : ℕ) (command : Command) (patch 
     → Advances script (record { lane = lane; index = index; command = command }) before after
 edit_turn script lane index command patch before middle after is ready taken desks mirrors told =
     let told_in : JournalState → List Sending → List Sending = λ state.
-    map (λ (desk : Sending). with_lines script.schema script.start (told_changes desk.number state.position state.stamp (change_record (selection script.schema before.state.rows) (selection script.schema state.rows)) state.subscriptions) desk) in
-    let heard_in : JournalState → List (List Row) → List (List Row) = λ state. map (changed_by (change_record (selection script.schema before.state.rows) (selection script.schema state.rows))) in
+    map (λ (desk : Sending). with_lines script.schema script.start (told_changes desk.number state.position state.stamp (change_record (visible_rows script.schema before.state.rows) (visible_rows script.schema state.rows)) state.subscriptions) desk) in
+    let heard_in : JournalState → List (List Row) → List (List Row) = λ state. map (changed_by (change_record (visible_rows script.schema before.state.rows) (visible_rows script.schema state.rows))) in
     let all : Taken script (record { lane = lane; index = index; command = command }) before after = record {
       state = told.state ∙ taken.state;
       replies = told.replies ∙ taken.replies ∙ ap (λ (state : JournalState). string_bytes before.replies ++ reply_line state.position lane index (reply_to script.schema before.state command)) (sym told.state);
     } in
     subst (λ (c : Command). Advances script (record { lane = lane; index = index; command = c }) before after) (sym is)
-    (edit_advances script lane index patch before after (change_record (selection script.schema before.state.rows) (selection script.schema after.state.rows)) ready
+    (edit_advances script lane index patch before after (change_record (visible_rows script.schema before.state.rows) (visible_rows script.schema after.state.rows)) ready
     (subst (λ (c : Command). Taken script (record { lane = lane; index = index; command = c }) before after) is all) refl
     (told.desks ∙ (λ i. told_in (sym told.state i) (desks i)))
     (told.mirrors ∙ (λ i. heard_in (sym told.state i) (mirrors i))))
 
 pub full_turn : (script : Script) (lane index : ℕ) (command : Command) (by id : ℕ) (reply : Reply) (before after : Progress) → command ≡ commands.Everything by → Ready script before
     → Taken script (record { lane = lane; index = index; command = command }) before after → reply ≡ reply_to script.schema before.state command → id ≡ id_in reply
-    → after.desks.items ≡ map (λ (desk : Sending). with_lines script.schema script.start (notice_for by after.state.position after.state.stamp desk.number (Full id (selection script.schema after.state.rows))) desk) before.desks.items
-    → after.mirrors.items ≡ before.mirrors.items ++ selection script.schema after.state.rows ∷ []
+    → after.desks.items ≡ map (λ (desk : Sending). with_lines script.schema script.start (notice_for by after.state.position after.state.stamp desk.number (Full id (visible_rows script.schema after.state.rows))) desk) before.desks.items
+    → after.mirrors.items ≡ before.mirrors.items ++ visible_rows script.schema after.state.rows ∷ []
     → Advances script (record { lane = lane; index = index; command = command }) before after
 full_turn script lane index command by id reply before after is ready taken replied given desks mirrors =
     subst (λ (c : Command). Advances script (record { lane = lane; index = index; command = c }) before after) (sym is)
@@ -183,7 +184,7 @@ none_given (subscription ∷ subscriptions) none = absurd (omega arith)
 
 pub tells_none : (script : Script) (rows : List Row) (run : Progress) → length run.state.subscriptions ≡ 0 → length run.mirrors.items ≡ length run.state.subscriptions → TellsEdit script rows run run
 tells_none script rows run none each =
-    let changes = change_record (selection script.schema rows) (selection script.schema run.state.rows) in
+    let changes = change_record (visible_rows script.schema rows) (visible_rows script.schema run.state.rows) in
     record {
       state = refl;
       replies = refl;
@@ -195,7 +196,7 @@ tells_none script rows run none each =
     }
 
 -- what is told of edits that are the record
-pub tells_edits : (script : Script) (rows : List Row) (before after : Progress) (changes : List Change) → changes ≡ change_record (selection script.schema rows) (selection script.schema before.state.rows)
+pub tells_edits : (script : Script) (rows : List Row) (before after : Progress) (changes : List Change) → changes ≡ change_record (visible_rows script.schema rows) (visible_rows script.schema before.state.rows)
     → after.state ≡ before.state → string_bytes after.replies ≡ string_bytes before.replies
     → after.desks.items ≡ map (λ (desk : Sending). with_lines script.schema script.start (told_changes desk.number before.state.position before.state.stamp changes before.state.subscriptions) desk) before.desks.items
     → after.mirrors.items ≡ map (changed_by changes) before.mirrors.items

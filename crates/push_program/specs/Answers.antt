@@ -1,18 +1,14 @@
 -- What a status says of the words, the source and the sink.
-use Rattle.std.specs.Prelude.{◌≡◌, ℕ, List, [], ◌∷◌, ◌++◌, drop, Bool, true, false, codes, nat_eq, Option, Some, IfSome, Result, Ok, Err}
+use Rattle.std.specs.Prelude.{◌≡◌, ℕ, List, [], ◌∷◌, drop, Bool, true, false, codes, nat_eq, Option, Some, IfSome, Result, Ok, Err}
 use Rattle.std.specs.Cmp.Lexicographic.{pointwise}
 use Rattle.yp_io.specs.Causes.{Rose}
-use Rattle.yp_io.specs.Whole.{AppendsPrefix}
 use Rattle.yp_script.specs.declared.fault.ScriptFault.{ScriptFault}
 use Rattle.yp_script.specs.declared.fault.ScriptFault.TheVariants.{At, Memory}
 use Rattle.yp_script.specs.declared.script.Script.{Script}
 use Rattle.push_program.specs.declared.top.Status.{Status}
 use Rattle.push_program.specs.declared.top.Status.TheVariants.{Done, BadWords, BadScript, ReadFault, WriteFault, NoMemory}
-use Rattle.yp_journal.specs.History.{IsLegal, first_state}
-use Rattle.yp_schema.specs.WellFormed.{IsSchema}
-use Rattle.yp_script.specs.Script.{MayRun, script_in}
-use Rattle.push_program.specs.Report.{report_text}
-use Rattle.push_program.specs.Turns.{journal_of}
+use Rattle.yp_script.specs.Script.{script_in}
+use Rattle.push_program.specs.Promise.{WritesTold, WritesPrefix}
 
 -- the words are the one word run
 abbrev pub is_run : List (List ℕ) → Bool
@@ -39,32 +35,17 @@ ReadsAll s = IfSome s.left_before (λ bytes. s.left_after ≡ Some (drop 6710886
 abbrev pub WritesNothing : Streams → Type 0
 WritesNothing s = (s.written_after ≡ s.written_before) × (s.write_faults_after ≡ s.write_faults_before)
 
--- a script that can be run: its schema is one, and each of its commands may come
-pub record CanRun (script : Script) : Type 0 where
-  pub schema : IsSchema script.schema
-  pub commands : MayRun script
-
 -- a fault is that of the script, but where memory ran out
 abbrev pub Fails : ScriptFault → Result Script ScriptFault → Type 0
 Fails (At line kind) read = read ≡ Err (At line kind)
 Fails Memory read = Unit {0}
 
--- the report of the script that was read, whole
-abbrev pub WritesReport : Streams → Type 0
-WritesReport s = IfSome s.left_before (λ bytes.
-    (script : Script) × (script_in bytes ≡ Ok script) × CanRun script × IfSome s.written_before (λ before. s.written_after ≡ Some (before ++ report_text script)))
-
--- a front of the report
-abbrev pub WritesPrefix : Streams → Type 0
-WritesPrefix s = IfSome s.left_before (λ bytes.
-    (script : Script) × (script_in bytes ≡ Ok script) × IfSome s.written_before (λ before. AppendsPrefix before s.written_after (report_text script)))
-
 abbrev pub Answers : List (List ℕ) → Streams → Status → Type 0
-Answers words s Done = (is_run words ≡ true) × ReadsAll s × WritesReport s × (s.write_faults_after ≡ s.write_faults_before)
+Answers words s Done = (is_run words ≡ true) × ReadsAll s × WritesTold s.left_before s.written_before s.written_after × (s.write_faults_after ≡ s.write_faults_before)
 Answers words s BadWords = (is_run words ≡ false) × (s.left_after ≡ s.left_before) × (s.read_faults_after ≡ s.read_faults_before) × WritesNothing s
 Answers words s (BadScript line kind) = (is_run words ≡ true) × ReadsAll s × IfSome s.left_before (λ bytes. script_in bytes ≡ Err (At line kind)) × WritesNothing s
 Answers words s ReadFault = (is_run words ≡ true) × Rose s.read_faults_before s.read_faults_after × WritesNothing s
-Answers words s WriteFault = (is_run words ≡ true) × ReadsAll s × WritesPrefix s × Rose s.write_faults_before s.write_faults_after
+Answers words s WriteFault = (is_run words ≡ true) × ReadsAll s × WritesPrefix s.left_before s.written_before s.written_after × Rose s.write_faults_before s.write_faults_after
 Answers words s NoMemory = (is_run words ≡ true) × (s.read_faults_after ≡ s.read_faults_before) × WritesNothing s
 
 -- ---- what each status tells a caller, clause by clause
@@ -77,24 +58,6 @@ tells_good_words (BadScript line kind) = true
 tells_good_words ReadFault = true
 tells_good_words WriteFault = true
 tells_good_words NoMemory = true
-
--- of the bytes that were left, all of which are a script, the report was written, whole
-abbrev pub Reports : Option (List ℕ) → Option (List ℕ) → Option (List ℕ) → Type 0
-Reports left before after = IfSome left (λ bytes.
-    (script : Script) × (script_in bytes ≡ Ok script) × IfSome before (λ front. after ≡ Some (front ++ report_text script)))
-
--- what is promised of the script that the bytes were
-abbrev pub IsKept : (Script → Type 0) → Option (List ℕ) → Type 0
-IsKept Promise left = IfSome left (λ bytes. (script : Script) → script_in bytes ≡ Ok script → Promise script)
-
--- the journal that is replied is legal
-abbrev pub HasLegalJournal : Script → Type 0
-HasLegalJournal script = IsLegal script.schema (first_state script.receivers) (journal_of script)
-
--- a front of it was written
-abbrev pub ReportsFront : Option (List ℕ) → Option (List ℕ) → Option (List ℕ) → Type 0
-ReportsFront left before after = IfSome left (λ bytes.
-    (script : Script) × (script_in bytes ≡ Ok script) × IfSome before (λ front. AppendsPrefix front after (report_text script)))
 
 -- whether the source was read to its end, or past the most that a script has
 abbrev pub tells_whole_reading : Status → Bool

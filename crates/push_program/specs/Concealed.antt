@@ -1,4 +1,4 @@
--- What an update names: nothing that its receiver may not read (RFC 8641 section 3.8, RFC 8341 section 3.4.5); and that positions rise.
+-- What an update names: nothing that its receiver may not read (RFC 8641 section 3.8, RFC 8341 section 3.4.5); and that positions never fall.
 use Rattle.std.specs.Prelude.{◌≡◌, ℕ, ◌<◌, List, [], ◌∷◌, filter, true}
 use Rattle.std.specs.List.{AllByRecursion}
 use Rattle.yp_base.specs.declared.row.Row.{Row}
@@ -6,9 +6,8 @@ use Rattle.yp_base.specs.declared.notice.Change.{Change}
 use Rattle.yp_base.specs.declared.notice.Notice.{Notice}
 use Rattle.yp_base.specs.declared.notice.Notice.TheVariants.{Full, Changes, Started, Modified, Suspended, Resumed, Terminated}
 use Rattle.yp_schema.specs.declared.schema.SchemaNode.{SchemaNode}
-use Rattle.yp_script.specs.declared.script.Script.{Script}
 use Rattle.push_program.specs.Access.{is_readable}
-use Rattle.push_program.specs.Notices.{Made, made_by}
+use Rattle.push_program.specs.Notices.{Made}
 use Rattle.push_program.specs.Received.{updates}
 
 -- each of these rows may be read
@@ -29,15 +28,15 @@ NamesReadable nodes (Suspended id) = Unit {0}
 NamesReadable nodes (Resumed id) = Unit {0}
 NamesReadable nodes (Terminated id) = Unit {0}
 
--- no notice for a receiver names what may not be read
-abbrev pub Conceals : Script → Type 0
-Conceals script = (receiver : ℕ) → AllByRecursion (λ made. NamesReadable script.schema made.notice) (made_by script receiver)
+-- nothing that was made names what may not be read
+abbrev pub Conceals : List SchemaNode → List Made → Type 0
+Conceals nodes made = AllByRecursion (λ update. NamesReadable nodes update.notice) made
 
 -- each of these was made at a position past that of the one before, the first past n
 abbrev pub RisesPast : ℕ → List Made → Type 0
 RisesPast n [] = Unit {0}
 RisesPast n (made ∷ more) = (n < made.position) × RisesPast made.position more
 
--- the positions of a subscription's updates rise
-abbrev pub Rises : Script → Type 0
-Rises script = (receiver id : ℕ) → RisesPast 0 (filter (λ made. updates id made.notice) (made_by script receiver))
+-- the positions of a subscription's updates never fall, and no two are the same
+abbrev pub NeverFall : List Made → Type 0
+NeverFall made = (id : ℕ) → RisesPast 0 (filter (λ update. updates id update.notice) made)

@@ -2,10 +2,11 @@ pub mod Access
 pub mod Answers
 pub mod Concealed
 pub mod Desks
+pub mod Journal
 pub mod Notices
 pub mod Progress
+pub mod Promise
 pub mod Received
-pub mod Records
 pub mod Report
 pub mod Roots
 pub mod Turns

@@ -1,28 +1,35 @@
 -- The updates of subscriptions of everything (RFC 8641 sections 3.7 and 3.9): a full update where a subscription is established, and then the record of each step that changes what its receiver may read.
-use Rattle.std.specs.Prelude.{ℕ, ◌==◌, List, [], ◌∷◌, ◌++◌, map, Bool, false, if◌then◌else◌}
-use Rattle.std.specs.List.{list_any}
+use Rattle.std.specs.Prelude.{ℕ, ◌+◌, ◌==◌, List, [], ◌∷◌, ◌++◌, map, take, Bool, false, Option, if◌then◌else◌}
+use Rattle.std.specs.List.{find, list_any}
 use Rattle.yp_base.specs.declared.row.Row.{Row}
 use Rattle.yp_base.specs.declared.notice.Change.{Change}
 use Rattle.yp_base.specs.declared.notice.Notice.{Notice}
 use Rattle.yp_base.specs.declared.notice.Notice.TheVariants.{Full, Changes}
 use Rattle.yp_schema.specs.declared.schema.SchemaNode.{SchemaNode}
 use Rattle.yp_journal.specs.declared.entry.Entry.{Entry}
+use Rattle.yp_journal.specs.declared.receiver.ReceiverInfo.{ReceiverInfo}
 use Rattle.yp_journal.specs.declared.subscription.Subscription.{Subscription}
-use Rattle.yp_journal.specs.History.{JournalState, first_state, next_state}
-use Rattle.yp_script.specs.declared.script.Script.{Script}
+use Rattle.yp_journal.specs.History.{JournalState, first_state, next_state, state_of}
 use Rattle.push_program.specs.Access.{visible_rows}
-use Rattle.push_program.specs.Records.{change_record}
-use Rattle.push_program.specs.Turns.{journal_of}
+use Rattle.yp_edit.specs.Records.{change_record}
 
--- what a subscription of everything selects
-abbrev pub selection : List SchemaNode → List Row → List Row
-selection nodes rows = visible_rows nodes rows
+-- the state that the entries of a journal up to a position leave
+abbrev pub state_at : List SchemaNode → List ReceiverInfo → List Entry → ℕ → JournalState
+state_at nodes receivers entries n = state_of nodes (first_state receivers) (take n entries)
+
+-- what a subscription selects at a state: all that its receiver may read
+abbrev pub want : List SchemaNode → JournalState → Subscription → List Row
+want nodes state subscription = visible_rows nodes state.rows
 
 -- a notice, with the position of the journal and the tick at which it was made
 pub record Made : Type 0 where
   pub position : ℕ
   pub stamp : ℕ
   pub notice : Notice
+
+-- the subscription of an id
+abbrev pub of_id : ℕ → List Subscription → Option Subscription
+of_id id subscriptions = find (λ subscription. subscription.id == id) subscriptions
 
 abbrev pub is_given : ℕ → List Subscription → Bool
 is_given id subscriptions = list_any (λ subscription. subscription.id == id) subscriptions
@@ -36,8 +43,8 @@ change_update id n (change ∷ changes) = Changes id n (change ∷ changes) fals
 abbrev pub updates_of : List SchemaNode → JournalState → JournalState → Subscription → List Notice
 updates_of nodes before after subscription =
     if is_given subscription.id before.subscriptions
-    then change_update subscription.id after.position (change_record (selection nodes before.rows) (selection nodes after.rows))
-    else Full subscription.id (selection nodes after.rows) ∷ []
+    then change_update subscription.id after.position (change_record (want nodes before subscription) (want nodes after subscription))
+    else Full subscription.id (want nodes after subscription) ∷ []
 
 -- notices that are made at the position and the tick of a state
 abbrev pub made_of : JournalState → List Notice → List Made
@@ -59,6 +66,11 @@ made_from nodes receiver state [] = []
 made_from nodes receiver state (entry ∷ entries) =
     made_at nodes receiver state (next_state nodes state entry.command) ++ made_from nodes receiver (next_state nodes state entry.command) entries
 
--- all that is made for a receiver in a run of a script
-abbrev pub made_by : Script → ℕ → List Made
-made_by script receiver = made_from script.schema receiver (first_state script.receivers) (journal_of script)
+-- all that a journal makes for the receiver of this number
+abbrev pub made_by : List SchemaNode → List ReceiverInfo → List Entry → ℕ → List Made
+made_by nodes receivers entries receiver = made_from nodes receiver (first_state receivers) entries
+
+-- the same for receivers in order, the first of which has this number
+abbrev pub made_for_each : (ℕ → List Made) → ℕ → List ReceiverInfo → List (List Made)
+made_for_each made number [] = []
+made_for_each made number (receiver ∷ receivers) = made number ∷ made_for_each made (number + 1) receivers

@@ -9,10 +9,11 @@ use Rattle.yp_journal.specs.declared.subscription.Subscription.{Subscription}
 use Rattle.yp_journal.specs.History.{JournalState, first_state, next_id, next_state, reply_to, state_of}
 use Rattle.yp_script.specs.declared.script.Script.{Script}
 use Rattle.push_program.specs.declared.progress.Progress.{Progress}
+use Rattle.push_program.specs.Access.{visible_rows}
 use Rattle.push_program.specs.Desks.{Sending, with_lines, told_changes, desks_for}
-use Rattle.push_program.specs.Notices.{selection, made_at, made_from, made_by}
-use Rattle.push_program.specs.Received.{changed_by}
-use Rattle.push_program.specs.Records.{change_record}
+use Rattle.push_program.specs.Notices.{made_at, made_from, made_by}
+use Rattle.yp_base.specs.Rows.{changed_by}
+use Rattle.yp_edit.specs.Records.{change_record}
 use Rattle.push_program.specs.Report.{reply_line, reply_lines, tree_line}
 use Rattle.push_program.specs.Turns.{Turn, entries_from, journal_of}
 
@@ -30,7 +31,7 @@ pub record Fits (nodes : List SchemaNode) (state : JournalState) : Type 0 where
 
 -- each of these is fresh selection of the rows
 abbrev pub AllMirror : List SchemaNode → List Row → List (List Row) → Type 0
-AllMirror nodes rows mirrors = AllByRecursion (λ held. held ≡ selection nodes rows) mirrors
+AllMirror nodes rows mirrors = AllByRecursion (λ held. held ≡ visible_rows nodes rows) mirrors
 
 -- what a turn finds: a state that turns leave, and fresh selection held of each subscription
 pub record Ready (script : Script) (run : Progress) : Type 0 where
@@ -43,8 +44,8 @@ pub record Ready (script : Script) (run : Progress) : Type 0 where
 pub record TellsEdit (script : Script) (rows : List Row) (before after : Progress) : Type 0 where
   pub state : after.state ≡ before.state
   pub replies : string_bytes after.replies ≡ string_bytes before.replies
-  pub desks : after.desks.items ≡ map (λ desk. with_lines script.schema script.start (told_changes desk.number before.state.position before.state.stamp (change_record (selection script.schema rows) (selection script.schema before.state.rows)) before.state.subscriptions) desk) before.desks.items
-  pub mirrors : after.mirrors.items ≡ map (changed_by (change_record (selection script.schema rows) (selection script.schema before.state.rows))) before.mirrors.items
+  pub desks : after.desks.items ≡ map (λ desk. with_lines script.schema script.start (told_changes desk.number before.state.position before.state.stamp (change_record (visible_rows script.schema rows) (visible_rows script.schema before.state.rows)) before.state.subscriptions) desk) before.desks.items
+  pub mirrors : after.mirrors.items ≡ map (changed_by (change_record (visible_rows script.schema rows) (visible_rows script.schema before.state.rows))) before.mirrors.items
 
 -- what a turn adds
 pub record Advances (script : Script) (turn : Turn) (before after : Progress) : Type 0 where
@@ -58,7 +59,7 @@ pub record Advances (script : Script) (turn : Turn) (before after : Progress) : 
 pub record Goes (script : Script) (left : List Turn) (run : Progress) : Type 0 where
   pub state : state_of script.schema run.state (entries_from script.schema run.state left) ≡ state_of script.schema (first_state script.receivers) (journal_of script)
   pub replies : string_bytes run.replies ++ reply_lines run.state.position (entries_from script.schema run.state left) ≡ reply_lines 0 (journal_of script)
-  pub desks : map (λ desk. with_lines script.schema script.start (made_from script.schema desk.number run.state (entries_from script.schema run.state left)) desk) run.desks.items ≡ desks_for script.schema script.start (made_by script) 0 script.receivers
+  pub desks : map (λ desk. with_lines script.schema script.start (made_from script.schema desk.number run.state (entries_from script.schema run.state left)) desk) run.desks.items ≡ desks_for script.schema script.start (made_by script.schema script.receivers (journal_of script)) 0 script.receivers
 
 -- the line of what is held of a subscription, where that is the receiver's
 abbrev pub held_line : List SchemaNode → Sending → Subscription → List Row → List ℕ
@@ -67,7 +68,7 @@ held_line nodes desk subscription rows = if subscription.receiver == desk.number
 -- those of subscriptions in order, fresh selection being held of each
 abbrev pub mirror_lines : List SchemaNode → Sending → List Row → List Subscription → List ℕ
 mirror_lines nodes desk rows [] = []
-mirror_lines nodes desk rows (subscription ∷ subscriptions) = held_line nodes desk subscription (selection nodes rows) ++ mirror_lines nodes desk rows subscriptions
+mirror_lines nodes desk rows (subscription ∷ subscriptions) = held_line nodes desk subscription (visible_rows nodes rows) ++ mirror_lines nodes desk rows subscriptions
 
 -- the lines of receivers: what each was sent, and what is held of its subscriptions
 abbrev pub desk_lines : List SchemaNode → List Row → List Subscription → List Sending → List ℕ

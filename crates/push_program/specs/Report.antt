@@ -1,5 +1,5 @@
 -- The report of a run: replies by position, then for each receiver what it was sent and its trees, and `end`.
-use Rattle.std.specs.Prelude.{ℕ, ◌+◌, ◌==◌, List, [], ◌∷◌, ◌++◌, true, Option, Some, None, if◌then◌else◌, codes, decimal}
+use Rattle.std.specs.Prelude.{ℕ, ◌+◌, List, [], ◌∷◌, ◌++◌, true, Option, Some, None, codes, decimal}
 use Rattle.serde_json.specs.Data.{Data, boolean, number, unsigned, string, object, Members, no_members, member}
 use Rattle.serde_json.specs.Written.{compact_text}
 use Rattle.yp_base.specs.declared.notice.Notice.{Notice}
@@ -13,12 +13,8 @@ use Rattle.yp_journal.specs.declared.entry.Entry.{Entry}
 use Rattle.yp_journal.specs.declared.receiver.ReceiverInfo.{ReceiverInfo}
 use Rattle.yp_journal.specs.declared.reply.Reply.{Reply}
 use Rattle.yp_journal.specs.declared.reply.Reply.TheVariants.{Id, Done, Edit}
-use Rattle.yp_journal.specs.declared.subscription.Subscription.{Subscription}
-use Rattle.yp_journal.specs.History.{first_state, state_of}
-use Rattle.yp_script.specs.declared.script.Script.{Script}
-use Rattle.push_program.specs.Notices.{Made, made_by}
-use Rattle.push_program.specs.Received.{received}
-use Rattle.push_program.specs.Turns.{journal_of}
+use Rattle.push_program.specs.Notices.{Made}
+use Rattle.push_program.specs.Received.{received, updated_ids}
 
 -- ---- replies
 
@@ -65,27 +61,23 @@ abbrev pub tree_if : List SchemaNode → List ℕ → ℕ → Option (List Row) 
 tree_if nodes name id None = []
 tree_if nodes name id (Some rows) = tree_line nodes name id rows
 
--- by these subscriptions in order, where they are the receiver's of this number
-abbrev pub tree_lines : List SchemaNode → List ℕ → ℕ → List Made → List Subscription → List ℕ
-tree_lines nodes name receiver made [] = []
-tree_lines nodes name receiver made (subscription ∷ subscriptions) =
-    (if subscription.receiver == receiver then tree_if nodes name subscription.id (received subscription.id None made) else []) ++ tree_lines nodes name receiver made subscriptions
+-- the trees of these ids, of what was made
+abbrev pub tree_lines : List SchemaNode → List ℕ → List Made → List ℕ → List ℕ
+tree_lines nodes name made [] = []
+tree_lines nodes name made (id ∷ ids) = tree_if nodes name id (received id None made) ++ tree_lines nodes name made ids
 
 -- ---- the whole
 
--- the subscriptions that a run of a script gives, in ascending order of their ids
-abbrev pub given_by : Script → List Subscription
-given_by script = (state_of script.schema (first_state script.receivers) (journal_of script)).subscriptions
+-- what a receiver was made, and the trees of the ids that had an update
+abbrev pub receiver_lines : List SchemaNode → ℕ → ReceiverInfo → List Made → List ℕ
+receiver_lines nodes start receiver made = sent_lines nodes start receiver.name made ++ tree_lines nodes receiver.name made (updated_ids made)
 
-abbrev pub receiver_lines : Script → ℕ → ReceiverInfo → List ℕ
-receiver_lines script place receiver =
-    sent_lines script.schema script.start receiver.name (made_by script place)
-    ++ tree_lines script.schema receiver.name place (made_by script place) (given_by script)
+-- the same of receivers in order
+abbrev pub all_receiver_lines : List SchemaNode → ℕ → List ReceiverInfo → List (List Made) → List ℕ
+all_receiver_lines nodes start (receiver ∷ receivers) (mine ∷ made) = receiver_lines nodes start receiver mine ++ all_receiver_lines nodes start receivers made
+all_receiver_lines nodes start [] made = []
+all_receiver_lines nodes start (receiver ∷ receivers) [] = []
 
--- those of receivers in order, the first of which has this place
-abbrev pub all_receiver_lines : Script → ℕ → List ReceiverInfo → List ℕ
-all_receiver_lines script place [] = []
-all_receiver_lines script place (receiver ∷ receivers) = receiver_lines script place receiver ++ all_receiver_lines script (place + 1) receivers
-
-abbrev pub report_text : Script → List ℕ
-report_text script = reply_lines 0 (journal_of script) ++ (all_receiver_lines script 0 script.receivers ++ codes "end\n")
+-- the report of the entries of a journal and of what was made for each receiver
+abbrev pub report_text : List SchemaNode → ℕ → List ReceiverInfo → List Entry → List (List Made) → List ℕ
+report_text nodes start receivers entries made = reply_lines 0 entries ++ (all_receiver_lines nodes start receivers made ++ codes "end\n")

@@ -25,12 +25,10 @@ fn are_all_open(schema: &Schema, nodes: &[u32]) -> bool
 }
 
 /// Whether the node of a segment is open, with the key leaves of its list.
-#[tactic(auto, using(yp_data_json::proofs::Schemas::keys_within))]
 fn is_open_segment(schema: &Schema, segment: &Seg) -> bool
     requires { segment.now.node < length schema.now }
     ensures { result ≡ is_open schema.now segment.now }
 {
-    let _count = schema.count();
     if schema.deny_all(segment.node) {
         return false;
     }

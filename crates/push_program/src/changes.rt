@@ -6,9 +6,8 @@ ghost use Rattle.yp_base.specs.Rows.{value_at};
 ghost use Rattle.yp_schema.specs.Datastore.{is_path_of, IsRowOf, IsDatastore};
 ghost use Rattle.yp_edit.specs.Changes.{changed_rows};
 ghost use Rattle.yp_encode.specs.Sendable.{IsSendableChange};
-ghost use Rattle.push_program.specs.Access.{is_readable};
-ghost use Rattle.push_program.specs.Notices.{selection};
-ghost use Rattle.push_program.specs.Records.{change_record};
+ghost use Rattle.push_program.specs.Access.{is_readable, visible_rows};
+ghost use Rattle.yp_edit.specs.Records.{change_record};
 ghost use Rattle.push_program.specs.Roots.{is_covered, kind_of, carried_below, edit_of, visits_at, record_visits};
 
 use crate::access::{may_read, read_visible};
@@ -64,7 +63,7 @@ fn carried_below<L: Ledger>(
     steps: &mut Steps<L>,
 ) -> Result<Rows, NoMemory>
     requires { AllByRecursion (IsRowOf schema.now) rows.now }
-    ensures carried { IfOk result (λ carried. carried ≡ carried_below (selection schema.now rows.now) row.now) }
+    ensures carried { IfOk result (λ carried. carried ≡ carried_below (visible_rows schema.now rows.now) row.now) }
     ensures visits { OnOk result (steps.new ≤ steps.old + visits_at rows.now row.now.path) }
 {
     if row.new.is_some() {
@@ -88,7 +87,7 @@ fn edit_of<L: Ledger>(
     requires path { is_path_of schema.now row.now.path ≡ true }
     requires readable { is_readable schema.now row.now.path ≡ true }
     requires value { row.now.new ≡ value_at row.now.path rows.now }
-    ensures edit { IfOk result (λ edit. edit ≡ edit_of (selection schema.now rows.now) row.now) }
+    ensures edit { IfOk result (λ edit. edit ≡ edit_of (visible_rows schema.now rows.now) row.now) }
     ensures sendable { IfOk result (λ edit. IsSendableChange schema.now edit) }
     ensures visits { OnOk result (steps.new ≤ steps.old + visits_at rows.now row.now.path) }
 {
@@ -116,7 +115,7 @@ pub fn record_of<L: Ledger>(
     requires datastore { IsDatastore schema.now rows.now }
     requires changed { (before : List Row) × IsDatastore schema.now before × (changed.now ≡ changed_rows before rows.now) }
     ensures changes { IfOk result (λ changes. (before : List Row) → IsDatastore schema.now before → changed.now ≡ changed_rows before rows.now
-        → changes ≡ change_record (selection schema.now before) (selection schema.now rows.now)) }
+        → changes ≡ change_record (visible_rows schema.now before) (visible_rows schema.now rows.now)) }
     ensures sendable { IfOk result (λ changes. AllByRecursion (IsSendableChange schema.now) changes) }
     ensures visits { IfOk result (λ changes. steps.new ≤ steps.old + record_visits rows.now changes) }
 {

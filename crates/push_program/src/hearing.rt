@@ -1,8 +1,7 @@
 //! What a receiver holds of a subscription: the fold of its notices (RFC 8641 section 3.7).
 ghost use Rattle.std.specs.Prelude.{◌≡◌, [], IfOk, OnOk, map};
 ghost use Rattle.std.specs.List.{AllByRecursion};
-ghost use Rattle.yp_base.specs.Rows.{AreInOrder, put_rows, rows_without};
-ghost use Rattle.push_program.specs.Received.{changed_by};
+ghost use Rattle.yp_base.specs.Rows.{AreInOrder, put_rows, rows_without, changed_by};
 
 use std::alloc::Global;
 use yp_base::memory::{Duplicate, NoMemory};

@@ -2,8 +2,10 @@
 ghost use Rattle.std.specs.Prelude.{◌≡◌, ◌≤◌, ◌<◌, ◌++◌, [], IfOk, OnOk, codes, string_bytes};
 ghost use Rattle.yp_schema.specs.Datastore.{AreWritable};
 ghost use Rattle.yp_script.specs.Script.{MayRun, count_commands};
+ghost use Rattle.push_program.specs.Notices.{made_by, made_for_each};
 ghost use Rattle.push_program.specs.Progress.{Ready, held_line, mirror_lines, desk_lines};
 ghost use Rattle.push_program.specs.Report.{report_text};
+ghost use Rattle.push_program.specs.Turns.{journal_of};
 
 use crate::desk::Desk;
 use crate::progress::Progress;
@@ -87,7 +89,7 @@ fn report_with<L: Ledger>(alloc: Global, script: &Script, blank: Blank) -> Resul
     requires some { 0 < L.parts }
     requires commands { MayRun script.now }
     requires few { count_commands script.now ≤ 100000 }
-    ensures { IfOk result (λ text. string_bytes text ≡ report_text script.now) }
+    ensures { IfOk result (λ text. string_bytes text ≡ report_text script.now.schema script.now.start script.now.receivers (journal_of script.now) (made_for_each (made_by script.now.schema script.now.receivers (journal_of script.now)) 0 script.now.receivers)) }
 {
     let mut steps = Steps::<L>::open(blank);
     let run = run_all(alloc, script, &mut steps)?;
@@ -103,7 +105,7 @@ fn report_with<L: Ledger>(alloc: Global, script: &Script, blank: Blank) -> Resul
 pub fn report(alloc: Global, script: &Script) -> Result<String, NoMemory>
     requires commands { MayRun script.now }
     requires few { count_commands script.now ≤ 100000 }
-    ensures { IfOk result (λ text. string_bytes text ≡ report_text script.now) }
+    ensures { IfOk result (λ text. string_bytes text ≡ report_text script.now.schema script.now.start script.now.receivers (journal_of script.now) (made_for_each (made_by script.now.schema script.now.receivers (journal_of script.now)) 0 script.now.receivers)) }
 {
     report_with::<Brand>(alloc, script, Blank::new(1))
 }

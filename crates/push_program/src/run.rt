@@ -8,10 +8,10 @@ ghost use Rattle.yp_edit.specs.Changes.{changed_rows};
 ghost use Rattle.yp_encode.specs.Sendable.{IsSendableChange};
 ghost use Rattle.yp_journal.specs.History.{MayCome};
 ghost use Rattle.yp_script.specs.Script.{MayRun, count_commands};
+ghost use Rattle.push_program.specs.Access.{visible_rows};
 ghost use Rattle.push_program.specs.Desks.{with_lines, told_changes, notice_for, bare_desks, id_in};
-ghost use Rattle.push_program.specs.Notices.{selection};
 ghost use Rattle.push_program.specs.Progress.{Ready, TellsEdit, Advances, Goes};
-ghost use Rattle.push_program.specs.Received.{changed_by};
+ghost use Rattle.yp_base.specs.Rows.{changed_by};
 ghost use Rattle.push_program.specs.Turns.{Turn, turns_of, lane_turns, turns_in};
 
 use crate::changes::record_of;
@@ -104,8 +104,8 @@ fn tell_full<L: Ledger>(
     steps: &mut Steps<L>,
 ) -> Result<(), NoMemory>
     requires { AllByRecursion (IsRowOf script.now.schema) state.now.rows }
-    ensures desks { OnOk result (desks.new ≡ map (λ desk. with_lines script.now.schema script.now.start (notice_for by state.now.position state.now.stamp desk.number (Full id (selection script.now.schema state.now.rows))) desk) desks.old) }
-    ensures mirrors { OnOk result (mirrors.new.items ≡ mirrors.old.items ++ selection script.now.schema state.now.rows ∷ []) }
+    ensures desks { OnOk result (desks.new ≡ map (λ desk. with_lines script.now.schema script.now.start (notice_for by state.now.position state.now.stamp desk.number (Full id (visible_rows script.now.schema state.now.rows))) desk) desks.old) }
+    ensures mirrors { OnOk result (mirrors.new.items ≡ mirrors.old.items ++ visible_rows script.now.schema state.now.rows ∷ []) }
 {
     let selected = select(alloc, &script.schema, state.tree(), steps)?;
     mirrors.push(hear_full(alloc, &selected)?)?;

@@ -2,12 +2,9 @@
 ghost use Rattle.std.specs.Prelude.{◌≡◌, ◌≤◌, ℕ, true, not, length, take, drop, IfSome, IfOk, IfErr, Some, [], Ok, Err, string_bytes};
 ghost use Rattle.yp_script.specs.declared.fault.ScriptFault.TheVariants.{At};
 ghost use Rattle.yp_script.specs.declared.fault.ScriptKind.{ScriptKind as Kind};
-ghost use Rattle.yp_script.specs.declared.script.Script.{Script as ReadScript};
 ghost use Rattle.push_program.specs.declared.top.Status.TheVariants.{Done, BadWords, BadScript, WriteFault};
-ghost use Rattle.push_program.specs.Answers.{Answers, CanRun, Fails, is_run, tells_good_words, tells_whole_reading, tells_no_writing, Reports, ReportsFront, IsKept, HasLegalJournal, TellsReading, TellsWriting, IsComplete};
-ghost use Rattle.push_program.specs.Concealed.{Conceals, Rises};
-ghost use Rattle.push_program.specs.Received.{Mirrors};
-ghost use Rattle.push_program.specs.Report.{report_text};
+ghost use Rattle.push_program.specs.Answers.{Answers, Fails, is_run, tells_good_words, tells_whole_reading, tells_no_writing, TellsReading, TellsWriting, IsComplete};
+ghost use Rattle.push_program.specs.Promise.{Tells, WritesTold, WritesPrefix};
 ghost use Rattle.yp_script.specs.Script.{script_in};
 
 use crate::report::report;
@@ -30,7 +27,7 @@ pub enum Status {
     BadScript { line: u32, kind: ScriptKind },
     /// A read failed. Nothing was written.
     ReadFault,
-    /// A write failed; a front of the report was written.
+    /// A write failed; a prefix of the report was written.
     WriteFault,
     /// Memory ran out. Nothing was written.
     NoMemory,
@@ -49,9 +46,10 @@ fn are_run(words: &[Txt]) -> bool
     }
 }
 
-/// The report of a script, or its first fault.
+/// The report of the script that bytes are, or its first fault.
+#[tactic(auto, using(crate::proofs::Promises::tells))]
 fn text_of(alloc: Global, bytes: &[u8]) -> Result<String, ScriptFault>
-    ensures text { IfOk result (λ text. (script : ReadScript) × (script_in bytes.now ≡ Ok script) × CanRun script × (string_bytes text ≡ report_text script)) }
+    ensures text { IfOk result (λ text. Tells bytes.now (string_bytes text)) }
     ensures fault { IfErr result (λ fault. Fails fault (script_in bytes.now)) }
 {
     match read_script(alloc, bytes) {
@@ -101,10 +99,10 @@ fn answer<S: Source, K: Sink>(alloc: Global, words: &[Txt], source: &mut S, sink
 
 /// Reads a script from a source to its end, runs it, and writes its report to a sink.
 ///
-/// `words` are the words of the command line behind the program's name. `Done` says that the report of
-/// the script was written, whole, and that of all that it tells each update left the receiver's rows
-/// equal to fresh selection at its position. A fault of the script is told with its line and kind,
-/// and a failed read or write by a status of its own; want of memory leaves the sink as it was.
+/// `words` are the arguments after the program's name. `Done` says that a text was written, whole, that
+/// tells of the script's run (`Tells`): the report of a legal journal of its commands, and of what each
+/// receiver was made by it. A fault of the script is told with its line and kind, and a failed read or
+/// write by a status of its own; where memory runs out, the sink stays as it was.
 pub fn push_main<S: Source, K: Sink>(
     alloc: Global,
     words: &[Txt],
@@ -113,17 +111,13 @@ pub fn push_main<S: Source, K: Sink>(
 ) -> Status
     ensures words { tells_good_words result ≡ is_run words.now }
     ensures unread { result ≡ BadWords → S.left source.new ≡ S.left source.old }
-    ensures done { result ≡ Done → Reports (S.left source.old) (K.written sink.old) (K.written sink.new) }
-    ensures mirrored { result ≡ Done → IsKept Mirrors (S.left source.old) }
-    ensures rising { result ≡ Done → IsKept Rises (S.left source.old) }
-    ensures concealed { result ≡ Done → IsKept Conceals (S.left source.old) }
-    ensures legal { result ≡ Done → IsKept HasLegalJournal (S.left source.old) }
+    ensures told { result ≡ Done → WritesTold (S.left source.old) (K.written sink.old) (K.written sink.new) }
     ensures end { result ≡ Done → IfSome (S.left source.old) (λ bytes. S.left source.new ≡ Some []) }
     ensures read { tells_whole_reading result ≡ true → IfSome (S.left source.old) (λ bytes. S.left source.new ≡ Some (drop 67108865 bytes)) }
     ensures script { (line : ℕ) (kind : Kind) → result ≡ BadScript line kind → IfSome (S.left source.old) (λ bytes. script_in bytes ≡ Err (At line kind)) }
     ensures reading { TellsReading result (S.faults source.old) (S.faults source.new) }
     ensures writing { TellsWriting result (K.faults sink.old) (K.faults sink.new) }
-    ensures front { result ≡ WriteFault → ReportsFront (S.left source.old) (K.written sink.old) (K.written sink.new) }
+    ensures front { result ≡ WriteFault → WritesPrefix (S.left source.old) (K.written sink.old) (K.written sink.new) }
     ensures unwritten { tells_no_writing result ≡ true → K.written sink.new ≡ K.written sink.old }
     ensures complete { IsComplete words.now (record {
       left_before = S.left source.old;

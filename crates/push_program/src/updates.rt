@@ -3,8 +3,8 @@ ghost use Rattle.std.specs.Prelude.{◌≡◌, ◌≤◌, [], IfOk, OnOk, map};
 ghost use Rattle.std.specs.List.{AllByRecursion};
 ghost use Rattle.yp_schema.specs.Datastore.{IsRowOf, AreWritable};
 ghost use Rattle.yp_encode.specs.Sendable.{IsSendable, IsSendableChange};
+ghost use Rattle.push_program.specs.Access.{visible_rows};
 ghost use Rattle.push_program.specs.Desks.{with_lines, changes_for, notice_for};
-ghost use Rattle.push_program.specs.Notices.{selection};
 
 use crate::access::read_visible;
 use crate::desk::Desk;
@@ -41,7 +41,7 @@ pub fn select<L: Ledger>(
     steps: &mut Steps<L>,
 ) -> Result<Rows, NoMemory>
     requires { AllByRecursion (IsRowOf schema.now) rows.now }
-    ensures rows { IfOk result (λ selected. selected ≡ selection schema.now rows.now) }
+    ensures rows { IfOk result (λ selected. selected ≡ visible_rows schema.now rows.now) }
     ensures writable { IfOk result (λ selected. AreWritable schema.now [] selected) }
 {
     let _len = rows.len();

@@ -1,5 +1,5 @@
 use Rattle.std.proofs.Common.{◌≡◌, ◌++◌, map, take, drop}
-use Rattle.push_program.specs.Received.{changed_by}
+use Rattle.yp_base.specs.Rows.{changed_by}
 use Rattle.push_program.proofs.hearing.all_hear.Given as goal
 
 -- those up to here have heard

@@ -1,5 +1,5 @@
 use Rattle.std.proofs.Common.{◌≡◌, drop}
-use Rattle.push_program.specs.Received.{changed_by}
+use Rattle.yp_base.specs.Rows.{changed_by}
 use Rattle.push_program.proofs.hearing.hear_changes.Given as goal
 
 -- what is left to hear comes to what all comes to

@@ -14,4 +14,4 @@ returns-clause-goes c =
 pub returns-clause-ready : goal.returns-clause-ready
 returns-clause-ready c =
     let run : Progress = record { state = c.in_ok-new.field-0; replies = c.new-2.result; desks = c.in_ok-desks_of.field-0; mirrors = c.new-3.result } in
-    ready_first c.args.script.now run (fits_first c.args.script.now c.count-count.ensures.schema) (c.in_ok-new.ensures.opening ∙ ap first_state (c.items.ensures ∙ c.in_ok-receivers.ensures)) c.new-3.ensures.items
+    ready_first c.args.script.now run (fits_first c.args.script.now.schema c.args.script.now.receivers c.count-count.ensures.schema) (c.in_ok-new.ensures.opening ∙ ap first_state (c.items.ensures ∙ c.in_ok-receivers.ensures)) c.new-3.ensures.items

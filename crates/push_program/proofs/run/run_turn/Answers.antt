@@ -1,9 +1,9 @@
 use Rattle.std.proofs.Common.{List, map, length, refl, sym, ap, ◌∙◌}
 use Rattle.std.specs.Vec.{with_items}
 use Rattle.yp_journal.specs.declared.subscription.Subscription.{Subscription}
+use Rattle.push_program.specs.Access.{visible_rows}
 use Rattle.push_program.specs.declared.progress.Progress.{Progress}
 use Rattle.push_program.specs.Desks.{Sending, with_lines, notice_for}
-use Rattle.push_program.specs.Notices.{selection}
 use Rattle.push_program.specs.Turns.{Turn}
 use Rattle.push_program.proofs.TurnLaws.{Taken, taken_is, tick_turn, edit_keeps, edit_turn, full_turn, when_ok, when_both, written_is}
 use Rattle.yp_base.specs.declared.notice.Notice.TheVariants.{Full}
@@ -37,7 +37,7 @@ returns g c =
     let after : Progress = record { state = c.accept.new.self; replies = c.push_reply.new.replies; desks = with_items c.args.run.now.desks c.tell_full.new.desks; mirrors = c.tell_full.new.mirrors } in
     let taken : Taken c.args.script.now turn c.args.run.now after =
     taken_is c.args.script.now turn c.args.run.now after c.position-position.result c.in_ok-outcome.outcome.reply c.in_ok-outcome.ensures.state c.position-position.ensures.count c.in_ok-outcome.ensures.reply c.in_ok-push_reply.ensures in
-    let told : Sending → Sending = λ desk. with_lines c.args.script.now.schema c.args.script.now.start (notice_for c.in-Everything.by c.accept.new.self.position c.accept.new.self.stamp desk.number (Full c.id_in.result (selection c.args.script.now.schema c.accept.new.self.rows))) desk in
+    let told : Sending → Sending = λ desk. with_lines c.args.script.now.schema c.args.script.now.start (notice_for c.in-Everything.by c.accept.new.self.position c.accept.new.self.stamp desk.number (Full c.id_in.result (visible_rows c.args.script.now.schema c.accept.new.self.rows))) desk in
     when_both c.tell_full.result c.tell_full.ensures.desks c.tell_full.ensures.mirrors (λ desks mirrors.
     full_turn c.args.script.now c.args.lane c.args.index c.args.command.now c.in-Everything.by c.id_in.result c.in_ok-outcome.outcome.reply c.args.run.now after c.in-Everything.is c.requires.ready taken c.in_ok-outcome.ensures.reply c.id_in.ensures
     (written_is c.args.run.now.desks told c.tell_full.new.desks (desks ∙ ap (map told) c.as_mut_slice.ensures.value)) mirrors)

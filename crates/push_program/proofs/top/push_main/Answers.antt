@@ -1,5 +1,5 @@
 use Rattle.push_program.specs.Answers.{Streams}
-use Rattle.push_program.proofs.StatusLaws.{words_told, unread_told, done_told, mirrored_told, rising_told, concealed_told, legal_told, end_told, read_told, script_told, reading_told, writing_told, front_told, unwritten_told, complete_told}
+use Rattle.push_program.proofs.StatusLaws.{words_told, unread_told, done_told, end_told, read_told, script_told, reading_told, writing_told, front_told, unwritten_told, complete_told}
 use Rattle.push_program.proofs.top.push_main.Goals as goal
 
 pub returns-clause-words : goal.returns-clause-words
@@ -30,8 +30,8 @@ returns-clause-unread g c =
     } in
     unread_told c.args.words.now s c.answer.result c.answer.ensures
 
-pub returns-clause-done : goal.returns-clause-done
-returns-clause-done g c =
+pub returns-clause-told : goal.returns-clause-told
+returns-clause-told g c =
     let s : Streams = record {
       left_before = g.S.Source.left c.args.source.now;
       left_after = g.S.Source.left c.answer.new.source;
@@ -43,62 +43,6 @@ returns-clause-done g c =
       write_faults_after = g.K.Sink.faults c.answer.new.sink;
     } in
     done_told c.args.words.now s c.answer.result c.answer.ensures
-
-pub returns-clause-mirrored : goal.returns-clause-mirrored
-returns-clause-mirrored g c =
-    let s : Streams = record {
-      left_before = g.S.Source.left c.args.source.now;
-      left_after = g.S.Source.left c.answer.new.source;
-      written_before = g.K.Sink.written c.args.sink.now;
-      written_after = g.K.Sink.written c.answer.new.sink;
-      read_faults_before = g.S.Source.faults c.args.source.now;
-      read_faults_after = g.S.Source.faults c.answer.new.source;
-      write_faults_before = g.K.Sink.faults c.args.sink.now;
-      write_faults_after = g.K.Sink.faults c.answer.new.sink;
-    } in
-    mirrored_told c.args.words.now s c.answer.result c.answer.ensures
-
-pub returns-clause-rising : goal.returns-clause-rising
-returns-clause-rising g c =
-    let s : Streams = record {
-      left_before = g.S.Source.left c.args.source.now;
-      left_after = g.S.Source.left c.answer.new.source;
-      written_before = g.K.Sink.written c.args.sink.now;
-      written_after = g.K.Sink.written c.answer.new.sink;
-      read_faults_before = g.S.Source.faults c.args.source.now;
-      read_faults_after = g.S.Source.faults c.answer.new.source;
-      write_faults_before = g.K.Sink.faults c.args.sink.now;
-      write_faults_after = g.K.Sink.faults c.answer.new.sink;
-    } in
-    rising_told c.args.words.now s c.answer.result c.answer.ensures
-
-pub returns-clause-concealed : goal.returns-clause-concealed
-returns-clause-concealed g c =
-    let s : Streams = record {
-      left_before = g.S.Source.left c.args.source.now;
-      left_after = g.S.Source.left c.answer.new.source;
-      written_before = g.K.Sink.written c.args.sink.now;
-      written_after = g.K.Sink.written c.answer.new.sink;
-      read_faults_before = g.S.Source.faults c.args.source.now;
-      read_faults_after = g.S.Source.faults c.answer.new.source;
-      write_faults_before = g.K.Sink.faults c.args.sink.now;
-      write_faults_after = g.K.Sink.faults c.answer.new.sink;
-    } in
-    concealed_told c.args.words.now s c.answer.result c.answer.ensures
-
-pub returns-clause-legal : goal.returns-clause-legal
-returns-clause-legal g c =
-    let s : Streams = record {
-      left_before = g.S.Source.left c.args.source.now;
-      left_after = g.S.Source.left c.answer.new.source;
-      written_before = g.K.Sink.written c.args.sink.now;
-      written_after = g.K.Sink.written c.answer.new.sink;
-      read_faults_before = g.S.Source.faults c.args.source.now;
-      read_faults_after = g.S.Source.faults c.answer.new.source;
-      write_faults_before = g.K.Sink.faults c.args.sink.now;
-      write_faults_after = g.K.Sink.faults c.answer.new.sink;
-    } in
-    legal_told c.args.words.now s c.answer.result c.answer.ensures
 
 pub returns-clause-end : goal.returns-clause-end
 returns-clause-end g c =
