@@ -194,6 +194,5 @@ fn an_entry_and_its_copy_hold_what_is_said(rt: HostRuntime) -> Result<(), Fail> 
         }
         _ => assert!(rt; false, "it is a refusal"),
     }
-    crosses_threads(copy);
     Ok(())
 }
