@@ -4,7 +4,7 @@ use Rattle.yp_base.specs.declared.atom.Atom.{Atom}
 use Rattle.yp_base.specs.declared.atom.Atom.TheVariants.{Bool as Truth, Int, Uint, Dec, Text}
 use Rattle.yp_base.specs.declared.leaf_type.LeafType.{LeafType}
 use Rattle.yp_base.specs.declared.leaf_type.LeafType.TheVariants.{Bool as TruthType, Int as IntType, Uint as UintType, Dec as DecType, Text as TextType, Names, Empty}
-use Rattle.yp_base.specs.Types.{same_text, is_among, is_short, are_short, are_distinct, are_names, is_type}
+use Rattle.yp_base.specs.Types.{same_text, is_among, is_short, are_short, are_rising, are_names, is_type}
 use Rattle.yp_base.specs.Texts.{atom_in, fits, is_between, is_writable}
 use Rattle.yp_base.proofs.TextLaws.{both_true, or_else, read_fits}
 
@@ -22,7 +22,7 @@ short_among text (name ∷ names) short e =
 
 short_names : (names : List (List ℕ)) → are_names names ≡ true → are_short names ≡ true
 short_names [] e = cc
-short_names (name ∷ names) e = (both_true (are_distinct (name ∷ names)) (are_short (name ∷ names)) e).1
+short_names (name ∷ names) e = (both_true (are_rising (name ∷ names)) (are_short (name ∷ names)) e).1
 
 pub fits_writable : (ty : LeafType) (a : Atom) → is_type ty ≡ true → fits ty a ≡ true → is_writable a ≡ true
 fits_writable ty (Truth b) t e = refl

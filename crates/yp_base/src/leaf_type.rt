@@ -22,7 +22,7 @@ pub enum LeafType {
     Dec { places: u8 },
     /// `string`, of at most 256 bytes
     Text,
-    /// `enumeration`, with its names
+    /// `enumeration`, with its names in byte order
     Names(Names),
     /// `empty`
     Empty,

@@ -1,6 +1,6 @@
 //! Texts of values (RFC 7950 section 9).
 ghost use Rattle.std.specs.Prelude.{◌≡◌, ◌-◌, ◌^◌, ◌≤◌, ◌<◌, ℕ, List, Some, IfOk, true, string_bytes};
-ghost use Rattle.yp_base.specs.Types.{is_type, is_width, is_among, is_short};
+ghost use Rattle.yp_base.specs.Types.{is_type, is_width, is_among, are_names, is_short};
 ghost use Rattle.yp_base.specs.Texts.{ReadsAs, atom_in, atom_text, truth_in, is_writable, fits};
 ghost use Rattle.yp_base.specs.declared.atom.Atom.{Atom};
 ghost use Rattle.yp_base.specs.declared.leaf_type.LeafType.{LeafType};
@@ -137,16 +137,15 @@ fn read_dec(places: u8, text: &str) -> Option<Atom>
     Some(Atom::Dec { units, places })
 }
 
-/// Whether a text is one of these names.
+/// Whether a text is one of the names of an enumeration.
 fn is_named(names: &Names, text: &str) -> bool
+    requires { are_names names.now ≡ true }
     ensures { result ≡ is_among text.now names.now }
 {
-    for name in names.items() {
-        if text == name.as_str() {
-            return true;
-        }
-    }
-    false
+    let found = names
+        .items()
+        .binary_search_by(|name| name.as_str().cmp(text));
+    found.is_ok()
 }
 
 /// Writes the canonical text of a value (RFC 7950 sections 9.2 to 9.6).

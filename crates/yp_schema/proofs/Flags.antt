@@ -1,9 +1,8 @@
 -- Which nodes are keys, as a schema keeps it.
-use Rattle.std.proofs.Common.{◌≡◌, ℕ, zero, suc, ◌+◌, ◌<◌, ◌≤◌, ◌&&◌, ◌||◌, ◌⊎◌, inl, inr, List, [], ◌∷◌, ◌++◌, length, get_or, Bool, true, false, true≢false, cond, refl, sym, ap, ◌∙◌, subst, Option, Some, None, IfSome, arith, nat_eq, nat_lt}
-use Rattle.std.specs.Prelude.{All}
+use Rattle.std.proofs.Common.{◌≡◌, ℕ, zero, suc, ◌+◌, ◌<◌, ◌≤◌, ◌&&◌, ◌||◌, List, [], ◌∷◌, ◌++◌, length, get_or, Bool, true, false, true≢false, refl, sym, ap, ◌∙◌, subst, Option, Some, None, arith, nat_eq, nat_lt}
 use Rattle.std.specs.List.{AllByRecursion}
 use Rattle.std.specs.Option.{option_eq}
-use Rattle.std.proofs.lemmas.Bool.{and_parts, eqb-true, cases_Bool}
+use Rattle.std.proofs.lemmas.Bool.{and_parts, eqb-true}
 use Rattle.std.proofs.lemmas.Bool.Decides.{nat_tests}
 use Rattle.std.proofs.lemmas.List.{get_or_append_left, length-append}
 use Rattle.std.proofs.lemmas.List.Elements.{recursion_from_All}
@@ -11,8 +10,8 @@ use Rattle.std.proofs.Math.Seq.{get_or-append_seam}
 use Rattle.yp_schema.specs.declared.schema.SchemaNode.{SchemaNode}
 use Rattle.yp_schema.specs.Nodes.{node_at, same_number, is_in, is_key}
 use Rattle.yp_schema.specs.Datastore.{is_key_node}
-use Rattle.yp_schema.specs.WellFormed.{IsSchema, is_key_leaf, is_parent_of}
-use Rattle.yp_schema.specs.SchemaLaws.{keys_are_leaves, parent_before}
+use Rattle.yp_schema.specs.WellFormed.{IsSchema, is_key_leaf}
+use Rattle.yp_schema.specs.SchemaLaws.{keys_are_leaves}
 
 in_all : (P : ℕ → Type 0) (n : ℕ) (ks : List ℕ) → AllByRecursion P ks → is_in n ks ≡ true → P n
 in_all P n [] all h = cc

@@ -1,4 +1,5 @@
 pub mod Admitting
+pub mod ByteOrder
 pub mod After
 pub mod Compiling
 pub mod Cuts

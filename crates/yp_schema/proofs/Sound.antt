@@ -15,6 +15,7 @@ use Rattle.yp_schema.specs.declared.stated.Body.{Body}
 use Rattle.yp_schema.specs.declared.stated.Stated.{Stated}
 use Rattle.yp_schema.specs.Names.{Names, front, last, cut, rooted, names_in, around_colon}
 use Rattle.yp_schema.specs.WellFormed.{is_name, is_empty, has_none}
+use Rattle.yp_schema.specs.Enumerations.{in_byte_order}
 use Rattle.yp_schema.specs.Stated.{with_shape, has_only, flag_member, tested, are_key_names, texts_member, text_member, container_in, container_kind, list_in, enumeration_in, typed_in, leaf_in, of_kind, body_in, body, type_in, integer_in, decimal_at, places_in, form_of, form_in, stated_in, stated, node_in}
 
 -- ---- types
@@ -136,8 +137,8 @@ typed_fits : (kind : Kind) → ((ty : Option LeafType) → kind_fits kind [] ty 
 typed_fits kind leaf text ms =
     let P : Body → Type 0 = λ b. body_fits b ≡ true in
     has_if P (same_text text (codes "enumeration")) (enumeration_in kind ms) (with_shape shapes.Leaf ms (λ deny. Some (body kind [] (type_in text) deny)))
-    (λ _. shape_fits shapes.Enumeration ms (λ deny. option_map (λ names. body kind [] (Some (Enumeration names)) deny) (option_and_then (tested are_names) (texts_member (codes "names") ms)))
-    (λ deny. has_tested P are_names (λ names. body kind [] (Some (Enumeration names)) deny) (texts_member (codes "names") ms) (enumeration_body kind leaf deny)))
+    (λ _. shape_fits shapes.Enumeration ms (λ deny. option_map (λ names. body kind [] (Some (Enumeration names)) deny) (option_and_then (tested are_names) (option_map in_byte_order (texts_member (codes "names") ms))))
+    (λ deny. has_tested P are_names (λ names. body kind [] (Some (Enumeration names)) deny) (option_map in_byte_order (texts_member (codes "names") ms)) (enumeration_body kind leaf deny)))
     (shape_fits shapes.Leaf ms (λ deny. Some (body kind [] (type_in text) deny)) (λ deny. leaf (type_in text) ∙ type_of_option (type_in text) (type_in_fits text)))
 
 leaf_fits : (kind : Kind) → ((ty : Option LeafType) → kind_fits kind [] ty ≡ type_fits ty) → (ms : Members) → Has (λ b. body_fits b ≡ true) (leaf_in kind ms)

@@ -11,6 +11,7 @@ use Rattle.yp_schema.specs.declared.stated.Shape.{Shape}
 use Rattle.yp_schema.specs.declared.stated.Shape.TheVariants as shapes
 use Rattle.yp_schema.specs.declared.stated.Body.{Body}
 use Rattle.yp_schema.specs.declared.stated.Stated.{Stated}
+use Rattle.yp_schema.specs.Enumerations.{in_byte_order}
 use Rattle.yp_schema.specs.Names.{Names, last, names_in, around_colon}
 use Rattle.yp_schema.specs.WellFormed.{is_name}
 
@@ -114,9 +115,10 @@ tested test x = if test x then Some x else None
 abbrev pub list_in : Members → Option Body
 list_in ms = with_shape shapes.List ms (λ deny_all. option_map (λ keys. body Listing keys None deny_all) (option_and_then (tested are_key_names) (texts_member (codes "keys") ms)))
 
+-- the names of an enumeration are kept in byte order
 abbrev pub enumeration_in : Kind → Members → Option Body
 enumeration_in kind ms =
-    with_shape shapes.Enumeration ms (λ deny_all. option_map (λ names. body kind [] (Some (Enumeration names)) deny_all) (option_and_then (tested are_names) (texts_member (codes "names") ms)))
+    with_shape shapes.Enumeration ms (λ deny_all. option_map (λ names. body kind [] (Some (Enumeration names)) deny_all) (option_and_then (tested are_names) (option_map in_byte_order (texts_member (codes "names") ms))))
 
 -- a leaf or leaf-list; a text that is no type gives none
 abbrev pub typed_in : Kind → List ℕ → Members → Option Body

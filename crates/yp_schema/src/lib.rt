@@ -6,6 +6,7 @@
 //! `specs/Compiled.antt`, and `Schema::read` answers the first fault in the order of `specs/Rounds.antt`.
 #![tactic(auto)]
 
+mod enumeration;
 pub mod fault;
 mod index;
 mod listing;

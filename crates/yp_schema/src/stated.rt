@@ -2,10 +2,11 @@
 ghost use Rattle.std.specs.Prelude.{◌≡◌, ℕ, IfOk, option_map};
 ghost use Rattle.serde_json.specs.View.{view, items_view, members_view};
 ghost use Rattle.serde_json.specs.Find.{get_member};
-ghost use Rattle.yp_base.specs.Types.{are_names, are_distinct, are_short};
+ghost use Rattle.yp_base.specs.Types.{are_distinct};
 ghost use Rattle.yp_schema.specs.Names.{around_colon};
 ghost use Rattle.yp_schema.specs.Stated.{may_have, is_own, has_only, text_member, flag_of, flag_member, texts_in, texts_member, places_in, decimal_at, integer_in, type_in, all_names, are_key_names, container_kind, container_in, list_in, enumeration_in, typed_in, leaf_in, of_kind, body_in, form_of, form_in, stated_in, node_in, tested};
 
+use crate::enumeration::enumeration_names;
 use crate::names::{Names, around_colon, is_name, last_of, read_path, text_of};
 use crate::schema::Kind;
 use serde_json::{Map, Value as Json};
@@ -274,34 +275,6 @@ fn are_distinct(alloc: Global, texts: &[Txt]) -> Result<bool, NoMemory>
         }
     }
     Ok(true)
-}
-
-fn are_short(texts: &[Txt]) -> bool
-    ensures { result ≡ are_short texts.now }
-{
-    for text in texts {
-        if text.as_str().len() > 256 {
-            return false;
-        }
-    }
-    true
-}
-
-/// Names of an enumeration: one or more, distinct, none of more than 256 bytes.
-fn enumeration_names(alloc: Global, names: Names) -> Result<Option<Names>, NoMemory>
-    ensures { IfOk result (λ kept. kept ≡ tested are_names names) }
-{
-    if names.len() == 0 {
-        return Ok(None);
-    }
-    if !are_distinct(alloc, names.items())? {
-        return Ok(None);
-    }
-    if are_short(names.items()) {
-        Ok(Some(names))
-    } else {
-        Ok(None)
-    }
 }
 
 fn read_list(alloc: Global, members: &Map<String, Json>) -> Result<Option<Body>, NoMemory>

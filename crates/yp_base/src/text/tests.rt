@@ -213,7 +213,7 @@ fn strings_have_at_most_256_bytes(rt: HostRuntime) -> Result<(), Fail> {
 fn an_enumeration_has_its_names_alone(rt: HostRuntime) -> Result<(), Fail> {
     let up = Txt::from_string(String::from_str(rt.alloc(), "up")?);
     let down = Txt::from_string(String::from_str(rt.alloc(), "down")?);
-    let names = Series::from_vec(vec![in rt.alloc(); up, down]?);
+    let names = Series::from_vec(vec![in rt.alloc(); down, up]?);
     let table = r#"
         up -> up
         down -> down
