@@ -10,13 +10,13 @@ use Rattle.yp_base.specs.declared.notice.Change.{Change}
 use Rattle.yp_base.specs.declared.notice.ChangeKind.{ChangeKind}
 use Rattle.yp_base.specs.Order.{path_cmp, is_within}
 use Rattle.yp_base.specs.Rows.{AreInOrder, value_at, rows_within}
-use Rattle.yp_base.proofs.RowLaws.{some_keep_order}
+use Rattle.yp_base.specs.RowLaws.{some_keep_order}
 use Rattle.yp_schema.specs.declared.schema.SchemaNode.{SchemaNode}
 use Rattle.yp_schema.specs.Nodes.{node_at}
 use Rattle.yp_schema.specs.Datastore.{is_path_of, is_place, is_key_node, is_key_at, last_node, value_of_kind, holds_value, IsRowOf, AreWritable}
 use Rattle.yp_edit.specs.declared.changed.ChangedRow.{ChangedRow}
 use Rattle.yp_edit.proofs.Alike.{are_one}
-use Rattle.yp_base.proofs.PathLaws.{within_itself}
+use Rattle.yp_base.specs.PathLaws.{within_itself}
 use Rattle.yp_encode.specs.Sendable.{IsSendableChange}
 use Rattle.push_program.specs.Access.{is_readable, visible_rows}
 use Rattle.push_program.specs.Roots.{kind_of, carried_below, edit_of}

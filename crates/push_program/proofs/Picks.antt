@@ -3,7 +3,7 @@ use Rattle.std.proofs.Common.{◌≡◌, Bool, true, false, true≢false, ◌&&�
 use Rattle.std.specs.Ordering.{eq_by_cmp}
 use Rattle.yp_base.specs.declared.path.Seg.{Seg}
 use Rattle.yp_base.specs.Order.{segment_cmp, is_front, is_within}
-use Rattle.yp_base.proofs.Exact.{segments_decide}
+use Rattle.yp_base.specs.Exact.{segments_decide}
 use Rattle.yp_schema.specs.declared.schema.SchemaNode.{SchemaNode}
 use Rattle.push_program.specs.Access.{is_open, is_readable}
 

@@ -11,7 +11,7 @@ use Rattle.yp_base.specs.declared.leaf_type.LeafType.{LeafType}
 use Rattle.yp_base.specs.declared.notice.Change.{Change}
 use Rattle.yp_base.specs.Order.{path_cmp, is_within}
 use Rattle.yp_base.specs.Rows.{AreInOrder, value_at, put_rows, rows_within, rows_without, changed_by}
-use Rattle.yp_base.proofs.RowLaws.{none_order, value_at_without, puts_order, within_keeps_order, without_keeps_order}
+use Rattle.yp_base.specs.RowLaws.{none_order, value_at_without, puts_order, within_keeps_order, without_keeps_order}
 use Rattle.yp_schema.specs.declared.schema.SchemaNode.{SchemaNode}
 use Rattle.yp_schema.specs.declared.schema.Kind.{Kind}
 use Rattle.yp_schema.specs.declared.schema.Kind.TheVariants.{Container, Presence, List as Listing, Leaf, LeafList}

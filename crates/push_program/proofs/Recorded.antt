@@ -6,7 +6,7 @@ use Rattle.yp_base.specs.declared.path.Seg.{Seg}
 use Rattle.yp_base.specs.declared.row.Row.{Row}
 use Rattle.yp_base.specs.Order.{path_cmp}
 use Rattle.yp_base.specs.Rows.{AreInOrder, value_at}
-use Rattle.yp_base.proofs.RowLaws.{picked, some_keep_order}
+use Rattle.yp_base.specs.RowLaws.{picked, some_keep_order}
 use Rattle.yp_edit.specs.declared.changed.ChangedRow.{ChangedRow}
 use Rattle.yp_edit.specs.Changes.{changed_rows}
 use Rattle.yp_edit.proofs.Alike.{keys}

@@ -8,7 +8,7 @@ use Rattle.yp_base.specs.declared.row.Value.{Value}
 use Rattle.yp_base.specs.declared.row.Row.{Row}
 use Rattle.yp_base.specs.Order.{path_cmp}
 use Rattle.yp_base.specs.Rows.{value_at, rows_within}
-use Rattle.yp_base.proofs.RowLaws.{picked, some_keep_order}
+use Rattle.yp_base.specs.RowLaws.{picked, some_keep_order}
 use Rattle.yp_schema.specs.declared.schema.SchemaNode.{SchemaNode}
 use Rattle.yp_schema.specs.Datastore.{has_row, IsRowOf, IsDatastore}
 use Rattle.yp_data_json.proofs.Growing.{within_more, within_self}

@@ -4,7 +4,7 @@ use Rattle.std.specs.List.{AllByRecursion}
 use Rattle.yp_base.specs.declared.row.Row.{Row}
 use Rattle.yp_base.specs.Order.{is_within}
 use Rattle.yp_base.specs.Rows.{AreInOrder}
-use Rattle.yp_base.proofs.RowLaws.{some_keep_order}
+use Rattle.yp_base.specs.RowLaws.{some_keep_order}
 use Rattle.yp_schema.specs.declared.schema.SchemaNode.{SchemaNode}
 use Rattle.yp_schema.specs.Datastore.{IsRowOf, AreWritable}
 use Rattle.push_program.specs.Access.{is_readable, visible_rows}

@@ -20,7 +20,7 @@ fn put_all(alloc: Global, rows: &mut Tree, new: &Rows) -> Result<(), NoMemory>
 }
 
 /// The rows of a full update as a tree.
-#[tactic(auto, using(yp_base::proofs::RowLaws::put_to_none))]
+#[tactic(auto, using(yp_base::specs::RowLaws::put_to_none))]
 pub fn hear_full(alloc: Global, rows: &Rows) -> Result<Tree, NoMemory>
     requires { AreInOrder rows.now }
     ensures { IfOk result (λ tree. tree ≡ rows.now) }

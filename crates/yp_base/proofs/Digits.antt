@@ -1,6 +1,7 @@
 use Rattle.std.proofs.Common.{◌≡◌, ℕ, ◌<◌, ◌≤◌, ◌+◌, ◌-◌, ◌*◌, ◌^◌, List, [], ◌∷◌, Bool, true, false, Option, Some, None, cond, refl, ap, ◌∙◌, arith, nat_lt, option_and_then, zero, suc, length, drop, take, get_or, replicate, ◌++◌, ◌==◌}
 use Rattle.std.specs.List.{position_or_len, before_first, after_first}
 use Rattle.yp_base.specs.Texts.{is_digit, value_from, below, around_point, signed_in}
+use Rattle.yp_base.specs.ReadAgain.{value_append}
 
 too_big : (n : ℕ) → 2 ^ 64 ≤ n → below (2 ^ 64) n ≡ None
 too_big n h = grind (arith, h)
@@ -49,16 +50,6 @@ pub stop_at : (n i : ℕ) (bs : List ℕ) → i < length bs → cond (is_digit (
 stop_at n i bs h none = let here = there i bs h in ap (λ (xs : List ℕ). option_and_then (below (2 ^ 64)) (value_from n xs)) here.1 ∙ not_read n (get_or bs i 0) here.0 none
 
 -- ---- digits in pieces
-
-whole_then : (t : Bool) (n b : ℕ) (bs more : List ℕ)
-    → value_from (n * 10 + (b - 48)) (bs ++ more) ≡ option_and_then (λ m. value_from m more) (value_from (n * 10 + (b - 48)) bs)
-    → cond t (value_from (n * 10 + (b - 48)) (bs ++ more)) None ≡ option_and_then (λ m. value_from m more) (cond t (value_from (n * 10 + (b - 48)) bs) None)
-whole_then true n b bs more h = h
-whole_then false n b bs more h = refl
-
-pub value_append : (n : ℕ) (bs more : List ℕ) → value_from n (bs ++ more) ≡ option_and_then (λ m. value_from m more) (value_from n bs)
-value_append n [] more = refl
-value_append n (b ∷ bs) more = whole_then (is_digit b) n b bs more (value_append (n * 10 + (b - 48)) bs more)
 
 stop_limit : (t : Bool) (n : ℕ) (more : List ℕ) → nat_lt n (2 ^ 64) ≡ t → cond t (Some n) None ≡ None → option_and_then (below (2 ^ 64)) (value_from n more) ≡ None
 stop_limit true n more is h = absurd (grind (arith, h))

@@ -181,14 +181,14 @@ pub fn member<'a>(json: &'a Json, name: &str) -> Option<&'a Json>
 }
 
 /// What is written of a value of a type is read again as this value.
-#[tactic(auto, using(crate::proofs::JsonLaws::json_again))]
+#[tactic(auto, using(crate::specs::JsonLaws::json_again))]
 pub fn written_json_is_read()
     ensures { (ty : LeafType) (value : Value) → is_type ty ≡ true → value_fits ty value ≡ true
         → value_in ty (value_data ty value) ≡ Some value }
 {}
 
 /// What is read is a value of the type.
-#[tactic(auto, using(crate::proofs::JsonLaws::json_fits))]
+#[tactic(auto, using(crate::specs::JsonLaws::json_fits))]
 pub fn read_json_fits()
     ensures { (ty : LeafType) (json : Data) (value : Value) → value_in ty json ≡ Some value
         → value_fits ty value ≡ true }

@@ -11,7 +11,7 @@ ghost use Rattle.yp_base.specs.Rows.{AreInOrder, path_of, put_row, value_at};
 ghost use Rattle.yp_base.specs.Types.{same_text};
 
 /// The order of paths turned round; paths that tie are one.
-#[tactic(auto, using(crate::proofs::PathLaws::less_turned, crate::proofs::PathLaws::greater_turned, crate::proofs::Exact::paths_exact))]
+#[tactic(auto, using(crate::specs::PathLaws::less_turned, crate::specs::PathLaws::greater_turned, crate::specs::Exact::paths_exact))]
 pub fn order_of_paths()
     ensures less { (one two : List Seg) → path_cmp one two ≡ Less → path_cmp two one ≡ Greater }
     ensures greater { (one two : List Seg) → path_cmp one two ≡ Greater → path_cmp two one ≡ Less }
@@ -19,7 +19,7 @@ pub fn order_of_paths()
 {}
 
 /// A path is at or below itself and what stands above it, and no path above it comes after it.
-#[tactic(auto, using(crate::proofs::PathLaws::within_itself, crate::proofs::PathLaws::within_through, crate::proofs::PathLaws::within_not_after))]
+#[tactic(auto, using(crate::specs::PathLaws::within_itself, crate::specs::PathLaws::within_through, crate::specs::PathLaws::within_not_after))]
 pub fn paths_within()
     ensures itself { (path : List Seg) → is_within path path ≡ true }
     ensures through { (one two three : List Seg) → is_within one two ≡ true → is_within two three ≡ true
@@ -28,7 +28,7 @@ pub fn paths_within()
 {}
 
 /// A row that is past the others goes last, and is not among them.
-#[tactic(auto, using(crate::proofs::RowLaws::put_last_row, crate::proofs::RowLaws::not_there_yet, crate::proofs::RowLaws::none_past))]
+#[tactic(auto, using(crate::specs::RowLaws::put_last_row, crate::specs::RowLaws::not_there_yet, crate::specs::RowLaws::none_past))]
 pub fn last_row()
     ensures put { (rows : List Row) (last : Row) (more : List Row) → AreInOrder (rows ++ last ∷ more)
         → put_row last rows ≡ rows ++ last ∷ [] }
@@ -39,7 +39,7 @@ pub fn last_row()
 {}
 
 /// Texts, and numbers, that are found equal are one.
-#[tactic(auto, using(crate::proofs::PathLaws::texts_same, crate::proofs::PathLaws::numbers_same))]
+#[tactic(auto, using(crate::specs::PathLaws::texts_same, crate::specs::PathLaws::numbers_same))]
 pub fn equal_values()
     ensures texts { (one two : List ℕ) → same_text one two ≡ true → one ≡ two }
     ensures numbers { (one two : Option ℕ) → same_number one two ≡ true → one ≡ two }

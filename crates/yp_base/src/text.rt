@@ -169,21 +169,21 @@ pub(crate) fn string_of(alloc: Global, atom: &Atom) -> Result<String, AllocError
 }
 
 /// What is written of a value of a type is read again as this value.
-#[tactic(auto, using(crate::proofs::TextLaws::text_again))]
+#[tactic(auto, using(crate::specs::TextLaws::text_again))]
 pub fn written_text_is_read()
     ensures { (ty : LeafType) (atom : Atom) → is_type ty ≡ true → fits ty atom ≡ true
         → atom_in ty (atom_text atom) ≡ Some atom }
 {}
 
 /// What is read is a value of the type.
-#[tactic(auto, using(crate::proofs::TextLaws::read_fits))]
+#[tactic(auto, using(crate::specs::TextLaws::read_fits))]
 pub fn read_text_fits()
     ensures { (ty : LeafType) (text : List ℕ) (atom : Atom) → atom_in ty text ≡ Some atom
         → fits ty atom ≡ true }
 {}
 
 /// A value of a type can be written.
-#[tactic(auto, using(crate::proofs::Writable::fits_writable))]
+#[tactic(auto, using(crate::specs::Writable::fits_writable))]
 pub fn fitting_value_is_writable()
     ensures { (ty : LeafType) (atom : Atom) → is_type ty ≡ true → fits ty atom ≡ true
         → is_writable atom ≡ true }

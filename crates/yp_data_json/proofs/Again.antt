@@ -18,7 +18,7 @@ use Rattle.yp_base.specs.Types.{is_type}
 use Rattle.yp_base.specs.Texts.{atom_text}
 use Rattle.yp_base.specs.Json.{value_data, has_string_numbers}
 use Rattle.yp_base.specs.Rows.{put_row, value_at, AreInOrder}
-use Rattle.yp_base.proofs.JsonLaws.{json_again}
+use Rattle.yp_base.specs.JsonLaws.{json_again}
 use Rattle.yp_schema.specs.Nodes.{node_at, child_of, is_key}
 use Rattle.yp_schema.specs.WellFormed.{IsSchema}
 use Rattle.yp_schema.specs.Datastore.{atom_fits, keys_fit, typed_fits}
@@ -37,7 +37,7 @@ use Rattle.yp_data_json.specs.Reading.{valid, key_in, at_key, both, keys_found, 
 use Rattle.yp_data_json.specs.Forest.{Forest, bare, branch}
 use Rattle.yp_data_json.specs.Writing.{leaf_data, key_data, one_key_data, with_keys, item_in_front, branch_members, members_in}
 use Rattle.yp_data_json.proofs.Readings.{valid_atom}
-use Rattle.yp_base.proofs.RowLaws.{put_last_row, not_there_yet}
+use Rattle.yp_base.specs.RowLaws.{put_last_row, not_there_yet}
 use Rattle.yp_data_json.proofs.RowsIn.{rows_in, front_cmp}
 use Rattle.yp_data_json.proofs.Fits.{BranchFits, Fits, KeysStand, keys_stand}
 

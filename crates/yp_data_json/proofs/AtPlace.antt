@@ -12,7 +12,7 @@ use Rattle.yp_base.specs.declared.row.Row.{Row}
 use Rattle.yp_base.specs.Order.{segment_cmp, path_cmp, is_front, is_within}
 use Rattle.yp_base.specs.OrderLaws.{segments_total, paths_total}
 use Rattle.yp_base.specs.Rows.{path_of, AreInOrder, value_at}
-use Rattle.yp_base.proofs.Exact.{segments_decide}
+use Rattle.yp_base.specs.Exact.{segments_decide}
 use Rattle.yp_schema.specs.declared.schema.SchemaNode.{SchemaNode}
 use Rattle.yp_schema.specs.declared.schema.Kind.TheVariants.{Leaf}
 use Rattle.yp_schema.specs.Nodes.{node_at, may_hold}

@@ -8,7 +8,7 @@ use Rattle.yp_base.specs.declared.row.Value.{Value}
 use Rattle.yp_base.specs.declared.row.Row.{Row}
 use Rattle.yp_base.specs.Order.{segment_cmp}
 use Rattle.yp_base.specs.OrderLaws.{segments_total}
-use Rattle.yp_base.proofs.Exact.{segments_decide}
+use Rattle.yp_base.specs.Exact.{segments_decide}
 use Rattle.yp_data_json.specs.Forest.{Forest, bare, branch, own_of, in_front, laid, laid_all, forest_at}
 use Rattle.yp_data_json.specs.Runs.{HasSegment}
 

@@ -10,7 +10,7 @@ use Rattle.yp_base.specs.declared.row.Value.{Value}
 use Rattle.yp_base.specs.declared.row.Row.{Row}
 use Rattle.yp_base.specs.Order.{is_front, is_within, segment_cmp}
 use Rattle.yp_base.specs.Rows.{AreInOrder, put_row}
-pub use Rattle.yp_base.proofs.PathLaws.{within_itself as within_self}
+pub use Rattle.yp_base.specs.PathLaws.{within_itself as within_self}
 use Rattle.yp_schema.specs.declared.schema.SchemaNode.{SchemaNode}
 use Rattle.yp_schema.specs.Nodes.{node_at, same_number}
 use Rattle.yp_schema.specs.Datastore.{is_segment, goes_down, is_path_of, last_node, IsRowOf, ends_in_entry, has_row, HaveEntries}

@@ -12,7 +12,7 @@ use Rattle.yp_base.specs.declared.row.Row.{Row}
 use Rattle.yp_base.specs.Order.{path_cmp}
 use Rattle.yp_base.specs.OrderLaws.{paths_total}
 use Rattle.yp_base.specs.Rows.{path_of, AreInOrder, value_at, put_row}
-use Rattle.yp_base.proofs.Exact.{paths_exact}
+use Rattle.yp_base.specs.Exact.{paths_exact}
 use Rattle.yp_schema.specs.Datastore.{has_row}
 
 -- what holds of the new row and of all rows holds of all after

@@ -12,8 +12,8 @@ use Rattle.yp_base.specs.declared.row.Value.TheVariants.{Member, Present}
 use Rattle.yp_base.specs.declared.row.Row.{Row}
 use Rattle.yp_base.specs.OrderLaws.{atoms_total}
 use Rattle.yp_base.specs.Rows.{put_row, value_at, AreInOrder}
-use Rattle.yp_base.proofs.Exact.{order_decides, atoms_exact}
-use Rattle.yp_base.proofs.RowLaws.{rest_order}
+use Rattle.yp_base.specs.Exact.{order_decides, atoms_exact}
+use Rattle.yp_base.specs.RowLaws.{rest_order}
 use Rattle.yp_schema.specs.declared.schema.SchemaNode.{SchemaNode}
 use Rattle.yp_schema.specs.declared.schema.Kind.{Kind}
 use Rattle.yp_schema.specs.declared.schema.Kind.TheVariants.{Container, Presence, List as Listing, Leaf, LeafList}

@@ -9,8 +9,8 @@ use Rattle.yp_base.specs.declared.row.Row.{Row}
 use Rattle.yp_base.specs.Order.{path_cmp}
 use Rattle.yp_base.specs.OrderLaws.{paths_total}
 use Rattle.yp_base.specs.Rows.{value_at, AreInOrder}
-use Rattle.yp_base.proofs.RowLaws.{AllPast, all_past, none_past, first_order, rest_order}
-use Rattle.yp_base.proofs.PathLaws.{greater_turned}
+use Rattle.yp_base.specs.RowLaws.{AllPast, all_past, none_past, first_order, rest_order}
+use Rattle.yp_base.specs.PathLaws.{greater_turned}
 use Rattle.yp_data_json.proofs.PutRows.{same_or_apart}
 use Rattle.yp_data_json.proofs.Adding.{Among, none_some, some_value}
 

@@ -11,11 +11,11 @@ use Rattle.yp_base.specs.declared.row.Row.{Row}
 use Rattle.yp_base.specs.Order.{path_cmp, is_within}
 use Rattle.yp_base.specs.OrderLaws.{paths_total}
 use Rattle.yp_base.specs.Rows.{value_at, AreInOrder}
-use Rattle.yp_base.proofs.RowLaws.{AllPast, first_order}
+use Rattle.yp_base.specs.RowLaws.{AllPast, first_order}
 use Rattle.yp_schema.specs.declared.schema.SchemaNode.{SchemaNode}
 use Rattle.yp_schema.specs.Datastore.{HaveEntries}
 use Rattle.yp_data_json.specs.Reading.{row_at}
-use Rattle.yp_base.proofs.PathLaws.{within_itself}
+use Rattle.yp_base.specs.PathLaws.{within_itself}
 use Rattle.yp_data_json.proofs.AtPlace.{front_rest}
 use Rattle.yp_data_json.proofs.Growing.{within_more}
 use Rattle.yp_data_json.proofs.Laying.{StandsUnder, not_before}

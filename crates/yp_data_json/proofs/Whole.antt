@@ -14,7 +14,7 @@ use Rattle.yp_base.specs.declared.row.Row.{Row}
 use Rattle.yp_base.specs.Order.{segment_cmp, path_cmp}
 use Rattle.yp_base.specs.OrderLaws.{segments_total, paths_total}
 use Rattle.yp_base.specs.Rows.{path_of, AreInOrder, value_at}
-use Rattle.yp_base.proofs.Exact.{segments_decide}
+use Rattle.yp_base.specs.Exact.{segments_decide}
 use Rattle.yp_schema.specs.declared.schema.SchemaNode.{SchemaNode}
 use Rattle.yp_schema.specs.declared.schema.Kind.{Kind}
 use Rattle.yp_schema.specs.declared.schema.Kind.TheVariants.{Container, Presence, List as Listing, Leaf, LeafList}
@@ -26,7 +26,7 @@ use Rattle.yp_data_json.specs.Runs.{EndsWell}
 use Rattle.std.proofs.Math.Seq.{drop-append_seam}
 use Rattle.yp_base.specs.Order.{is_within}
 use Rattle.yp_data_json.specs.Runs.{IsRest}
-use Rattle.yp_base.proofs.PathLaws.{less_turned, within_itself}
+use Rattle.yp_base.specs.PathLaws.{less_turned, within_itself}
 use Rattle.yp_data_json.proofs.Readings.{same_is}
 use Rattle.yp_data_json.proofs.Growing.{last_of, within_more}
 use Rattle.yp_data_json.proofs.Laying.{StandsUnder}

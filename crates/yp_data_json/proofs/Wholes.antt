@@ -12,7 +12,7 @@ use Rattle.yp_base.specs.declared.row.Row.{Row}
 use Rattle.yp_base.specs.Order.{is_within}
 use Rattle.yp_base.specs.OrderLaws.{atoms_total}
 use Rattle.yp_base.specs.Rows.{put_row}
-use Rattle.yp_base.proofs.Exact.{order_decides, atoms_exact}
+use Rattle.yp_base.specs.Exact.{order_decides, atoms_exact}
 use Rattle.yp_schema.specs.declared.schema.SchemaNode.{SchemaNode}
 use Rattle.yp_schema.specs.declared.schema.Kind.{Kind}
 use Rattle.yp_schema.specs.declared.schema.Kind.TheVariants.{Container, Presence, List as Listing, Leaf, LeafList}
@@ -25,7 +25,7 @@ use Rattle.yp_schema.specs.Values.{typed_value, typed_atom}
 use Rattle.yp_base.specs.Results.{◌>>=◌}
 use Rattle.yp_data_json.specs.Reading.{valid, keys_in, below, row_at, leaf_read, entered, in_object, in_array, in_plain, members_read, node_read, entries_read, values_read, datastore_read}
 use Rattle.yp_data_json.specs.AtPath.{are_keys, named_entry, named_value, array_of_one, by_kind, named_read, outer_read, is_bare, object_read, rows_read}
-use Rattle.yp_base.proofs.PathLaws.{within_itself}
+use Rattle.yp_base.specs.PathLaws.{within_itself}
 use Rattle.yp_data_json.proofs.Steps.{empty_keys}
 use Rattle.yp_data_json.proofs.Places.{rows_last}
 use Rattle.yp_data_json.proofs.PutRows.{put_there}

@@ -15,8 +15,8 @@ use Rattle.yp_base.specs.declared.row.Row.{Row}
 use Rattle.yp_base.specs.Order.{path_cmp}
 use Rattle.yp_base.specs.OrderLaws.{paths_total}
 use Rattle.yp_base.specs.Rows.{path_of, value_at, AreInOrder}
-use Rattle.yp_base.proofs.Exact.{paths_exact}
-use Rattle.yp_base.proofs.PathLaws.{greater_turned}
+use Rattle.yp_base.specs.Exact.{paths_exact}
+use Rattle.yp_base.specs.PathLaws.{greater_turned}
 
 -- a path is before each of these
 abbrev pub IsBefore : List Seg → List (List Seg) → Type 0

@@ -4,7 +4,7 @@ use Rattle.std.specs.Prelude.{Result, Ok, Err, IfOk, nat_lt, length}
 use Rattle.yp_base.specs.declared.path.Seg.{Seg}
 use Rattle.yp_base.specs.declared.row.Row.{Row}
 use Rattle.yp_base.specs.Rows.{rows_without, has_within, AreInOrder}
-use Rattle.yp_base.proofs.RowLaws.{puts_order, without_keeps_order}
+use Rattle.yp_base.specs.RowLaws.{puts_order, without_keeps_order}
 use Rattle.yp_schema.specs.declared.schema.SchemaNode.{SchemaNode}
 use Rattle.serde_json.specs.Data.{Data}
 use Rattle.yp_edit.specs.declared.halt.Refusal.{Refusal}

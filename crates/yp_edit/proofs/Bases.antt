@@ -8,7 +8,7 @@ use Rattle.yp_base.specs.declared.row.Value.{Value}
 use Rattle.yp_base.specs.declared.row.Row.{Row}
 use Rattle.yp_base.specs.Order.{path_cmp}
 use Rattle.yp_base.specs.Rows.{value_at, has_within, AreInOrder}
-use Rattle.yp_base.proofs.RowLaws.{some_keep_order}
+use Rattle.yp_base.specs.RowLaws.{some_keep_order}
 use Rattle.yp_tree.specs.Listed.{without_row}
 use Rattle.yp_edit.specs.Bases.{Touched, is_listed, left, untouched, IsBase, Touches, TouchesWithin}
 use Rattle.yp_edit.proofs.Alike.{are_one, tie_turned, same_rows}

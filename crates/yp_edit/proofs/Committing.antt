@@ -11,8 +11,8 @@ use Rattle.yp_base.specs.declared.row.Value.TheVariants.{Atom as Plain, Member, 
 use Rattle.yp_base.specs.declared.row.Row.{Row}
 use Rattle.yp_base.specs.Order.{path_cmp}
 use Rattle.yp_base.specs.Rows.{path_of, value_at, put_row, put_rows, AreInOrder}
-use Rattle.yp_base.proofs.Exact.{atoms_exact}
-use Rattle.yp_base.proofs.RowLaws.{value_at_put, puts_order}
+use Rattle.yp_base.specs.Exact.{atoms_exact}
+use Rattle.yp_base.specs.RowLaws.{value_at_put, puts_order}
 use Rattle.std.proofs.lemmas.Map.Views.{tells_apart}
 use Rattle.yp_tree.specs.Listed.{without_row}
 use Rattle.yp_edit.specs.declared.changed.ChangedRow.{ChangedRow}

@@ -13,7 +13,7 @@ use Rattle.yp_base.specs.declared.row.Row.{Row}
 use Rattle.yp_base.specs.Order.{path_cmp}
 use Rattle.yp_base.specs.OrderLaws.{atoms_total}
 use Rattle.yp_base.specs.Rows.{path_of, value_at, put_row, put_rows, AreInOrder}
-use Rattle.yp_base.proofs.RowLaws.{value_at_put, puts_order}
+use Rattle.yp_base.specs.RowLaws.{value_at_put, puts_order}
 use Rattle.yp_edit.specs.declared.changed.ChangedRow.{ChangedRow}
 use Rattle.yp_edit.specs.Changes.{same_value, are_alike, change_of, row_change, paths_of_both, changed_rows}
 use Rattle.yp_edit.specs.Bases.{is_listed, left}

@@ -12,8 +12,8 @@ use Rattle.yp_base.specs.declared.row.Value.{Value}
 use Rattle.yp_base.specs.declared.row.Row.{Row}
 use Rattle.yp_base.specs.Order.{path_cmp, is_within}
 use Rattle.yp_base.specs.Rows.{path_of, value_at, put_row, put_rows, has_within, rows_without, AreInOrder}
-use Rattle.yp_base.proofs.Exact.{paths_exact}
-use Rattle.yp_base.proofs.RowLaws.{value_at_put, value_at_without, put_keeps_order, puts_order, picked-puts}
+use Rattle.yp_base.specs.Exact.{paths_exact}
+use Rattle.yp_base.specs.RowLaws.{value_at_put, value_at_without, put_keeps_order, puts_order, picked-puts}
 use Rattle.yp_tree.specs.Listed.{without_row}
 use Rattle.yp_edit.specs.Bases.{Touched, is_listed, left, untouched, Touches, StaysTouched, TouchesWithin}
 use Rattle.yp_edit.specs.Drafts.{drafted, IsDraft}

@@ -10,9 +10,9 @@ use Rattle.yp_base.specs.declared.row.Value.{Value}
 use Rattle.yp_base.specs.declared.row.Row.{Row}
 use Rattle.yp_base.specs.Order.{segment_cmp, path_cmp, is_within}
 use Rattle.yp_base.specs.Rows.{value_at, put_row, put_rows, has_within, rows_without}
-use Rattle.yp_base.proofs.Exact.{segments_decide}
-use Rattle.yp_base.proofs.RowLaws.{value_at_without, puts_order, without_keeps_order}
-use Rattle.yp_base.proofs.TextLaws.{read_fits}
+use Rattle.yp_base.specs.Exact.{segments_decide}
+use Rattle.yp_base.specs.RowLaws.{value_at_without, puts_order, without_keeps_order}
+use Rattle.yp_base.specs.TextLaws.{read_fits}
 use Rattle.yp_schema.specs.declared.schema.SchemaNode.{SchemaNode}
 use Rattle.yp_schema.specs.Datastore.{is_path_of, is_place, ends_in_key, ends_in_entry, IsRowOf, has_row, IsDatastore, AreWhole}
 use Rattle.yp_path.specs.declared.fault.PathFault.{PathFault}

@@ -14,8 +14,8 @@ use Rattle.yp_base.specs.declared.row.Value.{Value}
 use Rattle.yp_base.specs.declared.row.Row.{Row}
 use Rattle.yp_base.specs.Order.{path_cmp, is_within}
 use Rattle.yp_base.specs.Rows.{path_of, value_at, next_row, has_within, rows_within, rows_without, AreInOrder}
-use Rattle.yp_base.proofs.Exact.{paths_exact}
-use Rattle.yp_base.proofs.RowLaws.{value_at_without, without_keeps_order}
+use Rattle.yp_base.specs.Exact.{paths_exact}
+use Rattle.yp_base.specs.RowLaws.{value_at_without, without_keeps_order}
 use Rattle.yp_tree.specs.Listed.{row_of}
 use Rattle.yp_edit.specs.Bases.{Touched, KeepsValues, is_listed, left, untouched, Touches, StaysTouched, TouchesWithin}
 use Rattle.yp_edit.proofs.Alike.{IsBefore, are_one, tie_turned, ties_itself, same_rows}

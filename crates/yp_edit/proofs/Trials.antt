@@ -11,9 +11,9 @@ use Rattle.yp_base.specs.declared.row.Row.{Row}
 use Rattle.yp_base.specs.Order.{segment_cmp, is_within}
 use Rattle.yp_base.specs.OrderLaws.{segments_total}
 use Rattle.yp_base.specs.Rows.{value_at, put_row, put_rows, has_within, rows_without, AreInOrder}
-use Rattle.yp_base.proofs.Exact.{segments_exact}
-use Rattle.yp_base.proofs.PathLaws.{within_through}
-use Rattle.yp_base.proofs.RowLaws.{value_at_without, picked-puts}
+use Rattle.yp_base.specs.Exact.{segments_exact}
+use Rattle.yp_base.specs.PathLaws.{within_through}
+use Rattle.yp_base.specs.RowLaws.{value_at_without, picked-puts}
 use Rattle.yp_edit.specs.Drafts.{is_covered, covers, remaining}
 use Rattle.yp_edit.proofs.Taking.{all_left}
 

@@ -2,7 +2,7 @@
 use Rattle.std.proofs.Common.{◌≡◌, List, [], ◌∷◌, true≢false, refl, sym, subst}
 use Rattle.std.specs.Prelude.{Result, Ok, Err, OnOk, OnErr}
 use Rattle.yp_base.specs.declared.row.Row.{Row}
-use Rattle.yp_base.proofs.RowLaws.{none_order}
+use Rattle.yp_base.specs.RowLaws.{none_order}
 use Rattle.yp_schema.specs.declared.schema.SchemaNode.{SchemaNode}
 use Rattle.yp_schema.specs.Datastore.{IsDatastore}
 use Rattle.yp_edit.specs.Patches.{RefusedEdit, applied}

@@ -15,8 +15,8 @@ use Rattle.yp_base.specs.declared.row.Row.{Row}
 use Rattle.yp_base.specs.Order.{path_cmp, is_within}
 use Rattle.yp_base.specs.OrderLaws.{segments_total, paths_total}
 use Rattle.yp_base.specs.Rows.{path_of, value_at, has_within, rows_within, rows_without, row_of, rows_of}
-use Rattle.yp_base.proofs.Exact.{paths_exact}
-use Rattle.yp_base.proofs.Prefixes.{fronts_together}
+use Rattle.yp_base.specs.Exact.{paths_exact}
+use Rattle.yp_base.specs.Prefixes.{fronts_together}
 use Rattle.yp_tree.proofs.Nexts.{first_row, less_not_greater, included_from, included_within}
 use Rattle.yp_tree.specs.Listed.{without_row}
 

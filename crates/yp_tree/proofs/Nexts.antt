@@ -15,7 +15,7 @@ use Rattle.yp_base.specs.declared.row.Value.{Value}
 use Rattle.yp_base.specs.declared.row.Row.{Row}
 use Rattle.yp_base.specs.Order.{path_cmp, is_within, segment_cmp}
 use Rattle.yp_base.specs.OrderLaws.{segments_total, paths_total}
-use Rattle.yp_base.proofs.Prefixes.{front_not_after, fronts_together}
+use Rattle.yp_base.specs.Prefixes.{front_not_after, fronts_together}
 use Rattle.yp_tree.specs.Begins.{Begins}
 use Rattle.yp_base.specs.Rows.{path_of, next_row, row_of, rows_of}
 

@@ -14,7 +14,7 @@ use Rattle.yp_base.specs.declared.row.Row.{Row}
 use Rattle.yp_base.specs.Order.{path_cmp}
 use Rattle.yp_base.specs.OrderLaws.{paths_total}
 use Rattle.yp_base.specs.Rows.{path_of, value_at, put_row, put_rows, rows_within, rows_without, AreInOrder, row_of}
-use Rattle.yp_base.proofs.RowLaws.{all_past, first_order, rest_order, none_past, value_at_put}
+use Rattle.yp_base.specs.RowLaws.{all_past, first_order, rest_order, none_past, value_at_put}
 use Rattle.yp_tree.specs.Listed.{set_row, without_row, given_back, without_others, undone}
 use Rattle.yp_tree.proofs.Without.{puts_over, puts_apart, still_order}
 use Rattle.yp_tree.proofs.Cuts.{taken, others_are_all}

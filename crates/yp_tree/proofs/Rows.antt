@@ -11,7 +11,7 @@ use Rattle.yp_base.specs.declared.row.Row.{Row}
 use Rattle.yp_base.specs.declared.row.Value.{Value}
 use Rattle.yp_base.specs.Order.{path_cmp}
 use Rattle.yp_base.specs.Rows.{path_of, value_at, put_row, AreInOrder, row_of, rows_of}
-use Rattle.yp_base.proofs.RowLaws.{none_past, all_past, first_order, rest_order, put_last_row, put_keeps_order}
+use Rattle.yp_base.specs.RowLaws.{none_past, all_past, first_order, rest_order, put_last_row, put_keeps_order}
 use Rattle.yp_tree.specs.Listed.{set_row, without_row}
 
 pub value_at-lookup : (path : List Seg) (es : List (List Seg × Value)) → lookup (is_at (path_cmp path)) es ≡ value_at path (rows_of es)

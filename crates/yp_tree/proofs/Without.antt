@@ -8,8 +8,8 @@ use Rattle.yp_base.specs.declared.path.Seg.{Seg}
 use Rattle.yp_base.specs.declared.row.Row.{Row}
 use Rattle.yp_base.specs.Order.{path_cmp}
 use Rattle.yp_base.specs.Rows.{value_at, put_row, put_rows, AreInOrder}
-use Rattle.yp_base.proofs.Exact.{paths_exact}
-use Rattle.yp_base.proofs.RowLaws.{AllPast, all_past, first_order, rest_order, join_order, put_first, put_keeps_order}
+use Rattle.yp_base.specs.Exact.{paths_exact}
+use Rattle.yp_base.specs.RowLaws.{AllPast, all_past, first_order, rest_order, join_order, put_first, put_keeps_order}
 use Rattle.yp_tree.specs.Listed.{without_row}
 
 -- ---- a row less

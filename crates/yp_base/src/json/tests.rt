@@ -16,7 +16,7 @@ use std::process::Abort;
 use std::test::Fail;
 
 /// What is written of what JSON is read as, or `bad` where it isn't read.
-#[tactic(auto, using(crate::proofs::JsonLaws::json_fits))]
+#[tactic(auto, using(crate::specs::JsonLaws::json_fits))]
 fn rewritten(alloc: Global, ty: &LeafType, json: &Json) -> Result<String, NoMemory>
     requires { is_type ty.now ≡ true }
 {

@@ -1,6 +1,6 @@
 use Rattle.std.proofs.Common.{subst}
 use Rattle.yp_base.specs.Rows.{AreInOrder}
-use Rattle.yp_base.proofs.RowLaws.{puts_order}
+use Rattle.yp_base.specs.RowLaws.{puts_order}
 use Rattle.yp_edit.specs.Bases.{untouched}
 use Rattle.yp_edit.specs.Drafts.{Drafted}
 use Rattle.yp_edit.proofs.Bases.{left_order}

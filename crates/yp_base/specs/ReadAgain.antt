@@ -5,14 +5,25 @@ use Rattle.std.specs.Fmt.{decimal, signed_decimal}
 use Rattle.std.specs.List.{position_or_len}
 use Rattle.std.proofs.lemmas.Fmt.{decimal_by_steps, decimal_nonempty}
 use Rattle.std.proofs.lemmas.List.{length-replicate, length-append, length-take-le, take-append-drop}
+use Rattle.std.proofs.lemmas.Bool.{and_parts, and_from, leb-true, le-leb, lt-ltb, eqb-true, ne_eqb}
 use Rattle.std.proofs.Math.Seq.{take-append_seam, drop-append-add}
 use Rattle.yp_base.specs.Texts.{is_digit, value_from, magnitude_in, cut_sign, signed_in, number_in, around_point, units_in, units_around, decimal_at, decimal_in, is_between, filled_up, in_front_of_rest, without_end_zeros, shortened, with_point, decimal_text}
-use Rattle.yp_base.proofs.Digits.{value_append}
 
 -- ---- digits
 
+whole_then : (t : Bool) (n b : ℕ) (bs more : List ℕ)
+    → value_from (n * 10 + (b - 48)) (bs ++ more) ≡ option_and_then (λ m. value_from m more) (value_from (n * 10 + (b - 48)) bs)
+    → cond t (value_from (n * 10 + (b - 48)) (bs ++ more)) None ≡ option_and_then (λ m. value_from m more) (cond t (value_from (n * 10 + (b - 48)) bs) None)
+whole_then true n b bs more h = h
+whole_then false n b bs more h = refl
+
+-- digits in two pieces
+pub value_append : (n : ℕ) (bs more : List ℕ) → value_from n (bs ++ more) ≡ option_and_then (λ m. value_from m more) (value_from n bs)
+value_append n [] more = refl
+value_append n (b ∷ bs) more = whole_then (is_digit b) n b bs more (value_append (n * 10 + (b - 48)) bs more)
+
 digit_tests : (n : ℕ) → n < 10 → is_digit (48 + n) ≡ true
-digit_tests n h = grind (arith, h)
+digit_tests n h = and_from (nat_le 48 (48 + n)) (nat_le (48 + n) 57) (le-leb 48 (48 + n) (omega arith)) (le-leb (48 + n) 57 (omega arith))
 
 one_digit : (k n : ℕ) → n < 10 → value_from k ((48 + n) ∷ []) ≡ Some (k * 10 + n)
 one_digit k n h =
@@ -47,14 +58,17 @@ rest_at false o m e = cc
 rest_is_spelled : (n byte : ℕ) (bytes : List ℕ) (m : ℕ) → value_from n (byte ∷ bytes) ≡ Some m → value_from (n * 10 + (byte - 48)) bytes ≡ Some m
 rest_is_spelled n byte bytes m e = rest_at (is_digit byte) (value_from (n * 10 + (byte - 48)) bytes) m e
 
+least_digit : (byte : ℕ) → is_digit byte ≡ true → 48 ≤ byte
+least_digit byte h = leb-true 48 byte (and_parts (nat_le 48 byte) (nat_le byte 57) h).0
+
 no_minus : (byte : ℕ) → is_digit byte ≡ true → (byte == 45) ≡ false
-no_minus byte h = grind (arith, h)
+no_minus byte h = let low = least_digit byte h in ne_eqb byte 45 (λ is. omega arith)
 
 no_plus : (byte : ℕ) → is_digit byte ≡ true → (byte == 43) ≡ false
-no_plus byte h = grind (arith, h)
+no_plus byte h = let low = least_digit byte h in ne_eqb byte 43 (λ is. omega arith)
 
 no_point : (byte : ℕ) → is_digit byte ≡ true → (byte == 46) ≡ false
-no_point byte h = grind (arith, h)
+no_point byte h = let low = least_digit byte h in ne_eqb byte 46 (λ is. omega arith)
 
 -- digits have no sign
 no_sign : (digits : List ℕ) (m : ℕ) → value_from 0 digits ≡ Some m → cut_sign digits ≡ (false, digits)
@@ -81,10 +95,10 @@ minus_number low high n h = ap (option_and_then (signed_in low high true)) (magn
 -- a whole number is read again
 pub number_again : (low high : ℕ) (z : ℤ) → low < 2 ^ 64 → high < 2 ^ 64 → is_between low high z ≡ true → number_in low high (signed_decimal z) ≡ Some z
 number_again low high (pos n) l h e =
-    let small : n < 2 ^ 64 = grind (arith, e, h) in
+    let small : n < 2 ^ 64 = omega (arith, leb-true n high e) in
     plain_number low high n small ∙ ap (λ t. cond t (Some (pos n)) None) e
 number_again low high (negsuc n) l h e =
-    let small : suc n < 2 ^ 64 = grind (arith, e, l) in
+    let small : suc n < 2 ^ 64 = omega (arith, leb-true (suc n) low e) in
     minus_number low high (suc n) small ∙ ap (λ t. cond t (Some (negsuc n)) None) e
 
 -- ---- decimals
@@ -99,7 +113,7 @@ Zeros digits whole = (k : ℕ) × (digits ++ replicate k 48 ≡ whole)
 
 cut_in_front : (t : Bool) (digit k : ℕ) (digits : List ℕ) → (digit == 48) ≡ t → replicate k 48 ≡ digits → (j : ℕ) × (cond t [] (digit ∷ []) ++ replicate j 48 ≡ digit ∷ digits)
 cut_in_front true digit k digits is e =
-    let zero_digit : 48 ≡ digit = grind (arith, is) in
+    let zero_digit : 48 ≡ digit = sym (eqb-true digit 48 is) in
     (suc k, λ i. zero_digit i ∷ e i)
 cut_in_front false digit k digits is e = (k, ap (λ (ds : List ℕ). digit ∷ ds) e)
 
@@ -144,7 +158,7 @@ point_behind n (byte ∷ bytes) m rest e =
 cut_there : (front rest whole : List ℕ) → position_or_len (λ byte. byte == 46) whole ≡ length front → length front < length whole → take (length front) whole ≡ front → drop (length front + 1) whole ≡ rest
     → around_point whole ≡ (front, Some rest)
 cut_there front rest whole e longer before after =
-    let there : nat_lt (length front) (length whole) ≡ true = grind (arith, longer) in
+    let there : nat_lt (length front) (length whole) ≡ true = lt-ltb (length front) (length whole) longer in
     ap (λ k. cond (nat_lt k (length whole)) (take k whole, Some (drop (k + 1) whole)) (whole, None)) e
     ∙ ap (λ t. cond t (take (length front) whole, Some (drop (length front + 1) whole)) (whole, None)) there
     ∙ (λ i. (before i, Some (after i)))
@@ -193,8 +207,8 @@ module _ (places : ℕ) (digits : List ℕ) (m : ℕ) (some : 1 ≤ places) (mor
       let back : length part ≡ places = part_length in
       let not_empty : 0 < length whole = omega arith in
       let filled : 0 < length part = omega arith in
-      let some_part : nat_lt 0 (length (shortened part)) ≡ true = grind (arith, shortened_not_empty part filled) in
-      let fits : nat_le (length (shortened part)) places ≡ true = grind (arith, shortened_fits places part back) in
+      let some_part : nat_lt 0 (length (shortened part)) ≡ true = lt-ltb 0 (length (shortened part)) (shortened_not_empty part filled) in
+      let fits : nat_le (length (shortened part)) places ≡ true = le-leb (length (shortened part)) places (shortened_fits places part back) in
       ap (λ t. cond (t && nat_le (length (shortened part)) places) (units_in places whole (shortened part)) None) some_part
       ∙ ap (λ t. cond t (units_in places whole (shortened part)) None) fits
       ∙ ap (λ (ds : List ℕ). option_and_then (λ n. value_from n ds) (magnitude_in whole)) (fill_again places part back)
@@ -232,10 +246,10 @@ filled_spells count n h = zeros_in_front (count - length (decimal n)) (decimal n
 -- a decimal is read again
 pub decimal_again : (places : ℕ) (z : ℤ) → 1 ≤ places → is_between (2 ^ 63) (2 ^ 63 - 1) z ≡ true → decimal_in places (decimal_text z places) ≡ Some z
 decimal_again places (pos n) some e =
-    let small : n < 2 ^ 64 = grind (arith, e) in
+    let small : n < 2 ^ 64 = omega (arith, leb-true n (2 ^ 63 - 1) e) in
     let longer : places < length (filled_up (places + 1) (decimal n)) = omega (arith, filled_length (places + 1) (decimal n)) in
     plain_again places (filled_up (places + 1) (decimal n)) n some longer (filled_spells (places + 1) n small) ∙ ap (λ t. cond t (Some (pos n)) None) e
 decimal_again places (negsuc n) some e =
-    let small : suc n < 2 ^ 64 = grind (arith, e) in
+    let small : suc n < 2 ^ 64 = omega (arith, leb-true (suc n) (2 ^ 63) e) in
     let longer : places < length (filled_up (places + 1) (decimal (suc n))) = omega (arith, filled_length (places + 1) (decimal (suc n))) in
     minus_again places (filled_up (places + 1) (decimal (suc n))) (suc n) some longer (filled_spells (places + 1) (suc n) small) ∙ ap (λ t. cond t (Some (negsuc n)) None) e

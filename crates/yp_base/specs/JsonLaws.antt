@@ -12,7 +12,7 @@ use Rattle.yp_base.specs.declared.row.Value.TheVariants.{Atom as Plain, Member, 
 use Rattle.yp_base.specs.Types.{is_type}
 use Rattle.yp_base.specs.Texts.{atom_in, atom_text, fits, fits_bool, fits_int, fits_uint, is_between}
 use Rattle.yp_base.specs.Json.{whole_in, string_in, plain_in, is_null_array, value_in, atom_data, value_data, value_fits}
-use Rattle.yp_base.proofs.TextLaws.{made_of, size_between, read_fits, text_again}
+use Rattle.yp_base.specs.TextLaws.{made_of, size_between, read_fits, text_again}
 
 -- ---- what is read fits
 

@@ -12,9 +12,9 @@ use Rattle.yp_base.specs.declared.path.Seg.{Seg}
 use Rattle.yp_base.specs.declared.row.Row.{Row}
 use Rattle.yp_base.specs.Order.{path_cmp, is_within}
 use Rattle.yp_base.specs.OrderLaws.{paths_total}
-use Rattle.yp_base.proofs.Exact.{paths_exact}
-pub use Rattle.yp_base.proofs.PathLaws.{greater_turned as below}
-use Rattle.yp_base.proofs.PathLaws.{less_turned, greater_turned}
+use Rattle.yp_base.specs.Exact.{paths_exact}
+pub use Rattle.yp_base.specs.PathLaws.{greater_turned as below}
+use Rattle.yp_base.specs.PathLaws.{less_turned, greater_turned}
 use Rattle.yp_base.specs.Rows.{put_row, put_rows, value_at, path_of, rows_within, rows_without, AreInOrder}
 
 -- a path is before each of these rows

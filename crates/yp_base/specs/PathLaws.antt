@@ -10,7 +10,7 @@ use Rattle.yp_base.specs.Order.{is_within, segment_cmp, path_cmp}
 use Rattle.yp_base.specs.OrderLaws.{segments_total, paths_total}
 use Rattle.yp_base.specs.Types.{same_text}
 use Rattle.yp_base.specs.Paths.{same_number}
-use Rattle.yp_base.proofs.Prefixes.{front_not_after, fronts_together}
+use Rattle.yp_base.specs.Prefixes.{front_not_after, fronts_together}
 
 pub less_turned : (one two : List Seg) → path_cmp one two ≡ Less → path_cmp two one ≡ Greater
 less_turned one two h = paths_total.antisymm two one ∙ ap ordering_reverse h
@@ -27,8 +27,8 @@ within_through [] two three h k = refl
 within_through (a ∷ one) [] three h k = cc
 within_through (a ∷ one) (b ∷ two) [] h k = cc
 within_through (a ∷ one) (b ∷ two) (c ∷ three) h k =
-    let upper = and_parts _ _ h in
-    let lower = and_parts _ _ k in
+    let upper = and_parts (is_eq (segment_cmp a b)) (is_within one two) h in
+    let lower = and_parts (is_eq (segment_cmp b c)) (is_within two three) k in
     elim (segment_cmp a b) as (λ r. segment_cmp a b ≡ r → is_eq r ≡ true → is_within (a ∷ one) (c ∷ three) ≡ true) [
       | Less ↦ λ e m. cc
       | Equal ↦ λ e m. and_from _ _ (ap is_eq (segments_total.congr a b c e) ∙ lower.0) (within_through one two three upper.1 lower.1)

@@ -1,13 +1,14 @@
 -- Values of a type: what is read fits, and what is written is read again.
 use Rattle.std.proofs.Common.{◌≡◌, ℕ, zero, suc, ◌<◌, ◌≤◌, ◌-◌, ◌^◌, ◌==◌, ◌&&◌, ◌||◌, List, Bool, true, false, cond, Option, Some, None, option_map, option_and_then, nat_le, refl, sym, ap, ◌∙◌, subst, arith}
 use Rattle.std.specs.Prelude.{ℤ, pos, negsuc, unsigned_abs}
+use Rattle.std.proofs.lemmas.Bool.{and_parts, leb-true, le-leb, eqb-true, eq-eqb}
 use Rattle.yp_base.specs.declared.atom.Atom.{Atom}
 use Rattle.yp_base.specs.declared.atom.Atom.TheVariants.{Bool as Truth, Int, Uint, Dec, Text}
 use Rattle.yp_base.specs.declared.leaf_type.LeafType.{LeafType}
 use Rattle.yp_base.specs.declared.leaf_type.LeafType.TheVariants.{Bool as TruthType, Int as IntType, Uint as UintType, Dec as DecType, Text as TextType, Names, Empty}
 use Rattle.yp_base.specs.Types.{is_type, is_width, is_short, is_among}
 use Rattle.yp_base.specs.Texts.{cut_sign, magnitude_in, around_point, units_around, signed_in, number_in, decimal_in, is_between, truth_in, atom_in, atom_text, fits, fits_bool, fits_int, fits_uint, fits_dec, fits_text, fits_names}
-use Rattle.yp_base.proofs.ReadAgain.{number_again, decimal_again}
+use Rattle.yp_base.specs.ReadAgain.{number_again, decimal_again}
 
 -- ---- what is read fits
 
@@ -20,7 +21,7 @@ zero_kept true z p y is e = let same : y ≡ z = cc in ap p (sym same) ∙ is
 zero_kept false z p y is e = cc
 
 between_signed : (low high : ℕ) (negative : Bool) (n : ℕ) (z : ℤ) → signed_in low high negative n ≡ Some z → is_between low high z ≡ true
-between_signed low high true zero z e = zero_kept (nat_le 0 low) z (is_between low high) (pos 0) (grind arith) e
+between_signed low high true zero z e = zero_kept (nat_le 0 low) z (is_between low high) (pos 0) (le-leb 0 high (omega arith)) e
 between_signed low high true (suc n) z e = kept_at (nat_le (suc n) low) z (is_between low high) (negsuc n) refl e
 between_signed low high false n z e = kept_at (nat_le n high) z (is_between low high) (pos n) refl e
 
@@ -40,10 +41,10 @@ kept_text false p text a is e = cc
 -- no number below zero is one of a type without sign
 pub size_between : (high : ℕ) (z : ℤ) → is_between 0 high z ≡ true → nat_le (unsigned_abs z) high ≡ true
 size_between high (pos n) e = e
-size_between high (negsuc n) e = absurd (grind (arith, e))
+size_between high (negsuc n) e = absurd (omega (arith, leb-true (suc n) 0 e))
 
 same_places : (places : ℕ) → (places == places) ≡ true
-same_places places = grind arith
+same_places places = eq-eqb places places refl
 
 -- what is read is a value of the type
 pub read_fits : (ty : LeafType) (text : List ℕ) (a : Atom) → atom_in ty text ≡ Some a → fits ty a ≡ true
@@ -64,7 +65,7 @@ or_else P true t one two e = one refl
 or_else P false t one two e = two e
 
 at_width : (P : ℕ → Type 0) (bits k : ℕ) → P k → (bits == k) ≡ true → P bits
-at_width P bits k here is = let same : k ≡ bits = grind (arith, is) in subst P same here
+at_width P bits k here is = let same : k ≡ bits = sym (eqb-true bits k is) in subst P same here
 
 -- what holds of 8, 16, 32 and 64 bits holds of each width
 pub each_width : (P : ℕ → Type 0) → P 8 → P 16 → P 32 → P 64 → (bits : ℕ) → is_width bits ≡ true → P bits
@@ -75,10 +76,6 @@ each_width P a b c d bits e =
 
 width_fits : (bits : ℕ) → is_width bits ≡ true → (2 ^ (bits - 1) < 2 ^ 64) × (2 ^ bits - 1 < 2 ^ 64)
 width_fits = each_width (λ bits. (2 ^ (bits - 1) < 2 ^ 64) × (2 ^ bits - 1 < 2 ^ 64)) (omega arith, omega arith) (omega arith, omega arith) (omega arith, omega arith) (omega arith, omega arith)
-
-pub both_true : (s t : Bool) → (s && t) ≡ true → (s ≡ true) × (t ≡ true)
-both_true true t e = (refl, e)
-both_true false t e = cc
 
 pub text_again : (ty : LeafType) (a : Atom) → is_type ty ≡ true → fits ty a ≡ true → atom_in ty (atom_text a) ≡ Some a
 text_again TruthType (Truth true) t e = refl
@@ -105,10 +102,10 @@ text_again (DecType places) (Truth b) t e = cc
 text_again (DecType places) (Int n) t e = cc
 text_again (DecType places) (Uint n) t e = cc
 text_again (DecType places) (Dec u p) t e =
-    let ends = both_true (nat_le 1 places) (nat_le places 18) t in
-    let parts = both_true (p == places) (is_between (2 ^ 63) (2 ^ 63 - 1) u) e in
-    let same : p ≡ places = grind (arith, parts.0) in
-    let some : 1 ≤ p = grind (arith, ends.0, same) in
+    let ends = and_parts (nat_le 1 places) (nat_le places 18) t in
+    let parts = and_parts (p == places) (is_between (2 ^ 63) (2 ^ 63 - 1) u) e in
+    let same : p ≡ places = eqb-true p places parts.0 in
+    let some : 1 ≤ p = omega (arith, leb-true 1 places ends.0) in
     ap (λ k. option_map (λ units. Dec units k) (decimal_in k (atom_text (Dec u p)))) (sym same) ∙ ap (option_map (λ units. Dec units p)) (decimal_again p u some parts.1)
 text_again (DecType places) (Text s) t e = cc
 text_again TextType (Truth b) t e = cc
