@@ -1,0 +1,6 @@
+use Rattle.std.proofs.lemmas.Bool.Decides.{Decides-at}
+use Rattle.yp_nacm.proofs.Same.{own_rules_decide}
+use Rattle.yp_nacm.proofs.compile.same_rules.Goals as goal
+
+pub returns : goal.returns
+returns c = Decides-at c.eq.result _ c.eq.ensures (own_rules_decide c.args.one.now c.args.other.now)

@@ -1,0 +1,4 @@
+pub mod AccessLaws
+pub mod Decision
+pub mod Own
+pub mod Policies
