@@ -9,7 +9,7 @@ use Rattle.std.specs.Ordering.{eq_by_cmp}
 use Rattle.std.proofs.Math.Bool.{beq}
 use Rattle.std.proofs.lemmas.Bool.Decides.{Decides-eqb, Decides-and, Decides-like, Decides-at}
 use Rattle.std.proofs.lemmas.Slice.Eq.{slice_eq-Decides}
-use Rattle.yp_base.proofs.Exact.{atoms_exact, order_decides}
+use Rattle.yp_base.specs.Exact.{atoms_exact, order_decides}
 use Rattle.yp_base.specs.Order.{atom_cmp}
 use Rattle.yp_base.specs.OrderLaws.{atoms_total}
 use Rattle.yp_base.specs.declared.atom.Atom.{Atom}

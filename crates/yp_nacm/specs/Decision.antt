@@ -8,7 +8,7 @@ use Rattle.yp_base.specs.Order.{atom_cmp}
 use Rattle.yp_base.specs.Types.{same_text}
 use Rattle.yp_schema.specs.declared.rule_path.RuleSeg.{RuleSeg}
 use Rattle.yp_schema.specs.declared.schema.SchemaNode.{SchemaNode}
-use Rattle.yp_schema.specs.Datastore.{last_node}
+use Rattle.yp_base.specs.Paths.{last_node}
 use Rattle.yp_schema.specs.Nodes.{node_at, no_node}
 use Rattle.yp_nacm.specs.declared.compile.UserRule.{UserRule}
 use Rattle.yp_nacm.specs.declared.compile.UserRules.{UserRules}
