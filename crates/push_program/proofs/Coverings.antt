@@ -4,6 +4,7 @@ use Rattle.std.specs.Prelude.{filter}
 use Rattle.std.specs.List.{list_any, AllByRecursion}
 use Rattle.std.specs.Ordering.{is_eq}
 use Rattle.std.proofs.lemmas.Bool.{and_parts}
+use Rattle.yp_base.specs.PathLaws.{within_through}
 use Rattle.yp_base.specs.declared.path.Seg.{Seg}
 use Rattle.yp_base.specs.Order.{path_cmp, is_within}
 use Rattle.yp_data_json.proofs.AtPlace.{front_rest}
@@ -20,18 +21,12 @@ or_right : (a b : Bool) → b ≡ true → (a || b) ≡ true
 or_right true b h = refl
 or_right false b h = h
 
--- a path goes on from each that it is at or below
-within_on : (root above path : List Seg) → is_within root above ≡ true → is_within above path ≡ true → is_within root path ≡ true
-within_on root above path upper lower =
-    let found = front_rest above path lower in
-    subst (λ (p : List Seg). is_within root p ≡ true) (sym found.1) (within_more root above found.0 upper)
-
 -- what is below a covered path is covered
 rooted_on : (above path : List Seg) (roots : List (List Seg)) → is_within above path ≡ true → has_root above roots ≡ true → has_root path roots ≡ true
 rooted_on above path [] lower h = absurd (true≢false (sym h))
 rooted_on above path (root ∷ roots) lower h =
     elim (is_within root above) as (λ b. is_within root above ≡ b → (b || has_root above roots) ≡ true → (is_within root path || has_root path roots) ≡ true) [
-      | true ↦ λ e k. ap (λ b. b || has_root path roots) (within_on root above path e lower)
+      | true ↦ λ e k. ap (λ b. b || has_root path roots) (within_through root above path e lower)
       | false ↦ λ e k. or_right (is_within root path) (has_root path roots) (rooted_on above path roots lower k)
     ] refl h
 

@@ -3,6 +3,7 @@ use Rattle.std.proofs.Common.{◌≡◌, ℕ, true, false, not, ◌&&◌, List, 
 use Rattle.std.specs.Prelude.{is_some}
 use Rattle.std.specs.List.{AllByRecursion}
 use Rattle.std.specs.Ordering.{is_eq}
+use Rattle.std.proofs.lemmas.Bool.{and_parts}
 use Rattle.yp_base.specs.declared.path.Seg.{Seg}
 use Rattle.yp_base.specs.declared.row.Value.{Value}
 use Rattle.yp_base.specs.declared.row.Row.{Row}
@@ -13,14 +14,14 @@ use Rattle.yp_base.specs.Rows.{AreInOrder, value_at, rows_within}
 use Rattle.yp_base.specs.RowLaws.{some_keep_order}
 use Rattle.yp_schema.specs.declared.schema.SchemaNode.{SchemaNode}
 use Rattle.yp_schema.specs.Nodes.{node_at}
-use Rattle.yp_schema.specs.Datastore.{is_path_of, is_place, is_key_node, is_key_at, last_node, value_of_kind, holds_value, IsRowOf, AreWritable}
+use Rattle.yp_base.specs.Paths.{last_node}
+use Rattle.yp_schema.specs.Datastore.{is_path_of, is_place, is_key_node, is_key_at, value_of_kind, holds_value, IsRowOf, AreWritable}
 use Rattle.yp_edit.specs.declared.changed.ChangedRow.{ChangedRow}
 use Rattle.yp_edit.proofs.Alike.{are_one}
 use Rattle.yp_base.specs.PathLaws.{within_itself}
 use Rattle.yp_encode.specs.Sendable.{IsSendableChange}
 use Rattle.push_program.specs.Access.{is_readable, visible_rows}
 use Rattle.push_program.specs.Roots.{kind_of, carried_below, edit_of}
-use Rattle.push_program.proofs.Picks.{both}
 use Rattle.push_program.proofs.Selected.{value_picked}
 use Rattle.push_program.proofs.Selections.{all_picked, all_pass}
 
@@ -38,7 +39,7 @@ there_of_schema nodes path value (row ∷ rows) all there =
 
 no_key : (nodes : List SchemaNode) (node : Option ℕ) (value : Value) → holds_value nodes node value ≡ true → not (is_key_at nodes node) ≡ true
 no_key nodes None value holds = refl
-no_key nodes (Some n) value holds = (both (not (is_key_node nodes n)) (value_of_kind (node_at n nodes).kind (node_at n nodes).ty value) holds).0
+no_key nodes (Some n) value holds = (and_parts (not (is_key_node nodes n)) (value_of_kind (node_at n nodes).kind (node_at n nodes).ty value) holds).0
 
 -- data may stand where there is a row
 row_place : (nodes : List SchemaNode) (path : List Seg) (value : Value) → IsRowOf nodes (record { path = path; value = value }) → is_place nodes path ≡ true

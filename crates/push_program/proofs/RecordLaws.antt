@@ -17,7 +17,7 @@ use Rattle.yp_schema.specs.declared.schema.Kind.{Kind}
 use Rattle.yp_schema.specs.declared.schema.Kind.TheVariants.{Container, Presence, List as Listing, Leaf, LeafList}
 use Rattle.yp_schema.specs.Nodes.{node_at, may_hold}
 use Rattle.yp_schema.specs.WellFormed.{IsSchema}
-use Rattle.yp_schema.specs.Datastore.{goes_down, is_path_of, last_node, holds_value, value_of_kind, is_key_node, is_entry_kind, last_kind_is, has_row, IsRowOf, IsDatastore}
+use Rattle.yp_schema.specs.Datastore.{goes_down, is_path_of, holds_value, value_of_kind, is_key_node, is_entry_kind, last_kind_is, has_row, IsRowOf, IsDatastore}
 use Rattle.yp_data_json.proofs.AtPlace.{front_rest, node_after, goes_on}
 use Rattle.yp_data_json.proofs.Steps.{leaf_ends}
 use Rattle.yp_edit.specs.declared.changed.ChangedRow.{ChangedRow}
@@ -31,7 +31,7 @@ use Rattle.yp_edit.proofs.Drafts.{or_else, value_at_puts}
 use Rattle.yp_edit.proofs.Keeping.{holds_at, or_cases}
 use Rattle.push_program.specs.Access.{is_readable, visible_rows}
 use Rattle.push_program.specs.Concealed.{AllReadable, IsReadableChange}
-use Rattle.yp_base.specs.Paths.{is_above, topmost as roots_of}
+use Rattle.yp_base.specs.Paths.{is_above, topmost as roots_of, last_node}
 use Rattle.yp_edit.specs.Records.{changed_paths, carried_rows, change_at, change_record}
 use Rattle.push_program.proofs.Selections.{value_at_picked, all_picked, selection_is, selected_readable}
 use Rattle.push_program.proofs.Coverings.{has_root, listed_rooted, some_paths}

@@ -13,7 +13,7 @@ use Rattle.yp_data_json.proofs.AtPlace.{front_rest}
 use Rattle.yp_data_json.proofs.Growing.{within_more}
 use Rattle.yp_tree.proofs.Nexts.{less_not_greater}
 use Rattle.yp_edit.proofs.Alike.{IsBefore}
-use Rattle.yp_base.specs.PathLaws.{within_itself}
+use Rattle.yp_base.specs.PathLaws.{within_itself, within_through}
 use Rattle.yp_base.specs.Paths.{is_above, topmost as roots_of}
 use Rattle.push_program.specs.Roots.{is_covered}
 
@@ -24,10 +24,6 @@ outside path other after =
       | true ↦ λ within. absurd (true≢false (ap is_gt (sym after) ∙ front_not_after segment_cmp path other within))
       | false ↦ λ within. refl
     ] refl
-
--- a path at or below one that is at or below another is so too
-within_both : (one two path : List Seg) → is_within one two ≡ true → is_within two path ≡ true → is_within one path ≡ true
-within_both one two path upper lower = let rest = front_rest two path lower in ap (is_within one) rest.1 ∙ within_more one two rest.0 upper
 
 -- a path is neither at nor below one that comes after it
 apart : (path later : List Seg) → path_cmp path later ≡ Less → is_within later path ≡ false
@@ -63,7 +59,7 @@ past_rest (Some root) path paths past = past.1
 
 covered_below : (root : Option (List Seg)) (path below : List Seg) → is_covered root path ≡ true → is_within path below ≡ true → is_covered root below ≡ true
 covered_below None path below covered within = absurd (true≢false (sym covered))
-covered_below (Some root) path below covered within = within_both root path below covered within
+covered_below (Some root) path below covered within = within_through root path below covered within
 
 -- what comes past a path that isn't at or below the root isn't either
 never_again : (root : Option (List Seg)) (path later : List Seg) (paths : List (List Seg)) → IsPast root (path ∷ paths) → is_covered root path ≡ false → path_cmp path later ≡ Less → is_covered root later ≡ false

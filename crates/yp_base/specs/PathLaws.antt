@@ -3,6 +3,7 @@ use Rattle.std.proofs.Common.{◌≡◌, ℕ, List, [], ◌∷◌, true, false, 
 use Rattle.std.proofs.lemmas.Bool.{and_parts, and_from, eqb-true}
 use Rattle.std.proofs.lemmas.Cmp.{tied_itself}
 use Rattle.std.proofs.lemmas.Slice.Eq.{bytes_eq-Decides}
+use Rattle.std.specs.Cmp.Lexicographic.{nat_list_eq_equiv}
 use Rattle.std.specs.Ordering.{is_eq, is_gt, ordering_reverse}
 use Rattle.std.specs.declared.cmp.Ordering.TheVariants.{Less, Equal, Greater}
 use Rattle.yp_base.specs.declared.path.Seg.{Seg}
@@ -46,6 +47,12 @@ texts_same one two = (bytes_eq-Decides one two).0
 
 pub texts_told : (one two : List ℕ) → one ≡ two → same_text one two ≡ true
 texts_told one two = (bytes_eq-Decides one two).1
+
+pub texts_itself : (text : List ℕ) → same_text text text ≡ true
+texts_itself = nat_list_eq_equiv.refl
+
+pub texts_turned : (one two : List ℕ) → same_text one two ≡ same_text two one
+texts_turned = nat_list_eq_equiv.symm
 
 pub numbers_same : (one two : Option ℕ) → same_number one two ≡ true → one ≡ two
 numbers_same None None h = refl

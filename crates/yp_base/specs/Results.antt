@@ -1,5 +1,5 @@
 -- Steps that may fail.
-use Rattle.std.specs.Prelude.{Option, Some, None, Result, Ok, Err}
+use Rattle.std.specs.Prelude.{◌≡◌, false, Option, Some, None, is_some, Result, Ok, Err, refl}
 
 -- a step, and the next one with what it gave; the first fault stands
 infixl 10 ◌>>=◌
@@ -11,3 +11,8 @@ abbrev pub ◌>>=◌ : {A B F : Type 0} → Result A F → (A → Result B F) �
 abbrev pub or_fault : {A F : Type 0} → F → Option A → Result A F
 or_fault e None = Err e
 or_fault e (Some x) = Ok x
+
+-- what is not there is None
+pub none_is : {X : Type 0} (o : Option X) → is_some o ≡ false → o ≡ None
+none_is None h = refl
+none_is (Some x) h = cc

@@ -17,10 +17,10 @@ use Rattle.yp_schema.specs.declared.schema.SchemaNode.{SchemaNode}
 use Rattle.yp_schema.specs.declared.schema.Kind.TheVariants.{Leaf}
 use Rattle.yp_schema.specs.Nodes.{node_at, may_hold}
 use Rattle.yp_schema.specs.WellFormed.{IsSchema}
-use Rattle.yp_schema.specs.Datastore.{goes_down, is_segment, is_place, last_node, holds_value, value_of_kind, typed_fits, IsRowOf, is_leaf_kind, last_kind_is, ends_in_leaf, has_row, AreWritable}
+use Rattle.yp_schema.specs.Datastore.{goes_down, is_segment, is_place, holds_value, value_of_kind, typed_fits, IsRowOf, is_leaf_kind, last_kind_is, ends_in_leaf, has_row, AreWritable}
 use Rattle.yp_schema.specs.SchemaLaws.{path_down}
 use Rattle.yp_data_json.specs.Forest.{forest_at}
-use Rattle.yp_base.specs.Paths.{last_segment}
+use Rattle.yp_base.specs.Paths.{last_segment, last_node}
 use Rattle.yp_data_json.specs.Writing.{leaf_data, members_in, place_data, data_at, named_member, rows_json}
 use Rattle.std.specs.Prelude.{IfOk}
 use Rattle.serde_json.specs.Data.{Data, object}

@@ -9,7 +9,8 @@ use Rattle.yp_base.specs.declared.row.Value.TheVariants.{Member, Present}
 use Rattle.yp_schema.specs.declared.schema.SchemaNode.{SchemaNode}
 use Rattle.yp_schema.specs.declared.schema.Kind.{Kind}
 use Rattle.yp_schema.specs.declared.schema.Kind.TheVariants.{Container, Presence, List as Listing, Leaf, LeafList}
-use Rattle.yp_schema.specs.Nodes.{node_at, child_of, is_key, is_in, same_number}
+use Rattle.yp_base.specs.Paths.{same_number}
+use Rattle.yp_schema.specs.Nodes.{node_at, child_of, is_key, is_in}
 use Rattle.yp_schema.specs.WellFormed.{IsSchema, is_key_leaf, are_key_leaves}
 use Rattle.yp_schema.specs.Datastore.{atom_fits, keys_fit, typed_fits}
 use Rattle.yp_data_json.specs.Forest.{Forest, bare, branch}

@@ -12,8 +12,9 @@ use Rattle.yp_base.specs.Order.{is_front, is_within, segment_cmp}
 use Rattle.yp_base.specs.Rows.{AreInOrder, put_row}
 pub use Rattle.yp_base.specs.PathLaws.{within_itself as within_self}
 use Rattle.yp_schema.specs.declared.schema.SchemaNode.{SchemaNode}
-use Rattle.yp_schema.specs.Nodes.{node_at, same_number}
-use Rattle.yp_schema.specs.Datastore.{is_segment, goes_down, is_path_of, last_node, IsRowOf, ends_in_entry, has_row, HaveEntries}
+use Rattle.yp_base.specs.Paths.{same_number, last_node}
+use Rattle.yp_schema.specs.Nodes.{node_at}
+use Rattle.yp_schema.specs.Datastore.{is_segment, goes_down, is_path_of, IsRowOf, ends_in_entry, has_row, HaveEntries}
 use Rattle.yp_data_json.specs.Reading.{below, row_at}
 use Rattle.yp_data_json.proofs.PutRows.{all_put, put_in_order, put_there, put_elsewhere, same_or_apart, put_keeps}
 

@@ -5,7 +5,8 @@ use Rattle.std.specs.List.{AllByRecursion}
 use Rattle.std.proofs.lemmas.Bool.{and_parts, and_from, lt-ltb}
 use Rattle.std.proofs.lemmas.List.Elements.{All-from_recursion}
 use Rattle.yp_schema.specs.declared.schema.Kind.TheVariants.{Container}
-use Rattle.yp_schema.specs.Nodes.{node_at, same_number, is_key}
+use Rattle.yp_base.specs.Paths.{same_number}
+use Rattle.yp_schema.specs.Nodes.{node_at, is_key}
 use Rattle.yp_data_json.specs.Reading.{below}
 use Rattle.serde_json.specs.Data.{Data}
 use Rattle.yp_base.specs.declared.path.Seg.{Seg}

@@ -2,6 +2,7 @@
 use Rattle.std.proofs.Common.{◌≡◌, ℕ, ◌<◌, length, List, [], ◌∷◌, ◌++◌, Bool, true, false, refl, sym, ap, subst, ◌∙◌, cond}
 use Rattle.std.specs.Prelude.{Option, Some, None, is_some, Ok, Err, not, if◌then◌else◌}
 use Rattle.std.proofs.lemmas.Bool.{and_from, lt-ltb}
+use Rattle.yp_base.specs.PathLaws.{numbers_same}
 use Rattle.yp_base.specs.declared.atom.Atom.{Atom}
 use Rattle.yp_base.specs.declared.path.Seg.{Seg}
 use Rattle.yp_base.specs.declared.row.Value.{Value}
@@ -12,7 +13,8 @@ use Rattle.yp_base.specs.Rows.{put_row, value_at}
 use Rattle.yp_schema.specs.declared.schema.SchemaNode.{SchemaNode}
 use Rattle.yp_schema.specs.declared.schema.Kind.{Kind}
 use Rattle.yp_schema.specs.declared.schema.Kind.TheVariants.{Container, Presence, List as Listing, Leaf, LeafList}
-use Rattle.yp_schema.specs.Nodes.{node_at, same_number, child_of, is_key}
+use Rattle.yp_base.specs.Paths.{same_number}
+use Rattle.yp_schema.specs.Nodes.{node_at, child_of, is_key}
 use Rattle.yp_schema.specs.Datastore.{keys_of_kind, is_segment, is_path_of, is_key_node, value_of_kind, holds_value, is_entry_kind, last_kind_is, ends_in_entry, has_row}
 use Rattle.serde_json.specs.Data.{Data, null, boolean, number, string, array, object, Items, no_items, item, Members, no_members, member}
 use Rattle.yp_data_json.specs.declared.fault.DataFault.TheVariants.{UnknownElement, InvalidValue, RepeatedKey}
@@ -21,7 +23,7 @@ use Rattle.yp_base.specs.Results.{◌>>=◌}
 use Rattle.yp_data_json.specs.Reading.{valid, keys_in, below, row_at, leaf_read, entered, value_read, values_read, in_object, in_array, in_plain, plain_read, for_child, members_read, node_read, entries_read, entry_read}
 use Rattle.yp_data_json.proofs.PutRows.{put_there}
 use Rattle.yp_data_json.proofs.Growing.{Stand, Grown, Entered, grown_still, grown_on, cut, put_grown, last_of, path_more, within_more}
-use Rattle.yp_data_json.proofs.Readings.{bound, ok_rows, given, value_typed, atom_typed, keys_typed, same_is, child_is}
+use Rattle.yp_data_json.proofs.Readings.{bound, ok_rows, given, value_typed, atom_typed, keys_typed, child_is}
 
 -- a node with keys below a path, where rows may stand
 pub record Spot (nodes : List SchemaNode) (at : List Seg) (n : ℕ) (path : List Seg) (keys : List Atom) (rows : List Row) : Type 0 where
@@ -76,7 +78,7 @@ module _ (nodes : List SchemaNode) (at : List Seg) where
   -- a child that is no key
   here_under : (parent : Option ℕ) (path : List Seg) (rows : List Row) (n : ℕ) → Under nodes at parent path rows → n < length nodes → same_number (node_at n nodes).parent parent ≡ true → is_key n parent nodes ≡ false → Here nodes at n path rows
   here_under parent path rows n under low same free = λ keys fit. record {
-    free = subst (λ (p : Option ℕ). is_key n p nodes ≡ false) (sym (same_is _ _ same)) free;
+    free = subst (λ (p : Option ℕ). is_key n p nodes ≡ false) (sym (numbers_same _ _ same)) free;
     place = under.down (record { node = n; keys = keys }) same (and_from _ _ (lt-ltb n (length nodes) low) fit);
     inside = within_more at path (record { node = n; keys = keys } ∷ []) under.inside;
     above = under.above;

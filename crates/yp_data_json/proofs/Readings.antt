@@ -10,7 +10,8 @@ use Rattle.yp_base.specs.declared.row.Row.{Row}
 use Rattle.yp_base.specs.Json.{value_in}
 use Rattle.yp_base.specs.JsonLaws.{json_fits}
 use Rattle.yp_schema.specs.declared.schema.SchemaNode.{SchemaNode}
-use Rattle.yp_schema.specs.Nodes.{no_node, node_at, same_number, is_child, place_from, child_of}
+use Rattle.yp_base.specs.Paths.{same_number}
+use Rattle.yp_schema.specs.Nodes.{no_node, node_at, is_child, place_from, child_of}
 use Rattle.yp_schema.specs.Datastore.{atom_fits, keys_fit, typed_fits}
 use Rattle.serde_json.specs.Data.{Data, Members}
 use Rattle.serde_json.specs.Find.{get_member}
@@ -111,12 +112,6 @@ found_place test from (x ∷ nodes) n h =
           let later = found_place test (from + 1) nodes n g in
           (suc later.0, omega (arith, later.1), omega (arith, later.2), later.3)
     ] refl h
-
-pub same_is : (a b : Option ℕ) → same_number a b ≡ true → a ≡ b
-same_is None None h = refl
-same_is None (Some y) h = cc
-same_is (Some x) None h = cc
-same_is (Some x) (Some y) h = ap (λ (n : ℕ). Some n) (eqb-true x y h)
 
 -- the child of a name is a node below its parent
 pub child_is : {C : Type 0} (nodes : List SchemaNode) (parent : Option ℕ) (name : List ℕ) (n : ℕ) → child_of parent name nodes ≡ Some n → (n < length nodes → same_number (node_at n nodes).parent parent ≡ true → C) → C

@@ -14,7 +14,8 @@ use Rattle.yp_base.specs.declared.row.Row.{Row}
 use Rattle.yp_schema.specs.declared.schema.SchemaNode.{SchemaNode}
 use Rattle.yp_schema.specs.declared.schema.Kind.{Kind}
 use Rattle.yp_schema.specs.declared.schema.Kind.TheVariants.{Container, Presence, List as Listing, Leaf, LeafList}
-use Rattle.yp_schema.specs.Nodes.{node_at, same_number, is_in, may_hold}
+use Rattle.yp_base.specs.Paths.{same_number}
+use Rattle.yp_schema.specs.Nodes.{node_at, is_in, may_hold}
 use Rattle.yp_schema.specs.WellFormed.{IsSchema, is_parent_of, is_empty, is_key_leaf, are_key_leaves, has_none, kind_stands}
 use Rattle.yp_schema.specs.Datastore.{goes_down, is_segment, keys_of_kind, holds_value, value_of_kind, typed_fits}
 use Rattle.serde_json.specs.Data.{Data, null, boolean, number, string, array, object, Items, no_items, item, Members, no_members, member, put}

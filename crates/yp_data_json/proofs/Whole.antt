@@ -26,8 +26,7 @@ use Rattle.yp_data_json.specs.Runs.{EndsWell}
 use Rattle.std.proofs.Math.Seq.{drop-append_seam}
 use Rattle.yp_base.specs.Order.{is_within}
 use Rattle.yp_data_json.specs.Runs.{IsRest}
-use Rattle.yp_base.specs.PathLaws.{less_turned, within_itself}
-use Rattle.yp_data_json.proofs.Readings.{same_is}
+use Rattle.yp_base.specs.PathLaws.{less_turned, within_itself, numbers_same}
 use Rattle.yp_data_json.proofs.Growing.{last_of, within_more}
 use Rattle.yp_data_json.proofs.Laying.{StandsUnder}
 use Rattle.yp_data_json.proofs.Parts.{less_middle}
@@ -208,7 +207,7 @@ module _ (nodes : List SchemaNode) (schema : IsSchema nodes) where
       child_holds nodes schema seg.node next.node (segment_within nodes next (next_segment nodes (Some seg.node) next rest down)) (next_parent nodes (Some seg.node) next rest down)
 
   parent_of : (parent : Option ℕ) (seg : Seg) (rest : List Seg) → goes_down nodes parent (seg ∷ rest) ≡ true → (node_at seg.node nodes).parent ≡ parent
-  parent_of parent seg rest down = same_is (node_at seg.node nodes).parent parent (next_parent nodes parent seg rest down)
+  parent_of parent seg rest down = numbers_same (node_at seg.node nodes).parent parent (next_parent nodes parent seg rest down)
 
   within_of : (parent : Option ℕ) (seg : Seg) (rest : List Seg) → goes_down nodes parent (seg ∷ rest) ≡ true → seg.node < length nodes
   within_of parent seg rest down = segment_within nodes seg (next_segment nodes parent seg rest down)

@@ -13,7 +13,8 @@ use Rattle.yp_schema.specs.declared.schema.SchemaNode.{SchemaNode}
 use Rattle.yp_schema.specs.declared.schema.Kind.{Kind}
 use Rattle.yp_schema.specs.declared.schema.Kind.TheVariants.{Container, Presence, List as Listing, Leaf, LeafList}
 use Rattle.yp_schema.specs.Nodes.{node_at}
-use Rattle.yp_schema.specs.Datastore.{goes_down, holds_value, last_node}
+use Rattle.yp_base.specs.Paths.{last_node}
+use Rattle.yp_schema.specs.Datastore.{goes_down, holds_value}
 use Rattle.serde_json.specs.Data.{Data, Members, no_members, member}
 use Rattle.yp_data_json.specs.Forest.{Forest, laid_all}
 use Rattle.yp_data_json.specs.Writing.{item_in_front, members_in}

@@ -5,8 +5,9 @@ use Rattle.std.proofs.lemmas.Bool.{and_parts}
 use Rattle.std.proofs.lemmas.List.Folds.{list_all-map}
 use Rattle.yp_base.specs.declared.path.Seg.{Seg}
 use Rattle.yp_schema.specs.declared.schema.SchemaNode.{SchemaNode}
-use Rattle.yp_schema.specs.Nodes.{node_at, same_number}
-use Rattle.yp_schema.specs.Datastore.{is_segment, keys_of_kind, goes_down, is_path_of, is_place, ends_in_key, last_node}
+use Rattle.yp_base.specs.Paths.{same_number, last_node}
+use Rattle.yp_schema.specs.Nodes.{node_at}
+use Rattle.yp_schema.specs.Datastore.{is_segment, keys_of_kind, goes_down, is_path_of, is_place, ends_in_key}
 use Rattle.yp_edit.specs.Patches.{paths_above}
 
 pub last_node-append : (front : List Seg) (seg : Seg) → last_node (front ++ seg ∷ []) ≡ Some seg.node

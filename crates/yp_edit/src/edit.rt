@@ -1,7 +1,8 @@
 //! Edits of rows under change.
 ghost use Rattle.std.specs.Prelude.{◌≡◌, ◌<◌, ◌++◌, ◌∷◌, [], length, true, Some, IfOk, IfSome, OnOk};
 ghost use Rattle.yp_base.specs.Rows.{put_rows};
-ghost use Rattle.yp_schema.specs.Datastore.{is_entry_kind, is_path_of, is_place, last_node};
+ghost use Rattle.yp_base.specs.Paths.{last_node};
+ghost use Rattle.yp_schema.specs.Datastore.{is_entry_kind, is_path_of, is_place};
 ghost use Rattle.yp_edit.specs.Drafts.{Drafted};
 ghost use Rattle.yp_edit.specs.Answers.{Says, Leaves};
 ghost use Rattle.yp_edit.specs.Patches.{created, deleted, has_its_row, stand_above, new_rows, performed, edited};

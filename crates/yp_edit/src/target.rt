@@ -1,6 +1,7 @@
 //! What an edit names: its target, and the rows of its value.
 ghost use Rattle.std.specs.Prelude.{◌≡◌, ◌<◌, length, true, IfOk, option_map};
-ghost use Rattle.yp_schema.specs.Datastore.{last_node, ends_in_key, is_key_at, is_key_node, is_place, is_path_of};
+ghost use Rattle.yp_base.specs.Paths.{last_node};
+ghost use Rattle.yp_schema.specs.Datastore.{ends_in_key, is_key_at, is_key_node, is_place, is_path_of};
 ghost use Rattle.yp_edit.specs.Answers.{Says};
 ghost use Rattle.yp_edit.specs.Patches.{path_tag, no_key, target_of, value_rows};
 

@@ -6,7 +6,8 @@ use Rattle.std.proofs.lemmas.List.{append-nil}
 use Rattle.std.proofs.lemmas.List.Elements.{All-get_or}
 use Rattle.yp_base.specs.declared.path.Seg.{Seg}
 use Rattle.yp_schema.specs.declared.schema.SchemaNode.{SchemaNode}
-use Rattle.yp_schema.specs.Datastore.{is_path_of, last_node}
+use Rattle.yp_base.specs.Paths.{last_node}
+use Rattle.yp_schema.specs.Datastore.{is_path_of}
 use Rattle.yp_schema.specs.SchemaLaws.{last_node_append, path_within}
 use Rattle.yp_nacm.specs.declared.compile.UserRules.{UserRules}
 use Rattle.yp_nacm.specs.Decision.{is_open, leaf_step, opens_down}

@@ -1,6 +1,7 @@
 //! The decision on reading one place (RFC 8341 section 3.4.5).
 ghost use Rattle.std.specs.Prelude.{◌≡◌, ◌<◌, ◌≤◌, ◌++◌, ◌&&◌, IfSome, Some, length, take, true, nat_eq};
-ghost use Rattle.yp_schema.specs.Datastore.{is_path_of, last_node};
+ghost use Rattle.yp_base.specs.Paths.{last_node};
+ghost use Rattle.yp_schema.specs.Datastore.{is_path_of};
 ghost use Rattle.yp_nacm.specs.Decision.{covers, decision, gives_keys, is_of_module, leaf_step, names_place, said};
 
 use crate::compile::{UserRule, UserRules};

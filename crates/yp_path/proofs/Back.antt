@@ -6,6 +6,7 @@ use Rattle.std.proofs.lemmas.List.{drop_all}
 use Rattle.std.proofs.lemmas.Bool.{lt-ltb, eq-eqb, cases_Bool, cond-true, cond-false, and_parts}
 use Rattle.percent_encoding.proofs.PercentLemmas.{round_trip}
 use Rattle.percent_encoding.specs.Percent.{percent_decode}
+use Rattle.yp_base.specs.PathLaws.{numbers_same}
 use Rattle.yp_base.specs.declared.atom.Atom.{Atom}
 use Rattle.yp_base.specs.declared.leaf_type.LeafType.{LeafType}
 use Rattle.yp_base.specs.declared.path.Seg.{Seg}
@@ -14,7 +15,8 @@ use Rattle.yp_base.specs.TextLaws.{text_again}
 use Rattle.yp_schema.specs.declared.schema.SchemaNode.{SchemaNode}
 use Rattle.yp_schema.specs.declared.schema.Kind.{Kind}
 use Rattle.yp_schema.specs.declared.schema.Kind.TheVariants.{Container, Presence, List as Listing, Leaf, LeafList}
-use Rattle.yp_schema.specs.Nodes.{node_at, same_number}
+use Rattle.yp_base.specs.Paths.{same_number}
+use Rattle.yp_schema.specs.Nodes.{node_at}
 use Rattle.yp_schema.specs.WellFormed.{IsSchema, is_name, is_at_home, is_empty}
 use Rattle.yp_schema.specs.Datastore.{is_path_of, goes_down, is_segment, keys_of_kind, keys_fit, one_fits, atom_fits}
 use Rattle.yp_path.specs.declared.escape.TheConstants.{ESCAPED}
@@ -28,7 +30,7 @@ use Rattle.yp_path.specs.Targets.{is_equals, value_of, values_read, as_many, ask
 use Rattle.yp_path.proofs.Bytes.{utf8_bytes}
 use Rattle.yp_path.proofs.Escapes.{escaped_is}
 use Rattle.yp_path.proofs.Free.{is_outside, position_free, position_inside, before_mark, after_mark, before_free, free_name, free_append, cut_free, cut_at}
-use Rattle.yp_path.proofs.Names.{number_same, child_complete, named_bare, named_elsewhere, form_elsewhere, form_at_home}
+use Rattle.yp_path.proofs.Names.{child_complete, named_bare, named_elsewhere, form_elsewhere, form_at_home}
 use Rattle.yp_path.proofs.Types.{type_stands, keys_stand}
 use Rattle.yp_path.proofs.Fits.{segment_below}
 
@@ -163,7 +165,7 @@ module _ (nodes : List SchemaNode) (schema : IsSchema nodes) where
   named_again n parent h p =
       let node = node_at n nodes in
       let found = child_complete nodes parent node.member n schema h p refl in
-      let up = number_same _ _ p in
+      let up = numbers_same _ _ p in
       ⊎_elim
       (λ e.
       let form = form_at_home nodes schema n h e in

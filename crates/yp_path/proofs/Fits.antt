@@ -1,5 +1,6 @@
 use Rattle.std.proofs.Common.{◌≡◌, ℕ, zero, suc, ◌<◌, List, [], ◌∷◌, length, get_or, true, false, ◌&&◌, ◌||◌, refl, sym, ap, subst, ◌∙◌, ⊎_elim, Option, Some, None, arith, nat_le}
 use Rattle.std.proofs.lemmas.Bool.{ltb-true, eqb-true, cases_Bool, and_parts}
+use Rattle.yp_base.specs.Writable.{fits_writable}
 use Rattle.yp_base.specs.declared.atom.Atom.{Atom}
 use Rattle.yp_base.specs.declared.atom.Atom.TheVariants.{Bool as Truth, Int, Uint, Dec, Text}
 use Rattle.yp_base.specs.declared.leaf_type.LeafType.{LeafType}
@@ -13,39 +14,7 @@ use Rattle.yp_schema.specs.declared.schema.Kind.TheVariants.{Container, Presence
 use Rattle.yp_schema.specs.Nodes.{node_at}
 use Rattle.yp_schema.specs.WellFormed.{IsSchema, is_empty}
 use Rattle.yp_schema.specs.Datastore.{is_path_of, goes_down, is_segment, keys_of_kind, keys_fit, one_fits, atom_fits}
-use Rattle.yp_path.proofs.Names.{text_same}
 use Rattle.yp_path.proofs.Types.{type_stands, keys_stand}
-
--- ---- what fits a type can be written
-
-short_name : (text : List ℕ) (names : List (List ℕ)) → are_short names ≡ true → is_among text names ≡ true → is_short text ≡ true
-short_name text [] h e = let wrong : false ≡ true = e in cc
-short_name text (name ∷ names) h e =
-    let parts = and_parts _ _ h in
-    ⊎_elim (λ t. ap is_short (text_same text name t) ∙ parts.0) (λ f. short_name text names parts.1 (sym (ap (λ b. b || is_among text names) f) ∙ e)) (cases_Bool (same_text text name))
-
-short_of : (text : List ℕ) (names : List (List ℕ)) → are_names names ≡ true → is_among text names ≡ true → is_short text ≡ true
-short_of text [] h e = let wrong : false ≡ true = e in cc
-short_of text (name ∷ names) h e = short_name text (name ∷ names) (and_parts _ _ h).1 e
-
-pub fits_writable : (ty : LeafType) (a : Atom) → is_type ty ≡ true → fits ty a ≡ true → is_writable a ≡ true
-fits_writable ty (Truth b) h e = refl
-fits_writable ty (Int n) h e = refl
-fits_writable ty (Uint n) h e = refl
-fits_writable TruthType (Dec units own) h e = let wrong : false ≡ true = e in cc
-fits_writable (IntType bits) (Dec units own) h e = let wrong : false ≡ true = e in cc
-fits_writable (UintType bits) (Dec units own) h e = let wrong : false ≡ true = e in cc
-fits_writable (DecType places) (Dec units own) h e = ap (λ n. nat_le 1 n && nat_le n 18) (eqb-true own places (and_parts _ _ e).0) ∙ h
-fits_writable TextType (Dec units own) h e = let wrong : false ≡ true = e in cc
-fits_writable (Names names) (Dec units own) h e = let wrong : false ≡ true = e in cc
-fits_writable Empty (Dec units own) h e = let wrong : false ≡ true = e in cc
-fits_writable TruthType (Text text) h e = let wrong : false ≡ true = e in cc
-fits_writable (IntType bits) (Text text) h e = let wrong : false ≡ true = e in cc
-fits_writable (UintType bits) (Text text) h e = let wrong : false ≡ true = e in cc
-fits_writable (DecType places) (Text text) h e = let wrong : false ≡ true = e in cc
-fits_writable TextType (Text text) h e = e
-fits_writable (Names names) (Text text) h e = short_of text names h e
-fits_writable Empty (Text text) h e = let wrong : false ≡ true = e in cc
 
 -- ---- the keys of a segment can be written
 

@@ -3,9 +3,11 @@ use Rattle.std.specs.List.{position_or_len, before_first, after_first}
 use Rattle.std.proofs.lemmas.Bool.{cond-true, cond-false, cases_Bool, and_from, or_left, or_right, eqb-true, and_parts}
 use Rattle.std.proofs.lemmas.List.Sums.{split_at_first, passes_at_first}
 use Rattle.std.proofs.lemmas.Slice.Eq.{bytes_eq-Decides}
+use Rattle.yp_base.specs.PathLaws.{numbers_same, texts_same, texts_told}
 use Rattle.yp_base.specs.Types.{same_text}
 use Rattle.yp_schema.specs.declared.schema.SchemaNode.{SchemaNode}
-use Rattle.yp_schema.specs.Nodes.{node_at, no_node, same_number, is_child, place_from, child_of, qualified_name}
+use Rattle.yp_base.specs.Paths.{same_number}
+use Rattle.yp_schema.specs.Nodes.{node_at, no_node, is_child, place_from, child_of, qualified_name}
 use Rattle.yp_schema.specs.WellFormed.{IsSchema, is_at_home}
 use Rattle.yp_path.specs.Names.{is_named, child_named, with_name, own_child}
 use Rattle.yp_path.proofs.Free.{position_free, before_mark, after_mark, position_inside, free_name}
@@ -63,18 +65,6 @@ module _ {X : Type 0} (test : X → Bool) (d : X) where
 
 -- ---- children
 
-pub number_same : (a b : Option ℕ) → same_number a b ≡ true → a ≡ b
-number_same None None e = refl
-number_same None (Some y) e = let wrong : false ≡ true = e in cc
-number_same (Some x) None e = let wrong : false ≡ true = e in cc
-number_same (Some x) (Some y) e = ap (λ n. Some n) (eqb-true x y e)
-
-pub text_same : (a b : List ℕ) → same_text a b ≡ true → a ≡ b
-text_same a b = (bytes_eq-Decides a b).0
-
-pub same_if : (a b : List ℕ) → a ≡ b → same_text a b ≡ true
-same_if a b = (bytes_eq-Decides a b).1
-
 abbrev IsChildAt : List SchemaNode → Option ℕ → List ℕ → ℕ → Type 0
 IsChildAt nodes parent name n = (n < length nodes) × (same_number (node_at n nodes).parent parent ≡ true) × ((node_at n nodes).member ≡ name)
 
@@ -85,16 +75,16 @@ child_sound nodes parent name n e =
     let P : ℕ → Type 0 = λ k. (k < length nodes) × (is_child parent name (node_at k nodes) ≡ true) in
     let here : P n = subst P same (at.1.1, at.1.2) in
     let parts = and_parts _ _ here.1 in
-    (here.0, parts.0, text_same _ _ parts.1)
+    (here.0, parts.0, texts_same _ _ parts.1)
 
 pub child_complete : (nodes : List SchemaNode) (parent : Option ℕ) (name : List ℕ) (n : ℕ) → IsSchema nodes → n < length nodes → same_number (node_at n nodes).parent parent ≡ true → (node_at n nodes).member ≡ name → child_of parent name nodes ≡ Some n
 child_complete nodes parent name n schema h p m =
-    ap (λ q. child_of q name nodes) (sym (number_same _ _ p)) ∙ ap (λ t. child_of (node_at n nodes).parent t nodes) (sym m) ∙ (schema.each n h).found
+    ap (λ q. child_of q name nodes) (sym (numbers_same _ _ p)) ∙ ap (λ t. child_of (node_at n nodes).parent t nodes) (sym m) ∙ (schema.each n h).found
 
 -- ---- one look-up finds the child that is named
 
 named_by_member : (nodes : List SchemaNode) (parent : Option ℕ) (name : List ℕ) (n : ℕ) → IsChildAt nodes parent name n → (n < length nodes) × (is_named parent name (node_at n nodes) ≡ true)
-named_by_member nodes parent name n (h, p, m) = (h, and_from _ _ p (or_left _ _ (same_if _ _ m)))
+named_by_member nodes parent name n (h, p, m) = (h, and_from _ _ p (or_left _ _ (texts_told _ _ m)))
 
 abbrev IsColon : ℕ → Bool
 IsColon b = b == 58
@@ -105,7 +95,7 @@ pub named_ways : (nodes : List SchemaNode) (parent : Option ℕ) (name : List �
 named_ways nodes parent name n e =
     let parts = and_parts _ _ e in
     let node = node_at n nodes in
-    (parts.0, ⊎_elim (λ t. inl (text_same _ _ t)) (λ f. inr (text_same _ _ (sym (ap (λ b. b || same_text (qualified_name node) name) f) ∙ parts.1))) (cases_Bool (same_text node.member name)))
+    (parts.0, ⊎_elim (λ t. inl (texts_same _ _ t)) (λ f. inr (texts_same _ _ (sym (ap (λ b. b || same_text (qualified_name node) name) f) ∙ parts.1))) (cases_Bool (same_text node.member name)))
 
 pub named_bare : (nodes : List SchemaNode) (parent : Option ℕ) (name : List ℕ) → IsSchema nodes → position_or_len (λ b. b == 58) name ≡ length name
     → child_of parent name nodes ≡ child_named parent name nodes
@@ -136,7 +126,7 @@ form_at_home nodes schema n h e = (schema.each n h).form ∙ cond-true _ _ _ e
 -- whether the module named is the parent's, said of the node
 home_same : (nodes : List SchemaNode) (n : ℕ) (parent : Option ℕ) (home : List ℕ) → same_number (node_at n nodes).parent parent ≡ true → home ≡ (node_at n nodes).home
     → is_at_home (node_at n nodes).parent (node_at n nodes).home nodes ≡ is_at_home parent home nodes
-home_same nodes n parent home p e = ap (λ q. is_at_home q (node_at n nodes).home nodes) (number_same _ _ p) ∙ ap (λ t. is_at_home parent t nodes) (sym e)
+home_same nodes n parent home p e = ap (λ q. is_at_home q (node_at n nodes).home nodes) (numbers_same _ _ p) ∙ ap (λ t. is_at_home parent t nodes) (sym e)
 
 pub named_elsewhere : (nodes : List SchemaNode) (parent : Option ℕ) (name : List ℕ) → IsSchema nodes → is_at_home parent (before_first (λ b. b == 58) name) nodes ≡ false
     → child_of parent name nodes ≡ child_named parent name nodes
@@ -151,7 +141,7 @@ named_elsewhere nodes parent name schema away =
 
 one_home : (nodes : List SchemaNode) (parent : Option ℕ) (a b : List ℕ) → is_at_home parent a nodes ≡ true → is_at_home parent b nodes ≡ true → a ≡ b
 one_home nodes None a b e f = let wrong : false ≡ true = e in cc
-one_home nodes (Some p) a b e f = sym (text_same _ _ e) ∙ text_same _ _ f
+one_home nodes (Some p) a b e f = sym (texts_same _ _ e) ∙ texts_same _ _ f
 
 -- a text is not its own end behind more
 no_end : (xs ys : List ℕ) → xs ++ 58 ∷ ys ≡ ys → ⊥
@@ -164,11 +154,11 @@ own_sound nodes parent name (Some k) n is e = own_at nodes parent name k n (same
     own_at : (nodes : List SchemaNode) (parent : Option ℕ) (name : List ℕ) (k n : ℕ) (b : Bool) → same_text (node_at k nodes).name name ≡ b → child_of parent name nodes ≡ Some k → cond b (Some k) None ≡ Some n → IsChildAt nodes parent name n × ((node_at n nodes).name ≡ name)
     own_at nodes parent name k n true same is e =
         let P : ℕ → Type 0 = λ j. IsChildAt nodes parent name j × ((node_at j nodes).name ≡ name) in
-        subst P (some_same k n e) (child_sound nodes parent name k is, text_same _ _ same)
+        subst P (some_same k n e) (child_sound nodes parent name k is, texts_same _ _ same)
     own_at nodes parent name k n false same is e = cc
 
 own_complete : (nodes : List SchemaNode) (parent : Option ℕ) (name : List ℕ) (n : ℕ) → child_of parent name nodes ≡ Some n → (node_at n nodes).name ≡ name → own_child parent name nodes ≡ Some n
-own_complete nodes parent name n e same = ap (with_name name nodes) e ∙ cond-true _ _ _ (same_if _ _ same)
+own_complete nodes parent name n e same = ap (with_name name nodes) e ∙ cond-true _ _ _ (texts_told _ _ same)
 
 whole_name : (name : List ℕ) → position_or_len (λ b. b == 58) name < length name → name ≡ before_first (λ b. b == 58) name ++ 58 ∷ after_first (λ b. b == 58) name
 whole_name name h =
@@ -197,7 +187,7 @@ named_at_home nodes parent name schema inside home =
         (λ f. absurd (no_end node.home node.name (sym (form_elsewhere nodes schema n found.0.0 f) ∙ found.0.2 ∙ sym found.1)))
         (cases_Bool (is_at_home node.parent node.home nodes)) in
         let same : qualified_name node ≡ name = ap (λ t. t ++ 58 ∷ node.name) same_home ∙ ap (λ t. before_first p name ++ 58 ∷ t) found.1 ∙ sym (whole_name name inside) in
-        (found.0.0, and_from _ _ found.0.1 (or_right _ _ (same_if _ _ same)))
+        (found.0.0, and_from _ _ found.0.1 (or_right _ _ (texts_told _ _ same)))
 
     by_qualified : (n : ℕ) → n < length nodes → same_number (node_at n nodes).parent parent ≡ true → qualified_name (node_at n nodes) ≡ name → own_child parent own nodes ≡ Some n
     by_qualified n h up q =

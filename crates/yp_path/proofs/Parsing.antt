@@ -4,6 +4,7 @@ use Rattle.std.specs.List.{position_or_len, before_first, after_first}
 use Rattle.std.proofs.lemmas.Bool.{cond-true, cond-false, cases_Bool, eqb-true, ltb-true, ltb-false, and_parts}
 use Rattle.std.proofs.lemmas.List.{take_all}
 use Rattle.std.proofs.lemmas.List.Sums.{split_at_first, passes_at_first}
+use Rattle.yp_base.specs.PathLaws.{texts_same}
 use Rattle.yp_schema.specs.declared.rule_path.RuleSeg.{RuleSeg}
 use Rattle.yp_schema.specs.declared.schema.SchemaNode.{SchemaNode}
 use Rattle.yp_schema.specs.Nodes.{node_at, qualified_name}
@@ -19,7 +20,7 @@ use Rattle.yp_path.specs.Names.{child_named}
 use Rattle.yp_base.specs.Results.{◌>>=◌, or_fault}
 use Rattle.yp_path.specs.RulePaths.{is_quote, next_place, is_bare, pieces, opened, bodies, all_bodies, without_spaces, are_spaces, around, name_in, closed, value_in, predicate_in, predicates_in, predicates_behind, is_bracket, predicates_of, node_named, among, key_named, is_new, each_once, rule_keys, with_predicates, rule_part_in, rule_parts_in, rule_segment_in, rule_segments_in, rule_path_in}
 use Rattle.yp_path.specs.Targets.{some_name, asked}
-use Rattle.yp_path.proofs.Names.{named_at, named_ways, form_elsewhere, form_at_home, text_same}
+use Rattle.yp_path.proofs.Names.{named_at, named_ways, form_elsewhere, form_at_home}
 use Rattle.yp_path.proofs.Passing.{text_read}
 use Rattle.yp_path.proofs.Predicates.{Cut, some_pieces}
 use Rattle.yp_path.proofs.Steps.{step_ok, there, and_then_some, map_some, some_same, cond_some, cond_ok}
@@ -256,7 +257,7 @@ module _ (nodes : List SchemaNode) (schema : IsSchema nodes) where
   key_name_is n ks name k e =
       let found = among_is ks (node_named nodes n name) k e in
       ⊎_elim
-      (λ t. inr (text_same name (codes ".") t))
+      (λ t. inr (texts_same name (codes ".") t))
       (λ f. inl (node_name_is (Some n) name found.0 (sym (cond-false _ _ _ f) ∙ found.1)))
       (cases_Bool (same_text name (codes ".")))
 

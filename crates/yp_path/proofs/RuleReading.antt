@@ -7,7 +7,8 @@ use Rattle.yp_schema.specs.declared.rule_path.RuleSeg.{RuleSeg}
 use Rattle.yp_schema.specs.declared.schema.SchemaNode.{SchemaNode}
 use Rattle.yp_schema.specs.declared.schema.Kind.{Kind}
 use Rattle.yp_schema.specs.declared.schema.Kind.TheVariants.{Container, Presence, List as Listing, Leaf, LeafList}
-use Rattle.yp_schema.specs.Nodes.{node_at, same_number}
+use Rattle.yp_base.specs.Paths.{same_number}
+use Rattle.yp_schema.specs.Nodes.{node_at}
 use Rattle.yp_schema.specs.WellFormed.{is_empty}
 use Rattle.yp_schema.specs.RulePaths.{is_rule_key, are_rule_keys, is_rule_value, rule_keys_of_kind, is_rule_segment, rule_goes_down, IsRulePathOf}
 use Rattle.yp_path.specs.declared.fault.PathFault.{PathFault}

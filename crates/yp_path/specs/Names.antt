@@ -2,7 +2,8 @@
 use Rattle.std.specs.Prelude.{ℕ, List, Bool, ◌&&◌, ◌||◌, Option, Some, None, if◌then◌else◌}
 use Rattle.yp_base.specs.Types.{same_text}
 use Rattle.yp_schema.specs.declared.schema.SchemaNode.{SchemaNode}
-use Rattle.yp_schema.specs.Nodes.{node_at, same_number, place_from, child_of, qualified_name}
+use Rattle.yp_base.specs.Paths.{same_number}
+use Rattle.yp_schema.specs.Nodes.{node_at, place_from, child_of, qualified_name}
 
 -- whether a node is the child that a name names, by its member form or by its qualified name
 abbrev pub is_named : Option ℕ → List ℕ → SchemaNode → Bool

@@ -5,7 +5,8 @@ use Rattle.yp_base.specs.Types.{same_text}
 use Rattle.yp_base.specs.declared.atom.Atom.{Atom}
 use Rattle.yp_schema.specs.declared.schema.SchemaNode.{SchemaNode}
 use Rattle.yp_schema.specs.declared.rule_path.RuleSeg.{RuleSeg}
-use Rattle.yp_schema.specs.Nodes.{node_at, same_number, is_in}
+use Rattle.yp_base.specs.Paths.{same_number}
+use Rattle.yp_schema.specs.Nodes.{node_at, is_in}
 use Rattle.yp_schema.specs.WellFormed.{is_empty}
 use Rattle.yp_path.specs.declared.fault.PathFault.{PathFault}
 use Rattle.yp_path.specs.declared.fault.PathFault.TheVariants.{Syntax, UnknownNode, KeyCount, KeyValue}

@@ -1,6 +1,7 @@
 //! Rule paths: reading.
 ghost use Rattle.std.specs.Prelude.{◌≡◌, ◌<◌, length, All, IfOk, IfSome, Some, None, option_copied};
-ghost use Rattle.yp_schema.specs.Nodes.{node_at, same_number, is_in};
+ghost use Rattle.yp_base.specs.Paths.{same_number};
+ghost use Rattle.yp_schema.specs.Nodes.{node_at, is_in};
 ghost use Rattle.yp_schema.specs.RulePaths.{IsRulePathOf};
 ghost use Rattle.yp_path.specs.RulePaths.{pieces, node_named, key_named, given_for, is_new, each_once, key_value, rule_keys, with_predicates, rule_segment_in, rule_segments_in, rule_path_in};
 ghost use Rattle.yp_path.specs.Targets.{Gives, asked};

@@ -10,16 +10,17 @@ use Rattle.std.proofs.lemmas.List.Elements.{Contains-push_cases}
 use Rattle.std.proofs.lemmas.List.Sorted.{IsPermutation-refl, IsPermutation-sym, Contains-permutation, length_permutation, IsPermutation-push_more}
 use Rattle.serde_json.specs.Data.{Data, Items, no_items, item}
 use Rattle.serde_json.specs.Find.{as_array}
+use Rattle.std.proofs.lemmas.Bool.{and_parts}
 use Rattle.yp_schema.specs.declared.stated.Stated.{Stated}
 use Rattle.yp_schema.specs.declared.fault.SchemaKind.TheVariants as faults
 use Rattle.yp_schema.specs.declared.listing.Listed.{Listed}
 use Rattle.yp_schema.specs.Names.{Names, names_cmp, front}
 use Rattle.yp_schema.specs.Nodes.{may_hold}
 use Rattle.yp_schema.specs.Stated.{node_in}
-use Rattle.yp_schema.specs.Rounds.{Nodes, listed_at, module_of_holder, parent_module, own_module, is_typed, in_module, added, at_place, first_round, keys_there, is_key_type, may_be_key, keys_fit, checked, second_round, part_in, parts_in, ◌>>=◌}
+use Rattle.yp_base.specs.Results.{◌>>=◌}
+use Rattle.yp_schema.specs.Rounds.{Nodes, listed_at, module_of_holder, parent_module, own_module, is_typed, in_module, added, at_place, first_round, keys_there, is_key_type, may_be_key, keys_fit, checked, second_round, part_in, parts_in}
 use Rattle.yp_schema.specs.Compiled.{ItemsState, PartStates, nodes_in, HasNewPath, HasParent, module_of, HasModule, HasKey, HasKeys, placed_node}
 use Rattle.yp_schema.proofs.Rising.{Rising, rising_insert}
-use Rattle.yp_schema.proofs.Sound.{both_true}
 use Rattle.yp_schema.proofs.Kept.{listed_of, Takes, takes_from, checked_keys}
 use Rattle.yp_schema.proofs.After.{AllAfter}
 use Rattle.yp_schema.proofs.Entries.{contains_map, map_contains, listed_contains, contains_listed, entries_more}
@@ -234,7 +235,7 @@ held_key all nodes h list key k = ap (λ p. may_be_key (listed_at p nodes)) (sym
 keys_held : (all : List Stated) (nodes : Nodes) → Holds all nodes → (list : Stated) (keys : Names) → keys_fit list.path keys nodes ≡ true → AllByRecursion (HasKey all list) keys
 keys_held all nodes h list [] fit = tt
 keys_held all nodes h list (key ∷ keys) fit =
-    let both = both_true (may_be_key (listed_at (list.path ++ key ∷ []) nodes)) (keys_fit list.path keys nodes) fit in
+    let both = and_parts (may_be_key (listed_at (list.path ++ key ∷ []) nodes)) (keys_fit list.path keys nodes) fit in
     (key_held all nodes h list key both.0, keys_held all nodes h list keys both.1)
 
 held_keys : (all : List Stated) (nodes : Nodes) → Holds all nodes → (list : Stated) (keys : Names) → AllByRecursion (HasKey all list) keys → keys_fit list.path keys nodes ≡ true
@@ -245,7 +246,7 @@ held_keys all nodes h list (key ∷ keys) has =
 fit_there : (path keys : Names) (nodes : Nodes) → keys_fit path keys nodes ≡ true → keys_there path keys nodes ≡ true
 fit_there path [] nodes fit = refl
 fit_there path (key ∷ keys) nodes fit =
-    let both = both_true (may_be_key (listed_at (path ++ key ∷ []) nodes)) (keys_fit path keys nodes) fit in
+    let both = and_parts (may_be_key (listed_at (path ++ key ∷ []) nodes)) (keys_fit path keys nodes) fit in
     ap (λ t. t && keys_there path keys nodes) (there (listed_at (path ++ key ∷ []) nodes) both.0) ∙ fit_there path keys nodes both.1
   where
     there : (o : Option Listed) → may_be_key o ≡ true → is_some o ≡ true

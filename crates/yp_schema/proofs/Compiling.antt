@@ -4,7 +4,8 @@ use Rattle.std.proofs.lemmas.List.Sorted.{IsPermutation-sym, Contains-permutatio
 use Rattle.serde_json.specs.Data.{Data}
 use Rattle.yp_schema.specs.declared.schema.SchemaNode.{SchemaNode}
 use Rattle.yp_schema.specs.declared.stated.Stated.{Stated}
-use Rattle.yp_schema.specs.Rounds.{Nodes, is_typed, parts_in, ◌>>=◌}
+use Rattle.yp_base.specs.Results.{◌>>=◌}
+use Rattle.yp_schema.specs.Rounds.{Nodes, is_typed, parts_in}
 use Rattle.yp_schema.specs.Reading.{numbered, schema_of}
 use Rattle.yp_schema.specs.Compiled.{nodes_in, EachAfter, HasNewPath, HasParent, HasModule, HasKeys, placed_node, Compiles}
 use Rattle.yp_schema.proofs.After.{AllAfter, each_after, all_after, after_weaker, after_append, each_alone, all_at}

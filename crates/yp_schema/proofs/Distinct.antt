@@ -9,9 +9,9 @@ use Rattle.std.proofs.lemmas.List.{take_more}
 use Rattle.std.proofs.lemmas.Map.Lookups.{exact_bytes}
 use Rattle.std.proofs.lemmas.Map.Text.{is_eq-slice_cmp}
 use denote.Ref.{Bor}
+use Rattle.std.proofs.lemmas.Bool.{and_parts}
+use Rattle.yp_base.specs.PathLaws.{texts_turned}
 use Rattle.yp_base.specs.Types.{same_text, is_among, are_distinct}
-use Rattle.yp_schema.proofs.Sound.{both_true}
-use Rattle.yp_schema.proofs.Kept.{same_turned}
 
 or_turned : (r s t : Bool) → (r || (s || t)) ≡ (s || (r || t))
 or_turned true true t = refl
@@ -29,9 +29,9 @@ both_false false t h = (refl, h)
 distinct_more : (xs : List (List ℕ)) (x : List ℕ) → are_distinct xs ≡ true → is_among x xs ≡ false → are_distinct (xs ++ x ∷ []) ≡ true
 distinct_more [] x h apart = refl
 distinct_more (y ∷ ys) x h apart =
-    let both = both_true (not (is_among y ys)) (are_distinct ys) h in
+    let both = and_parts (not (is_among y ys)) (are_distinct ys) h in
     let parts = both_false (same_text x y) (is_among x ys) apart in
-    ap (λ t. not t && are_distinct (ys ++ x ∷ [])) (among_more y ys x ∙ ap (λ t. t || is_among y ys) (same_turned y x ∙ parts.0))
+    ap (λ t. not t && are_distinct (ys ++ x ∷ [])) (among_more y ys x ∙ ap (λ t. t || is_among y ys) (texts_turned y x ∙ parts.0))
     ∙ ap (λ t. t && are_distinct (ys ++ x ∷ [])) both.0 ∙ distinct_more ys x both.1 parts.1
 
 among_in : (q : List ℕ) (xs : List (List ℕ)) (x : List ℕ) (rest : List (List ℕ)) → same_text q x ≡ true → is_among q (xs ++ x ∷ rest) ≡ true
@@ -44,7 +44,7 @@ among_in q (y ∷ ys) x rest h = ap (λ t. same_text q y || t) (among_in q ys x 
 
 twice_at : (x y : List ℕ) (ys rest : List (List ℕ)) (t : Bool) → same_text x y ≡ t → (t || is_among x ys) ≡ true → (is_among x ys ≡ true → are_distinct (ys ++ x ∷ rest) ≡ false)
     → (not (is_among y (ys ++ x ∷ rest)) && are_distinct (ys ++ x ∷ rest)) ≡ false
-twice_at x y ys rest true is there later = ap (λ t. not t && are_distinct (ys ++ x ∷ rest)) (among_in y ys x rest (same_turned y x ∙ is))
+twice_at x y ys rest true is there later = ap (λ t. not t && are_distinct (ys ++ x ∷ rest)) (among_in y ys x rest (texts_turned y x ∙ is))
 twice_at x y ys rest false is there later = ap (λ t. not (is_among y (ys ++ x ∷ rest)) && t) (later there) ∙ none (not (is_among y (ys ++ x ∷ rest)))
   where
     none : (t : Bool) → (t && false) ≡ false

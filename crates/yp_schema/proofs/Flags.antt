@@ -2,13 +2,15 @@
 use Rattle.std.proofs.Common.{◌≡◌, ℕ, zero, suc, ◌+◌, ◌<◌, ◌≤◌, ◌&&◌, ◌||◌, List, [], ◌∷◌, ◌++◌, length, get_or, Bool, true, false, true≢false, refl, sym, ap, ◌∙◌, subst, Option, Some, None, arith, nat_eq, nat_lt}
 use Rattle.std.specs.List.{AllByRecursion}
 use Rattle.std.specs.Option.{option_eq}
-use Rattle.std.proofs.lemmas.Bool.{and_parts, eqb-true}
+use Rattle.std.proofs.lemmas.Bool.{and_parts}
 use Rattle.std.proofs.lemmas.Bool.Decides.{nat_tests}
 use Rattle.std.proofs.lemmas.List.{get_or_append_left, length-append}
 use Rattle.std.proofs.lemmas.List.Elements.{recursion_from_All}
 use Rattle.std.proofs.Math.Seq.{get_or-append_seam}
+use Rattle.yp_base.specs.PathLaws.{numbers_same}
 use Rattle.yp_schema.specs.declared.schema.SchemaNode.{SchemaNode}
-use Rattle.yp_schema.specs.Nodes.{node_at, same_number, is_in, is_key}
+use Rattle.yp_base.specs.Paths.{same_number}
+use Rattle.yp_schema.specs.Nodes.{node_at, is_in, is_key}
 use Rattle.yp_schema.specs.Datastore.{is_key_node}
 use Rattle.yp_schema.specs.WellFormed.{IsSchema, is_key_leaf}
 use Rattle.yp_schema.specs.SchemaLaws.{keys_are_leaves}
@@ -28,10 +30,6 @@ key_below nodes above n schema within h =
     = in_all (λ k. is_key_leaf above nodes k ≡ true) n (node_at above nodes).keys (recursion_from_All (λ k. is_key_leaf above nodes k ≡ true) (node_at above nodes).keys (keys_are_leaves nodes above schema within)) h in
     (and_parts _ _ (and_parts _ _ (and_parts _ _ (and_parts _ _ leaf).0).0).0).1
 
-same_parent : (parent : Option ℕ) (above : ℕ) → same_number parent (Some above) ≡ true → parent ≡ Some above
-same_parent None above h = cc
-same_parent (Some p) above h = ap Some (eqb-true p above h)
-
 -- whether a node is a key of another is whether it is one of its parent, and that is the other
 pub key_of_parent : (nodes : List SchemaNode) (above n : ℕ) → IsSchema nodes → above < length nodes
     → is_in n (node_at above nodes).keys ≡ (is_key n (node_at n nodes).parent nodes && same_number (node_at n nodes).parent (Some above))
@@ -39,11 +37,11 @@ key_of_parent nodes above n schema within =
     elim (is_in n (node_at above nodes).keys) as (λ t. is_in n (node_at above nodes).keys ≡ t → t ≡ (is_key n (node_at n nodes).parent nodes && same_number (node_at n nodes).parent (Some above))) [
       | true ↦ λ is.
           let below = key_below nodes above n schema within is in
-          let parent = same_parent (node_at n nodes).parent above below in
+          let parent = (numbers_same (node_at n nodes).parent (Some above)) below in
           sym (ap (λ p. is_key n p nodes && same_number p (Some above)) parent ∙ ap (λ t. t && nat_eq above above) is ∙ (let e : nat_eq above above ≡ true = grind (arith, nat_tests) in e))
       | false ↦ λ is.
           elim (same_number (node_at n nodes).parent (Some above)) as (λ t. same_number (node_at n nodes).parent (Some above) ≡ t → false ≡ (is_key n (node_at n nodes).parent nodes && t)) [
-            | true ↦ λ same. sym (ap (λ p. is_key n p nodes && true) (same_parent (node_at n nodes).parent above same) ∙ ap (λ t. t && true) is)
+            | true ↦ λ same. sym (ap (λ p. is_key n p nodes && true) ((numbers_same (node_at n nodes).parent (Some above)) same) ∙ ap (λ t. t && true) is)
             | false ↦ λ same. sym (none (is_key n (node_at n nodes).parent nodes))
           ] refl
     ] refl

@@ -1,10 +1,12 @@
 -- What is so of the nodes so far, and what the rounds of a part keep.
-use Rattle.std.proofs.Common.{◌≡◌, ℕ, ◌+◌, ◌<◌, ◌≤◌, ◌&&◌, List, [], ◌∷◌, ◌++◌, length, Bool, true, false, not, cond, refl, sym, ap, ◌∙◌, subst, Option, Some, None, is_some, option_and_then, Result, Ok, Err, Less, Equal, Greater, arith, nat_le, nat_lt, nat_eq, ◌⊎◌, inl, inr}
+use Rattle.std.proofs.Common.{◌≡◌, ℕ, ◌+◌, ◌<◌, ◌≤◌, ◌&&◌, List, [], ◌∷◌, ◌++◌, length, Bool, true, false, not, cond, refl, sym, ap, ◌∙◌, subst, Option, Some, None, is_some, option_and_then, Result, Ok, Err, Less, Equal, Greater, arith, nat_le, nat_lt, ◌⊎◌, inl, inr}
 use Rattle.std.specs.Ordering.{is_eq, match_ordering}
 use Rattle.std.specs.BTreeMap.{insert_entry}
 use Rattle.std.proofs.lemmas.Bool.Decides.{nat_tests}
 use Rattle.serde_json.specs.Data.{Data, Items, no_items, item}
 use Rattle.serde_json.specs.Find.{as_array}
+use Rattle.std.proofs.lemmas.Bool.{and_parts}
+use Rattle.yp_base.specs.PathLaws.{texts_turned, texts_itself}
 use Rattle.yp_base.specs.Types.{same_text}
 use Rattle.yp_schema.specs.declared.stated.Body.{Body}
 use Rattle.yp_schema.specs.declared.stated.Stated.{Stated}
@@ -14,9 +16,10 @@ use Rattle.yp_schema.specs.Names.{Names, names_cmp, front, last}
 use Rattle.yp_schema.specs.Nodes.{may_hold}
 use Rattle.yp_schema.specs.WellFormed.{is_name}
 use Rattle.yp_schema.specs.Stated.{node_in}
-use Rattle.yp_schema.specs.Rounds.{Nodes, listed_at, module_of_holder, parent_module, own_module, is_typed, placed, in_module, added, at_place, first_round, keys_there, may_be_key, keys_fit, checked, second_round, part_in, parts_in, ◌>>=◌}
+use Rattle.yp_base.specs.Results.{◌>>=◌, none_is}
+use Rattle.yp_schema.specs.Rounds.{Nodes, listed_at, module_of_holder, parent_module, own_module, is_typed, placed, in_module, added, at_place, first_round, keys_there, may_be_key, keys_fit, checked, second_round, part_in, parts_in}
 use Rattle.yp_schema.proofs.Rising.{Rising, listed_insert, rising_insert, same_path}
-use Rattle.yp_schema.proofs.Sound.{body_fits, IsSound, form_text, home_fits, Has, has_at, node_sound, both_true}
+use Rattle.yp_schema.proofs.Sound.{body_fits, IsSound, form_text, home_fits, Has, has_at, node_sound}
 
 -- the text of a member form, by the parent's module
 abbrev pub member_text : Option (List ℕ) → List ℕ → List ℕ → List ℕ
@@ -75,10 +78,6 @@ not_false : (t : Bool) → not t ≡ false → t ≡ true
 not_false true h = refl
 not_false false h = cc
 
-none_from : {X : Type 0} (o : Option X) → is_some o ≡ false → o ≡ None
-none_from None h = refl
-none_from (Some x) h = cc
-
 -- what stands so far after a node was put in
 pub record Puts (nodes : Nodes) (path : Names) (node : Listed) (after : Nodes) : Type 0 where
   pub fresh : listed_at path nodes ≡ None
@@ -94,7 +93,7 @@ placed_puts path node nodes after h =
     let three = past (nat_lt 16 (length path)) faults.TooDeep _ after two.1 in
     let four = past (nat_le 4096 (length nodes)) faults.TooMany _ after three.1 in
     record {
-      fresh = none_from _ one.0;
+      fresh = none_is _ one.0;
       typed = not_false _ two.0;
       depth = let f : nat_lt 16 (length path) ≡ false = three.0 in grind (arith, nat_tests);
       room = let f : nat_le 4096 (length nodes) ≡ false = four.0 in grind (arith, nat_tests);
@@ -136,19 +135,6 @@ puts_listed nodes path node after p q x h =
 
 -- ---- the module of a node
 
-pub same_itself : (text : List ℕ) → same_text text text ≡ true
-same_itself [] = refl
-same_itself (b ∷ bs) = let one : nat_eq b b ≡ true = grind (arith, nat_tests) in ap (λ t. t && same_text bs bs) one ∙ same_itself bs
-
-nat_turned : (a b : ℕ) → nat_eq a b ≡ nat_eq b a
-nat_turned a b = grind (arith, nat_tests)
-
-pub same_turned : (a b : List ℕ) → same_text a b ≡ same_text b a
-same_turned [] [] = refl
-same_turned [] (y ∷ ys) = refl
-same_turned (x ∷ xs) [] = refl
-same_turned (x ∷ xs) (y ∷ ys) = ap (λ t. t && same_text xs ys) (nat_turned x y) ∙ ap (λ t. nat_eq y x && t) (same_turned xs ys)
-
 -- what the module of a node and its parent's have to do with what stands in front of its name
 own_written : (above stated : Option (List ℕ)) (home name : List ℕ) → home_fits stated ≡ true → (Has (λ h. is_name h ≡ true) above) → own_module above stated ≡ Some home
     → (form_text stated name ≡ member_text above home name) × (is_name home ≡ true)
@@ -157,13 +143,13 @@ own_written None (Some h) home name fits high is =
     let one : h ≡ home = cc in (ap (λ x. x ++ 58 ∷ name) one, sym (ap is_name one) ∙ fits)
 own_written (Some above) None home name fits high is =
     let one : above ≡ home = cc in
-    (sym (ap (λ t. cond t name (home ++ 58 ∷ name)) (ap (same_text above) (sym one) ∙ same_itself above)), sym (ap is_name one) ∙ high)
+    (sym (ap (λ t. cond t name (home ++ 58 ∷ name)) (ap (same_text above) (sym one) ∙ texts_itself above)), sym (ap is_name one) ∙ high)
 own_written (Some above) (Some h) home name fits high is =
     elim (same_text h above) as (λ t. same_text h above ≡ t → cond t None (Some h) ≡ Some home → (h ++ 58 ∷ name ≡ member_text (Some above) home name) × (is_name home ≡ true)) [
       | true ↦ λ same k. cc
       | false ↦ λ same k.
           let one : h ≡ home = cc in
-          (ap (λ x. x ++ 58 ∷ name) one ∙ sym (ap (λ t. cond t name (home ++ 58 ∷ name)) (same_turned above home ∙ sym (ap (λ x. same_text x above) one) ∙ same)), sym (ap is_name one) ∙ fits)
+          (ap (λ x. x ++ 58 ∷ name) one ∙ sym (ap (λ t. cond t name (home ++ 58 ∷ name)) (texts_turned above home ∙ sym (ap (λ x. same_text x above) one) ∙ same)), sym (ap is_name one) ∙ fits)
     ] refl is
 
 -- the module of a parent is a name
@@ -325,7 +311,7 @@ second_checked part place (item d ds) nodes after h = one_check part place d ds 
 keys_grow : (before after : Nodes) → Grows before after → (path keys : Names) → keys_fit path keys before ≡ true → keys_fit path keys after ≡ true
 keys_grow before after grow path [] h = refl
 keys_grow before after grow path (key ∷ keys) h =
-    let both = both_true (may_be_key (listed_at (path ++ key ∷ []) before)) (keys_fit path keys before) h in
+    let both = and_parts (may_be_key (listed_at (path ++ key ∷ []) before)) (keys_fit path keys before) h in
     ap (λ t. t && keys_fit path keys after) (fit (listed_at (path ++ key ∷ []) before) refl both.0) ∙ keys_grow before after grow path keys both.1
   where
     fit : (o : Option Listed) → listed_at (path ++ key ∷ []) before ≡ o → may_be_key o ≡ true → may_be_key (listed_at (path ++ key ∷ []) after) ≡ true

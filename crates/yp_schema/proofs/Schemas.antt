@@ -7,6 +7,8 @@ use Rattle.std.proofs.lemmas.List.{length-map}
 use Rattle.std.proofs.lemmas.Cmp.{tied_itself, nat_list_cmp_total}
 use Rattle.std.proofs.lemmas.Bool.Decides.{nat_tests}
 use Rattle.serde_json.specs.Data.{Data}
+use Rattle.std.proofs.lemmas.Bool.{and_parts}
+use Rattle.yp_base.specs.PathLaws.{texts_same, texts_turned, texts_itself}
 use Rattle.yp_base.specs.Types.{same_text, is_among, are_distinct, is_type, has_atoms}
 use Rattle.yp_base.specs.declared.leaf_type.LeafType.{LeafType}
 use Rattle.yp_schema.specs.declared.schema.Kind.{Kind}
@@ -15,7 +17,8 @@ use Rattle.yp_schema.specs.declared.schema.SchemaNode.{SchemaNode}
 use Rattle.yp_schema.specs.declared.fault.SchemaFault.{SchemaFault}
 use Rattle.yp_schema.specs.declared.listing.Listed.{Listed}
 use Rattle.yp_schema.specs.Names.{Names, names_cmp, front, last}
-use Rattle.yp_schema.specs.Nodes.{node_at, no_node, child_of, is_child, place_from, same_number, is_in, may_hold}
+use Rattle.yp_base.specs.Paths.{same_number}
+use Rattle.yp_schema.specs.Nodes.{node_at, no_node, child_of, is_child, place_from, is_in, may_hold}
 use Rattle.yp_schema.specs.WellFormed.{is_name, go_on_name, is_parent_of, is_at_home, member_form, has_atom_type, has_type, has_none, is_leaf, is_key_leaf, are_key_leaves, is_empty, kind_stands, Stands, SiblingsInOrder, AreAbove, AreShallow, IsSchema}
 use Rattle.yp_schema.specs.Stated.{are_key_names, all_names}
 use Rattle.yp_schema.specs.Rounds.{Nodes, listed_at, module_of_holder, parent_module, atoms_in, is_typed, is_key_type, may_be_key, keys_fit, parts_in}
@@ -23,8 +26,8 @@ use Rattle.yp_schema.specs.Reading.{Reads, Numbers, numbers_from, number_of, wit
 use Rattle.yp_schema.proofs.Ends.{front_append, last_append}
 use Rattle.yp_schema.proofs.Numbering.{length_more}
 use Rattle.yp_schema.proofs.Rising.{Rising, itself, turned, above_get, listed_get, number_get, get_number, get_listed, less_from_places, get_within, within_get}
-use Rattle.yp_schema.proofs.Sound.{both_true, type_fits, kind_fits}
-use Rattle.yp_schema.proofs.Kept.{IsKept, AreNodes, member_text, same_itself, same_turned, parts_kept, no_nodes}
+use Rattle.yp_schema.proofs.Sound.{type_fits, kind_fits}
+use Rattle.yp_schema.proofs.Kept.{IsKept, AreNodes, member_text, parts_kept, no_nodes}
 
 -- ---- names
 
@@ -46,22 +49,11 @@ siblings_cmp (y ∷ ys) a b = ap (λ r. ordering_then r (names_cmp (ys ++ a ∷ 
 
 go_on_colon : (xs ys : List ℕ) → go_on_name (xs ++ 58 ∷ ys) ≡ true → ⊥
 go_on_colon [] ys h = cc
-go_on_colon (x ∷ xs) ys h = go_on_colon xs ys (both_true _ _ h).1
+go_on_colon (x ∷ xs) ys h = go_on_colon xs ys (and_parts _ _ h).1
 
 no_colon : (xs ys : List ℕ) → is_name (xs ++ 58 ∷ ys) ≡ true → ⊥
 no_colon [] ys h = cc
-no_colon (x ∷ xs) ys h = go_on_colon xs ys (both_true _ _ (both_true _ _ h).0).1
-
-text_from : (a b : List ℕ) → same_text a b ≡ true → a ≡ b
-text_from [] [] h = refl
-text_from [] (y ∷ ys) h = cc
-text_from (x ∷ xs) [] h = cc
-text_from (x ∷ xs) (y ∷ ys) h =
-    let both = both_true (nat_eq x y) (same_text xs ys) h in
-    let first : nat_eq x y ≡ true = both.0 in
-    let one : x ≡ y = grind (arith, nat_tests) in
-    let rest : xs ≡ ys = text_from xs ys both.1 in
-    λ i. one i ∷ rest i
+no_colon (x ∷ xs) ys h = go_on_colon xs ys (and_parts _ _ (and_parts _ _ h).0).1
 
 eq_itself : (n : ℕ) → nat_eq n n ≡ true
 eq_itself n = grind (arith, nat_tests)
@@ -219,7 +211,7 @@ module _ (nodes : Nodes) (are : AreNodes nodes) where
                   let two = at_number (path ++ other ∷ []) m is in
                   let ways : path ++ key ∷ [] ≡ path ++ other ∷ [] = ap way_in (sym one.1 ∙ ap (slice_get nodes) same ∙ two.1) in
                   let keys_same : key ≡ other = sym (last_append path key) ∙ ap last ways ∙ last_append path other in
-                  ap (λ t. t || is_among key keys) (sym (ap (same_text key) keys_same) ∙ same_itself key)
+                  ap (λ t. t || is_among key keys) (sym (ap (same_text key) keys_same) ∙ texts_itself key)
               | false ↦ λ eq j. or_right (same_text key other) (is_among key keys) (in_among path key k at keys j)
             ] refl i
       ] refl h
@@ -233,14 +225,14 @@ module _ (nodes : Nodes) (are : AreNodes nodes) where
   key_type Presence keys ty h fits = cc
   key_type Listing keys ty h fits = cc
   key_type Leaf keys None h fits = cc
-  key_type Leaf keys (Some ty) h fits = (refl, ap (λ t. is_type ty && t) h ∙ ap (λ t. t && true) (both_true (is_empty keys) (is_type ty) fits).1)
+  key_type Leaf keys (Some ty) h fits = (refl, ap (λ t. is_type ty && t) h ∙ ap (λ t. t && true) (and_parts (is_empty keys) (is_type ty) fits).1)
   key_type LeafList keys ty h fits = cc
 
   -- a leaf of a list, whose member form is a name, is of the list's module
   key_home : (above home name key : List ℕ) → is_name key ≡ true → key ≡ cond (same_text above home) name (home ++ 58 ∷ name) → same_text home above ≡ true
   key_home above home name key named written =
       elim (same_text above home) as (λ t. same_text above home ≡ t → key ≡ cond t name (home ++ 58 ∷ name) → same_text home above ≡ true) [
-        | true ↦ λ is k. same_turned home above ∙ is
+        | true ↦ λ is k. texts_turned home above ∙ is
         | false ↦ λ is k. absurd (no_colon home name (sym (ap is_name k) ∙ named))
       ] refl written
 
@@ -273,9 +265,9 @@ module _ (nodes : Nodes) (are : AreNodes nodes) where
       → are_key_leaves n schema (key_numbers e.0 keys numbers) ≡ true
   key_leaves n e h holds [] fit named distinct = refl
   key_leaves n e h holds (key ∷ keys) fit named distinct =
-      let fits = both_true _ _ fit in
-      let names = both_true (is_name key) (all_names keys) named in
-      let others = both_true (not (is_among key keys)) (are_distinct keys) distinct in
+      let fits = and_parts _ _ fit in
+      let names = and_parts (is_name key) (all_names keys) named in
+      let others = and_parts (not (is_among key keys)) (are_distinct keys) distinct in
       one (listed_at (e.0 ++ key ∷ []) nodes) refl fits.0 names.0 others.0 (key_leaves n e h holds keys fits.1 names.1 others.1)
     where
       not_in : (k : ℕ) → number_of (e.0 ++ key ∷ []) numbers ≡ Some k → not (is_among key keys) ≡ true → not (is_in k (key_numbers e.0 keys numbers)) ≡ true
@@ -299,7 +291,7 @@ module _ (nodes : Nodes) (are : AreNodes nodes) where
   -- some keys have some numbers
   some_numbers : (path keys : Names) → keys_fit path keys nodes ≡ true → is_empty keys ≡ false → is_empty (key_numbers path keys numbers) ≡ false
   some_numbers path [] fit some = cc
-  some_numbers path (key ∷ keys) fit some = one (listed_at (path ++ key ∷ []) nodes) refl (both_true _ _ fit).0
+  some_numbers path (key ∷ keys) fit some = one (listed_at (path ++ key ∷ []) nodes) refl (and_parts _ _ fit).0
     where
       one : (o : Option Listed) → listed_at (path ++ key ∷ []) nodes ≡ o → may_be_key (listed_at (path ++ key ∷ []) nodes) ≡ true → is_empty (key_numbers path (key ∷ keys) numbers) ≡ false
       one None is may = let bad : false ≡ true = sym (ap may_be_key is) ∙ may in cc
@@ -325,23 +317,23 @@ module _ (nodes : Nodes) (are : AreNodes nodes) where
 
   names_and_distinct : (keys : Names) → are_key_names keys ≡ true → (all_names keys ≡ true) × (are_distinct keys ≡ true)
   names_and_distinct [] h = cc
-  names_and_distinct (key ∷ keys) h = both_true (all_names (key ∷ keys)) (are_distinct (key ∷ keys)) h
+  names_and_distinct (key ∷ keys) h = and_parts (all_names (key ∷ keys)) (are_distinct (key ∷ keys)) h
 
   kind_at : (kind : Kind) (n : ℕ) (e : Names × Listed) → slice_get nodes n ≡ Some e → e.1.body.kind ≡ kind → kind_fits kind e.1.body.keys e.1.body.ty ≡ true → is_typed kind e.1.body.ty ≡ true
       → keys_fit e.0 e.1.body.keys nodes ≡ true → kind_stands kind n schema (numbered_node numbers e) ≡ true
-  kind_at Container n e h is fits typed keys = let both = both_true _ (has_none e.1.body.ty) fits in ap (λ t. t && has_none e.1.body.ty) (no_keys e.0 e.1.body.keys both.0) ∙ both.1
-  kind_at Presence n e h is fits typed keys = let both = both_true _ (has_none e.1.body.ty) fits in ap (λ t. t && has_none e.1.body.ty) (no_keys e.0 e.1.body.keys both.0) ∙ both.1
+  kind_at Container n e h is fits typed keys = let both = and_parts _ (has_none e.1.body.ty) fits in ap (λ t. t && has_none e.1.body.ty) (no_keys e.0 e.1.body.keys both.0) ∙ both.1
+  kind_at Presence n e h is fits typed keys = let both = and_parts _ (has_none e.1.body.ty) fits in ap (λ t. t && has_none e.1.body.ty) (no_keys e.0 e.1.body.keys both.0) ∙ both.1
   kind_at Listing n e h is fits typed keys =
-      let both = both_true (are_key_names e.1.body.keys) (has_none e.1.body.ty) fits in
+      let both = and_parts (are_key_names e.1.body.keys) (has_none e.1.body.ty) fits in
       let names = names_and_distinct e.1.body.keys both.0 in
       let numbers_of = key_numbers e.0 e.1.body.keys numbers in
       ap (λ t. not t && are_key_leaves n schema numbers_of && has_none e.1.body.ty) (some_numbers e.0 e.1.body.keys keys (none_empty e.1.body.keys both.0))
       ∙ ap (λ t. t && has_none e.1.body.ty) (key_leaves n e h (ap may_hold is) e.1.body.keys keys names.0 names.1)
       ∙ both.1
   kind_at Leaf n e h is fits typed keys =
-      let both = both_true _ (type_fits e.1.body.ty) fits in ap (λ t. t && has_type e.1.body.ty) (no_keys e.0 e.1.body.keys both.0) ∙ leaf_type e.1.body.ty both.1 typed
+      let both = and_parts _ (type_fits e.1.body.ty) fits in ap (λ t. t && has_type e.1.body.ty) (no_keys e.0 e.1.body.keys both.0) ∙ leaf_type e.1.body.ty both.1 typed
   kind_at LeafList n e h is fits typed keys =
-      let both = both_true _ (type_fits e.1.body.ty) fits in ap (λ t. t && has_atom_type e.1.body.ty) (no_keys e.0 e.1.body.keys both.0) ∙ atom_type e.1.body.ty both.1 typed
+      let both = and_parts _ (type_fits e.1.body.ty) fits in ap (λ t. t && has_atom_type e.1.body.ty) (no_keys e.0 e.1.body.keys both.0) ∙ atom_type e.1.body.ty both.1 typed
 
   -- ---- children of one node
 
@@ -384,10 +376,10 @@ module _ (nodes : Nodes) (are : AreNodes nodes) where
       let found = entry_at m less in
       let d = found.0 in
       let node : node_at m schema ≡ numbered_node numbers d = node_is m d found.1 in
-      let both = both_true (same_number (number_of (front d.0) numbers) (number_of (front e.0) numbers)) (same_text (last d.0) (last e.0))
+      let both = and_parts (same_number (number_of (front d.0) numbers) (number_of (front e.0) numbers)) (same_text (last d.0) (last e.0))
       (sym (ap (is_child (number_of (front e.0) numbers) (last e.0)) node) ∙ child) in
       let fronts : front d.0 ≡ front e.0 = fronts_same m n d e found.1 h (same_from _ _ both.0) in
-      let lasts : last d.0 ≡ last e.0 = text_from (last d.0) (last e.0) both.1 in
+      let lasts : last d.0 ≡ last e.0 = texts_same (last d.0) (last e.0) both.1 in
       let ways : d.0 ≡ e.0 = sym (kept_at m d found.1).way ∙ (λ i. fronts i ++ lasts i ∷ []) ∙ (kept_at n e h).way in
       let numbers_same : Some m ≡ Some n = sym (number_at m d found.1) ∙ ap (λ p. number_of p numbers) ways ∙ number_at n e h in
       cc
@@ -397,7 +389,7 @@ module _ (nodes : Nodes) (are : AreNodes nodes) where
       let same : 0 + n ≡ n = omega arith in
       only_place (is_child (number_of (front e.0) numbers) (last e.0)) no_node 0 schema n (within n e h)
       (ap (is_child (number_of (front e.0) numbers) (last e.0)) (node_is n e h)
-      ∙ ap (λ t. t && same_text (last e.0) (last e.0)) (same_number_itself (number_of (front e.0) numbers)) ∙ same_itself (last e.0))
+      ∙ ap (λ t. t && same_text (last e.0) (last e.0)) (same_number_itself (number_of (front e.0) numbers)) ∙ texts_itself (last e.0))
       (only_child n e h) ∙ ap Some same
 
   stands : (n : ℕ) → n < length schema → Stands schema n

@@ -4,6 +4,7 @@ use Rattle.std.specs.List.{position_or_len, before_first, after_first}
 use Rattle.std.proofs.lemmas.Bool.Decides.{nat_tests}
 use Rattle.serde_json.specs.Data.{Data, Members}
 use Rattle.serde_json.specs.Find.{as_object}
+use Rattle.std.proofs.lemmas.Bool.{and_parts}
 use Rattle.yp_base.specs.Types.{same_text, is_type, are_names}
 use Rattle.yp_base.specs.declared.leaf_type.LeafType.{LeafType}
 use Rattle.yp_base.specs.declared.leaf_type.LeafType.TheVariants.{Dec, Names as Enumeration}
@@ -13,10 +14,12 @@ use Rattle.yp_schema.specs.declared.stated.Shape.{Shape}
 use Rattle.yp_schema.specs.declared.stated.Shape.TheVariants as shapes
 use Rattle.yp_schema.specs.declared.stated.Body.{Body}
 use Rattle.yp_schema.specs.declared.stated.Stated.{Stated}
-use Rattle.yp_schema.specs.Names.{Names, front, last, cut, rooted, names_in, around_colon}
+use Rattle.yp_base.specs.Cuts.{cut}
+use Rattle.yp_schema.specs.Names.{Names, front, last, rooted, names_in, around_colon}
 use Rattle.yp_schema.specs.WellFormed.{is_name, is_empty, has_none}
 use Rattle.yp_schema.specs.Enumerations.{in_byte_order}
-use Rattle.yp_schema.specs.Stated.{with_shape, has_only, flag_member, tested, are_key_names, texts_member, text_member, container_in, container_kind, list_in, enumeration_in, typed_in, leaf_in, of_kind, body_in, body, type_in, integer_in, decimal_at, places_in, form_of, form_in, stated_in, stated, node_in}
+use Rattle.yp_base.specs.Json.{text_member}
+use Rattle.yp_schema.specs.Stated.{with_shape, has_only, flag_member, tested, are_key_names, texts_member, container_in, container_kind, list_in, enumeration_in, typed_in, leaf_in, of_kind, body_in, body, type_in, integer_in, decimal_at, places_in, form_of, form_in, stated_in, stated, node_in}
 
 -- ---- types
 
@@ -212,14 +215,10 @@ pub record IsForm (text : List ℕ) (form : Option (List ℕ) × List ℕ) : Typ
   pub home : home_fits form.0 ≡ true
   pub name : is_name form.1 ≡ true
 
-pub both_true : (s t : Bool) → (s && t) ≡ true → (s ≡ true) × (t ≡ true)
-both_true true t h = (refl, h)
-both_true false t h = cc
-
 form_is : (text : List ℕ) (o : Option (List ℕ × List ℕ)) → Has (λ x. text ≡ x.0 ++ 58 ∷ x.1) o → Has (IsForm text) (form_of text o)
 form_is text None h = has_if (IsForm text) (is_name text) (Some (None, text)) None (λ is. record { written = refl; home = refl; name = is }) tt
 form_is text (Some x) h = has_if (IsForm text) (is_name x.0 && is_name x.1) (Some (Some x.0, x.1)) None
-    (λ is. record { written = h; home = (both_true _ _ is).0; name = (both_true _ _ is).1 }) tt
+    (λ is. record { written = h; home = (and_parts _ _ is).0; name = (and_parts _ _ is).1 }) tt
 
 around_is : (text : List ℕ) → Has (λ x. text ≡ x.0 ++ 58 ∷ x.1) (around_colon text)
 around_is text =
@@ -251,7 +250,7 @@ path_sound ms (Some path) h = form_sound ms path h (form_in (last path)) (form_i
 stated_sound : (ms : Members) → Has IsSound (stated_in ms)
 stated_sound ms =
     has_then IsSound (λ text. option_and_then (λ path. option_and_then (λ form. option_map (λ b. stated path form b) (body_in ms)) (form_in (last path))) (names_in text))
-    (text_member (codes "path") ms) (λ text. path_sound ms (names_in text) (rooted_way (cut text)))
+    (text_member (codes "path") ms) (λ text. path_sound ms (names_in text) (rooted_way (cut 47 text)))
 
 pub node_sound : (d : Data) → Has IsSound (node_in d)
 node_sound d = has_then IsSound stated_in (as_object d) stated_sound

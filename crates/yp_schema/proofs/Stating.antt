@@ -2,14 +2,15 @@
 use Rattle.std.proofs.Common.{◌≡◌, List, [], ◌∷◌, ◌++◌, ℕ, codes, refl, sym, ap, ◌∙◌, true, false, cond, Option, Some, None, option_map, option_and_then}
 use Rattle.serde_json.specs.Data.{Data, Members}
 use Rattle.serde_json.specs.Find.{as_object}
+use Rattle.yp_base.specs.PathLaws.{texts_itself}
 use Rattle.yp_base.specs.Types.{same_text}
 use Rattle.yp_schema.specs.declared.stated.Stated.{Stated}
 use Rattle.yp_schema.specs.Names.{Names, front, last, names_in}
 use Rattle.yp_schema.specs.Rounds.{own_module}
-use Rattle.yp_schema.specs.Stated.{text_member, body_in, form_in, stated, stated_in, node_in}
+use Rattle.yp_base.specs.Json.{text_member}
+use Rattle.yp_schema.specs.Stated.{body_in, form_in, stated, stated_in, node_in}
 use Rattle.yp_schema.specs.Compiled.{carried_by, module_below, module_along, module_of, carries, HasModule}
 use Rattle.yp_schema.proofs.Sound.{Has, has_at, has_then, has_map, IsSound, node_sound}
-use Rattle.yp_schema.proofs.Kept.{same_itself}
 
 form_carried : (ms : Members) (path : Names) (o : Option (Option (List ℕ) × List ℕ)) → form_in (last path) ≡ o → Has (λ node. carried_by (last node.path) ≡ node.home) (option_and_then (λ form. option_map (λ b. stated path form b) (body_in ms)) o)
 form_carried ms path None is = tt
@@ -47,7 +48,7 @@ own_carries None None home is = cc
 own_carries None (Some h) home is = (is, is)
 own_carries (Some a) None home is =
     let one : home ≡ a = cc in
-    (is, sym (ap (λ t. cond t None (Some home)) (ap (λ x. same_text x a) one ∙ same_itself a)))
+    (is, sym (ap (λ t. cond t None (Some home)) (ap (λ x. same_text x a) one ∙ texts_itself a)))
 own_carries (Some a) (Some h) home is =
     elim (same_text h a) as (λ t. same_text h a ≡ t → cond t None (Some h) ≡ Some home → (Some h ≡ Some home) × (Some h ≡ carries (Some a) home)) [
       | true ↦ λ same k. cc

@@ -14,7 +14,8 @@ use Rattle.yp_base.specs.Json.{value_fits}
 use Rattle.yp_schema.specs.declared.schema.SchemaNode.{SchemaNode}
 use Rattle.yp_schema.specs.declared.schema.Kind.{Kind}
 use Rattle.yp_schema.specs.declared.schema.Kind.TheVariants.{Container, Presence, List as Listing, Leaf, LeafList}
-use Rattle.yp_schema.specs.Nodes.{node_at, same_number, is_key}
+use Rattle.yp_base.specs.Paths.{last_node, same_number}
+use Rattle.yp_schema.specs.Nodes.{node_at, is_key}
 use Rattle.yp_schema.specs.WellFormed.{is_empty}
 
 -- ---- paths
@@ -58,12 +59,6 @@ goes_down nodes parent (seg ∷ segs) = same_number (node_at seg.node nodes).par
 abbrev pub is_path_of : List SchemaNode → List Seg → Bool
 is_path_of nodes [] = false
 is_path_of nodes (seg ∷ segs) = goes_down nodes None (seg ∷ segs)
-
--- the node of the last segment
-abbrev pub last_node : List Seg → Option ℕ
-last_node [] = None
-last_node (seg ∷ []) = Some seg.node
-last_node (seg ∷ next ∷ segs) = last_node (next ∷ segs)
 
 -- whether a node is a key of the node above
 abbrev pub is_key_node : List SchemaNode → ℕ → Bool

@@ -5,6 +5,7 @@ use Rattle.std.specs.Cmp.{IsTotalOrder}
 use Rattle.std.specs.Cmp.Lexicographic.{slice_cmp}
 use Rattle.std.specs.Ordering.{nat_cmp}
 use Rattle.std.specs.declared.cmp.Ordering.{Ordering}
+use Rattle.yp_base.specs.Cuts.{cut}
 use Rattle.std.proofs.lemmas.Cmp.{nat_list_cmp_total, lists_total}
 
 -- member forms, from the top downwards
@@ -29,15 +30,6 @@ last [] = []
 last (name ∷ []) = name
 last (name ∷ next ∷ names) = last (next ∷ names)
 
-abbrev pub onto_first : ℕ → Names → Names
-onto_first b [] = (b ∷ []) ∷ []
-onto_first b (name ∷ names) = (b ∷ name) ∷ names
-
--- a text cut at each `/`
-abbrev pub cut : List ℕ → Names
-cut [] = [] ∷ []
-cut (b ∷ bs) = if b == 47 then [] ∷ cut bs else onto_first b (cut bs)
-
 -- nothing stands before the first `/`
 abbrev pub rooted : Names → Option Names
 rooted [] = None
@@ -47,7 +39,7 @@ rooted ((b ∷ bs) ∷ names) = None
 
 -- the names of a path, `/` and member forms joined by `/`
 abbrev pub names_in : List ℕ → Option Names
-names_in text = rooted (cut text)
+names_in text = rooted (cut 47 text)
 
 -- what stands before the first `:` and behind it
 abbrev pub around_colon : List ℕ → Option (List ℕ × List ℕ)

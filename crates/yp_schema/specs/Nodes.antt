@@ -1,6 +1,7 @@
 -- The nodes of a compiled schema (RFC 7950 section 4.2.2), in pre-order, siblings in byte order of their member forms; a node's number is its place.
 use Rattle.std.specs.Prelude.{ℕ, ◌+◌, List, [], ◌∷◌, ◌++◌, Bool, true, false, ◌&&◌, ◌||◌, Option, Some, None, get_or, if◌then◌else◌, nat_eq}
 use Rattle.std.specs.Cmp.Lexicographic.{pointwise}
+use Rattle.yp_base.specs.Paths.{same_number}
 use Rattle.yp_schema.specs.declared.schema.SchemaNode.{SchemaNode}
 use Rattle.yp_schema.specs.declared.schema.Kind.{Kind}
 use Rattle.yp_schema.specs.declared.schema.Kind.TheVariants.{Container, Presence, List as Listing, Leaf, LeafList}
@@ -11,12 +12,6 @@ no_node = record { parent = None; kind = Container; home = []; name = []; member
 
 abbrev pub node_at : ℕ → List SchemaNode → SchemaNode
 node_at n nodes = get_or nodes n no_node
-
-abbrev pub same_number : Option ℕ → Option ℕ → Bool
-same_number None None = true
-same_number None (Some y) = false
-same_number (Some x) None = false
-same_number (Some x) (Some y) = nat_eq x y
 
 -- whether a node is the child with this member form
 abbrev pub is_child : Option ℕ → List ℕ → SchemaNode → Bool

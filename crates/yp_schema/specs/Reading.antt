@@ -8,7 +8,8 @@ use Rattle.yp_schema.specs.declared.fault.SchemaFault.{SchemaFault}
 use Rattle.yp_schema.specs.declared.fault.SchemaFault.TheVariants.{At, Memory}
 use Rattle.yp_schema.specs.declared.listing.Listed.{Listed}
 use Rattle.yp_schema.specs.Names.{Names, names_cmp, front, last}
-use Rattle.yp_schema.specs.Rounds.{Nodes, Fault, fault_at, parts_in, ◌>>=◌}
+use Rattle.yp_base.specs.Results.{◌>>=◌}
+use Rattle.yp_schema.specs.Rounds.{Nodes, Fault, fault_at, parts_in}
 
 -- the ways to the nodes, with their numbers
 abbrev pub Numbers : Type 0

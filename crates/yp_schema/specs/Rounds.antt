@@ -5,6 +5,7 @@ use Rattle.std.specs.Map.{lookup}
 use Rattle.serde_json.specs.Data.{Data, Items, no_items, item}
 use Rattle.serde_json.specs.Find.{as_array}
 use Rattle.yp_base.specs.Types.{same_text, has_atoms}
+use Rattle.yp_base.specs.Results.{◌>>=◌}
 use Rattle.yp_base.specs.declared.leaf_type.LeafType.{LeafType}
 use Rattle.yp_schema.specs.declared.schema.Kind.{Kind}
 use Rattle.yp_schema.specs.declared.schema.Kind.TheVariants.{Container, Presence, List as Listing, Leaf, LeafList}
@@ -22,11 +23,6 @@ Nodes = List (Names × Listed)
 
 abbrev pub listed_at : Names → Nodes → Option Listed
 listed_at path nodes = lookup (is_at (names_cmp path)) nodes
-
-infixl 10 ◌>>=◌
-abbrev pub ◌>>=◌ : {A B F : Type 0} → Result A F → (A → Result B F) → Result B F
-(Ok x) >>= f = f x
-(Err e) >>= f = Err e
 
 -- ---- the first round
 

@@ -13,7 +13,8 @@ use Rattle.yp_schema.specs.declared.schema.Kind.{Kind}
 use Rattle.yp_schema.specs.declared.schema.Kind.TheVariants.{Container, Presence, List as Listing, Leaf, LeafList}
 use Rattle.yp_schema.specs.Nodes.{node_at}
 use Rattle.yp_schema.specs.WellFormed.{IsSchema, is_parent_of, kind_stands, has_none, has_type, has_atom_type, is_empty, is_key_leaf, are_key_leaves}
-use Rattle.yp_schema.specs.Datastore.{is_segment, goes_down, is_path_of, last_node, is_key_node, is_key_at, ends_in_key, is_place, holds_value, IsRowOf}
+use Rattle.yp_base.specs.Paths.{last_node}
+use Rattle.yp_schema.specs.Datastore.{is_segment, goes_down, is_path_of, is_key_node, is_key_at, ends_in_key, is_place, holds_value, IsRowOf}
 
 -- ---- the nodes of a schema
 

@@ -3,6 +3,7 @@ use Rattle.std.specs.Prelude.{ℕ, ◌+◌, ◌-◌, ◌==◌, ◌&&◌, ◌||�
 use Rattle.serde_json.specs.Data.{Data, Items, no_items, item, Members, no_members, member}
 use Rattle.serde_json.specs.Find.{get_member, as_bool, as_str, as_array, as_object}
 use Rattle.yp_base.specs.Types.{same_text, are_distinct, are_names}
+use Rattle.yp_base.specs.Json.{text_member}
 use Rattle.yp_base.specs.declared.leaf_type.LeafType.{LeafType}
 use Rattle.yp_base.specs.declared.leaf_type.LeafType.TheVariants.{Bool as Truth, Int, Uint, Dec, Text, Names as Enumeration, Empty}
 use Rattle.yp_schema.specs.declared.schema.Kind.{Kind}
@@ -31,9 +32,6 @@ may_have shape name = same_text name (codes "path") || same_text name (codes "ki
 abbrev pub has_only : Shape → Members → Bool
 has_only shape no_members = true
 has_only shape (member name d ms) = may_have shape name && has_only shape ms
-
-abbrev pub text_member : List ℕ → Members → Option (List ℕ)
-text_member name ms = option_and_then as_str (get_member name ms)
 
 -- a member that is true or false, and false where it isn't there
 abbrev pub flag_of : Option Data → Option Bool

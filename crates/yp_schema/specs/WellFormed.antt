@@ -8,7 +8,8 @@ use Rattle.yp_base.specs.declared.leaf_type.LeafType.{LeafType}
 use Rattle.yp_schema.specs.declared.schema.SchemaNode.{SchemaNode}
 use Rattle.yp_schema.specs.declared.schema.Kind.{Kind}
 use Rattle.yp_schema.specs.declared.schema.Kind.TheVariants.{Container, Presence, List as Listing, Leaf, LeafList}
-use Rattle.yp_schema.specs.Nodes.{node_at, child_of, may_hold, qualified_name, same_number, is_in}
+use Rattle.yp_base.specs.Paths.{same_number}
+use Rattle.yp_schema.specs.Nodes.{node_at, child_of, may_hold, qualified_name, is_in}
 
 abbrev pub is_letter : ℕ → Bool
 is_letter b = (nat_le 97 b && nat_le b 122) || (nat_le 65 b && nat_le b 90)

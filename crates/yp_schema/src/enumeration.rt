@@ -4,8 +4,8 @@ ghost use Rattle.yp_base.specs.Types.{are_names, are_rising, are_short};
 ghost use Rattle.yp_schema.specs.Enumerations.{in_byte_order};
 ghost use Rattle.yp_schema.specs.Stated.{tested};
 
-use crate::names::Names;
 use std::alloc::Global;
+use yp_base::leaf_type::Names;
 use yp_base::memory::NoMemory;
 use yp_base::series::Series;
 use yp_base::txt::Txt;

@@ -15,3 +15,5 @@ mod numbers;
 pub mod rule_path;
 pub mod schema;
 mod stated;
+
+pub use names::is_name;

@@ -11,14 +11,14 @@ ghost use Rattle.yp_schema.specs.Stated.{node_in};
 ghost use Rattle.yp_schema.specs.WellFormed.{IsSchema};
 
 use crate::fault::{SchemaFault, SchemaKind};
-use crate::names::{Names, front_of, with_name};
+use crate::names::{front_of, with_name};
 use crate::schema::Kind;
 use crate::stated::{Body, Stated, read_node};
 use serde_json::Value as Json;
 use std::alloc::Global;
 use std::collections::BTreeMap;
 use std::marker::Model;
-use yp_base::leaf_type::LeafType;
+use yp_base::leaf_type::{LeafType, Names};
 use yp_base::memory::{Duplicate, NoMemory};
 use yp_base::txt::Txt;
 

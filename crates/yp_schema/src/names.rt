@@ -1,16 +1,15 @@
 //! The names on the way to a node, and member forms (RFC 7951 section 4).
 ghost use Rattle.std.specs.List.{position_or_len, before_first, after_first};
 ghost use Rattle.std.specs.Prelude.{◌≡◌, ◌<◌, ◌++◌, ◌∷◌, [], ◌==◌, length, IfOk, MatchOption, option_map};
-ghost use Rattle.yp_schema.specs.Names.{cut, names_in, around_colon, front, last};
+ghost use Rattle.yp_base.specs.Cuts.{cut};
+ghost use Rattle.yp_schema.specs.Names.{names_in, around_colon, front, last};
 ghost use Rattle.yp_schema.specs.WellFormed.{is_name, is_identifier, begins_name, goes_on_name, go_on_name, is_letter};
 
 use std::alloc::Global;
+use yp_base::leaf_type::Names;
 use yp_base::memory::{Duplicate, NoMemory};
 use yp_base::series::Series;
 use yp_base::txt::Txt;
-
-/// Names, such as the member forms on the way to a node, from the top downwards.
-pub type Names = Series<Txt>;
 
 /// A text of its own.
 pub fn text_of(alloc: Global, text: &str) -> Result<Txt, NoMemory>
@@ -65,7 +64,7 @@ pub fn around_colon(text: &str) -> Option<(&str, &str)>
 /// A text cut at each `/`.
 #[tactic(auto, using(crate::proofs::Cuts::cut_found, crate::proofs::Cuts::cut_none, crate::proofs::Cuts::put_between))]
 fn cut_at(alloc: Global, text: &str) -> Result<Names, NoMemory>
-    ensures { IfOk result (λ names. names ≡ cut text.now) }
+    ensures { IfOk result (λ names. names ≡ cut 47 text.now) }
 {
     let mut names = Vec::new(alloc);
     let mut rest = text;

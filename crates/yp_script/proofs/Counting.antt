@@ -1,6 +1,6 @@
 -- A script has no more commands than lines.
 use Rattle.std.proofs.Common.{◌≡◌, ℕ, ◌+◌, ◌-◌, ◌*◌, ◌≤◌, Bool, true, false, true≢false, ◌&&◌, List, [], ◌∷◌, ◌++◌, length, get_or, set, replicate, sum_by, Option, Some, None, Result, Ok, Err, refl, sym, ap, subst, inl, inr, arith, nat_le, IfOk, if◌then◌else◌, length-append}
-use Rattle.std.proofs.lemmas.Bool.{leb-true, cases_lt}
+use Rattle.std.proofs.lemmas.Bool.{leb-true, cases_lt, and_parts}
 use Rattle.std.proofs.lemmas.List.{set_past}
 use Rattle.std.proofs.lemmas.List.Sums.{sum_by-set}
 use Rattle.std.proofs.lemmas.List.Folds.{sum_by-replicate}
@@ -20,7 +20,7 @@ use Rattle.yp_script.specs.Lines.{Line, pieces_of, without_feed, is_blank, json_
 use Rattle.yp_script.specs.Order.{may_stand, is_complete}
 use Rattle.yp_script.specs.Readings.{Gives}
 use Rattle.yp_script.specs.Script.{Progress, no_progress, with_start, with_part, with_receiver, script_with, with_command, with_lanes, with_laned, with_join, schema_said, part_taken, taken, placed, said_in, at_line, script_from, script_of, count_commands}
-use Rattle.yp_script.proofs.SaidLaws.{both_true, map_is, any_is, holding_is, line_is, bound_is}
+use Rattle.yp_script.proofs.SaidLaws.{map_is, any_is, holding_is, line_is, bound_is}
 
 -- ---- a line has one command at most
 
@@ -91,7 +91,7 @@ abbrev AtMost : ℕ → Script → Type 0
 AtMost most script = count_commands script ≤ most
 
 within_lines : (number end : ℕ) → is_in_script number end ≡ true → number ≤ 100000
-within_lines number end is = leb-true number 100000 (both_true (nat_le number 100000) (nat_le end 67108864) is).0
+within_lines number end is = leb-true number 100000 (and_parts (nat_le number 100000) (nat_le end 67108864) is).0
 
 line_more : (end number : ℕ) (progress : Progress) (text : List ℕ) (rest : List Line) (within blank : Bool) → count_commands progress.script ≤ number → (within ≡ true → number + 1 ≤ 100000)
     → ((next : Progress) → count_commands next.script ≤ number + 1 → number + 1 ≤ 100000 → IfOk (script_from end next rest) (AtMost 100000))

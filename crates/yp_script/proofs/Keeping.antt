@@ -2,7 +2,7 @@
 use Rattle.std.proofs.Common.{◌≡◌, ℕ, ◌+◌, ◌-◌, ◌<◌, ◌≤◌, inl, inr, option_and_then, codes, Bool, true, false, true≢false, not, ◌&&◌, ◌||◌, List, [], ◌∷◌, ◌++◌, length, take, min, get_or, Option, Some, None, is_some, Result, Ok, Err, refl, sym, ap, ◌∙◌, subst, arith, nat_le, IfSome, IfOk, length-append}
 use Rattle.std.specs.List.{All, list_any}
 use Rattle.std.specs.Cmp.Lexicographic.{nat_list_eq_equiv}
-use Rattle.std.proofs.lemmas.Bool.{leb-true, cases_lt, or_parts}
+use Rattle.std.proofs.lemmas.Bool.{leb-true, cases_lt, or_parts, and_parts}
 use Rattle.std.proofs.lemmas.List.{length-map, map-append, get_or_past, take_all}
 use Rattle.std.proofs.lemmas.List.Elements.{All-push, All-nil, All-set, All-get_or, All-weaker, All-replicate}
 use Rattle.serde_json.specs.Data.{Data, Members}
@@ -35,7 +35,7 @@ use Rattle.yp_script.specs.Order.{may_stand, is_complete}
 use Rattle.yp_script.specs.Script.{Progress, no_progress, with_start, with_part, with_receiver, with_command, with_lanes, with_laned, with_join, script_with, schema_said, part_taken, taken, placed, said_in, at_line, script_from, script_of, IsReceiver, AreReceivers, MayRun}
 use Rattle.yp_script.specs.Words.{members_if, sole, where_true, whole_said}
 use Rattle.yp_script.proofs.Positions.{position_within, none_there}
-use Rattle.yp_script.proofs.SaidLaws.{both_true, map_is, some_is, then_is, if_is, ok_is, or_is, both_is, holding_is, where_is, itself_is, any_is, weaker_is, weaker_some, then_some, line_is, bound_is, whole_is}
+use Rattle.yp_script.proofs.SaidLaws.{map_is, some_is, then_is, if_is, ok_is, or_is, both_is, holding_is, where_is, itself_is, any_is, weaker_is, weaker_some, then_some, line_is, bound_is, whole_is}
 
 -- ---- receivers' names
 
@@ -59,7 +59,7 @@ among_more text other (name ∷ names) among differs =
 distinct_more : (other : List ℕ) (names : List (List ℕ)) → are_distinct names ≡ true → list_any (same_text other) names ≡ false → are_distinct (names ++ other ∷ []) ≡ true
 distinct_more other [] are new = refl
 distinct_more other (name ∷ names) are new =
-    let parts = both_true (not (is_among name names)) (are_distinct names) are in
+    let parts = and_parts (not (is_among name names)) (are_distinct names) are in
     let others = or_parts (same_text other name) (list_any (same_text other) names) new in
     let differs : same_text name other ≡ false = nat_list_eq_equiv.symm name other ∙ others.0 in
     ap (λ b. not b && are_distinct (names ++ other ∷ [])) (among_more name other names (not_true (is_among name names) parts.0) differs)
@@ -82,7 +82,7 @@ joined receivers receiver are may = record {
 
 named : (receivers : List ReceiverInfo) (name : List ℕ) → is_new_name receivers name ≡ true → (is_receiver_name name ≡ true) × (is_some (number_of receivers name) ≡ false)
 named receivers name is =
-    let parts = both_true (is_receiver_name name) (not (is_some (number_of receivers name))) is in
+    let parts = and_parts (is_receiver_name name) (not (is_some (number_of receivers name))) is in
     (parts.0, not_true (is_some (number_of receivers name)) parts.1)
 
 places_are : (receivers : List ReceiverInfo) (ms : Members) → IfOk (places_said receivers ms) (λ places. (length receivers + 1 ≤ 16) × (1 ≤ places) × (places ≤ 32))

@@ -3,7 +3,8 @@ use Rattle.std.proofs.Common.{◌≡◌, ℕ, zero, suc, ◌+◌, ◌≤◌, ◌
 use Rattle.std.specs.Prelude.{IfOk, is_ok}
 use Rattle.std.specs.List.{AllByRecursion}
 use Rattle.serde_json.specs.Data.{Data}
-use Rattle.yp_schema.specs.Rounds.{◌>>=◌}
+use Rattle.std.proofs.lemmas.Bool.{and_parts}
+use Rattle.yp_base.specs.Results.{◌>>=◌}
 use Rattle.yp_script.specs.declared.fault.ScriptKind.TheVariants as kinds
 use Rattle.yp_script.specs.declared.fault.ScriptFault.{ScriptFault}
 use Rattle.yp_script.specs.declared.script.Script.{Script}
@@ -12,7 +13,6 @@ use Rattle.yp_script.specs.Forms.{form_of}
 use Rattle.yp_base.specs.Cuts.{onto_first}
 use Rattle.yp_script.specs.Lines.{Line, pieces_of, without_feed, is_blank, is_in_script, json_in, lines_from}
 use Rattle.yp_script.specs.Order.{is_complete}
-use Rattle.yp_script.proofs.SaidLaws.{both_true}
 use Rattle.yp_script.specs.Script.{Progress, no_progress, placed, said_in, at_line, script_from, script_of, script_in}
 
 -- ---- each line of a script has its JSON
@@ -68,7 +68,7 @@ total_pieces [] = refl
 total_pieces (b ∷ text) = total_cut (b == 10) b (pieces_of text) ∙ omega (arith, total_pieces text)
 
 within_at : (a : Bool) (number end : ℕ) → is_in_script number end ≡ a → a ≡ true → end ≤ 67108864
-within_at true number end is h = grind (arith, (both_true (nat_le number 100000) (nat_le end 67108864) is).1)
+within_at true number end is h = grind (arith, (and_parts (nat_le number 100000) (nat_le end 67108864) is).1)
 within_at false number end is h = absurd (true≢false (sym h))
 
 -- a line that has its JSON lies within them

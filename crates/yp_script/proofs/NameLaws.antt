@@ -4,11 +4,8 @@ use Rattle.std.specs.List.{position}
 use Rattle.std.specs.Map.{keys_of, values_of, lookup}
 use Rattle.std.proofs.lemmas.List.{map-append}
 use Rattle.std.proofs.lemmas.Map.Made.{is_some-lookup}
+use Rattle.yp_base.specs.Results.{none_is}
 use Rattle.yp_script.proofs.Positions.{position_of_map, none_there}
-
-none_is : {X : Type 0} (o : Option X) → is_some o ≡ false → o ≡ None
-none_is None h = refl
-none_is (Some x) h = absurd (true≢false h)
 
 module _ {K X : Type 0} (bytes : K → List ℕ) (name : X → List ℕ) where
   -- the place of a name is that of its key

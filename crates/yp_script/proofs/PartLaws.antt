@@ -6,7 +6,8 @@ use Rattle.serde_json.specs.Data.{Data, Items, no_items, item}
 use Rattle.serde_json.specs.Find.{as_array}
 use Rattle.yp_schema.specs.declared.schema.SchemaNode.{SchemaNode}
 use Rattle.yp_schema.specs.declared.fault.SchemaKind.{SchemaKind}
-use Rattle.yp_schema.specs.Rounds.{Nodes, Fault, ◌>>=◌, added, checked, at_place, first_round, second_round, part_in, parts_in}
+use Rattle.yp_base.specs.Results.{◌>>=◌}
+use Rattle.yp_schema.specs.Rounds.{Nodes, Fault, added, checked, at_place, first_round, second_round, part_in, parts_in}
 use Rattle.yp_schema.specs.Stated.{node_in}
 use Rattle.yp_schema.specs.Reading.{numbered, schema_of}
 use Rattle.yp_script.specs.declared.fault.ScriptKind.TheVariants as kinds

@@ -9,12 +9,7 @@ use Rattle.yp_script.specs.Faults.{Said, said_or, said_map, said_then, both, hol
 use Rattle.yp_script.specs.Forms.{said_of_some}
 use Rattle.yp_script.specs.Script.{at_line}
 use Rattle.yp_script.specs.Words.{where_true, whole_said}
-use Rattle.yp_schema.specs.Rounds.{◌>>=◌}
-
--- both of two tests hold
-pub both_true : (a b : Bool) → (a && b) ≡ true → (a ≡ true) × (b ≡ true)
-both_true true b h = (refl, h)
-both_true false b h = absurd (true≢false (sym h))
+use Rattle.yp_base.specs.Results.{◌>>=◌}
 
 pub map_is : {X Y : Type 0} (f : X → Y) (said : Said X) (P : X → Type 0) (Q : Y → Type 0) → IfOk said P → ((x : X) → P x → Q (f x)) → IfOk (said_map f said) Q
 map_is f (Ok x) P Q is each = each x is

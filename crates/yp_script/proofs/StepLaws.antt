@@ -6,7 +6,7 @@ use Rattle.serde_json.specs.declared.value.Value.{Value}
 use Rattle.serde_json.specs.View.{view}
 use Rattle.yp_schema.specs.declared.schema.SchemaNode.{SchemaNode}
 use Rattle.yp_schema.specs.Reading.{schema_of}
-use Rattle.yp_schema.specs.Rounds.{◌>>=◌}
+use Rattle.yp_base.specs.Results.{◌>>=◌}
 use Rattle.yp_script.specs.declared.cursor.Lines.{Lines}
 use Rattle.yp_script.specs.declared.cursor.Line.{Line as FoundLine}
 use Rattle.yp_script.specs.declared.fault.ScriptKind.{ScriptKind}

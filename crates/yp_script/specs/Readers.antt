@@ -3,7 +3,7 @@ use Rattle.std.specs.Prelude.{◌≡◌, ℕ, List, map, true, unwrap_or, is_ok,
 use Rattle.serde_json.specs.View.{view}
 use Rattle.yp_schema.specs.declared.schema.SchemaNode.{SchemaNode}
 use Rattle.yp_schema.specs.Reading.{schema_of}
-use Rattle.yp_schema.specs.Rounds.{◌>>=◌}
+use Rattle.yp_base.specs.Results.{◌>>=◌}
 use Rattle.yp_script.specs.declared.fault.ScriptFault.{ScriptFault}
 use Rattle.yp_script.specs.declared.reader.Reader.{Reader}
 use Rattle.yp_script.specs.declared.said.Halt.{Halt}

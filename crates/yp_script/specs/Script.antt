@@ -5,7 +5,8 @@ use Rattle.serde_json.specs.Data.{Data}
 use Rattle.yp_base.specs.Types.{are_distinct}
 use Rattle.yp_schema.specs.declared.schema.SchemaNode.{SchemaNode}
 use Rattle.yp_schema.specs.Reading.{schema_of}
-use Rattle.yp_schema.specs.Rounds.{Fault, ◌>>=◌}
+use Rattle.yp_base.specs.Results.{◌>>=◌}
+use Rattle.yp_schema.specs.Rounds.{Fault}
 use Rattle.yp_journal.specs.declared.command.Command.{Command}
 use Rattle.yp_journal.specs.declared.receiver.ReceiverInfo.{ReceiverInfo}
 use Rattle.yp_journal.specs.History.{MayCome}

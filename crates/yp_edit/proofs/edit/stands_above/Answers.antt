@@ -1,7 +1,7 @@
 use Rattle.std.proofs.Common.{◌≡◌, ◌<◌, ◌++◌, ◌∷◌, Bool, List, [], length, ap, sym, ◌∙◌, subst}
 use Rattle.std.specs.List.{AllByRecursion, list_all}
 use Rattle.yp_base.specs.declared.path.Seg.{Seg}
-use Rattle.yp_schema.specs.Datastore.{last_node}
+use Rattle.yp_base.specs.Paths.{last_node}
 use Rattle.yp_edit.specs.Patches.{has_its_row, paths_above}
 use Rattle.yp_edit.proofs.Ends.{each_within, last_node-append, with_copy, one_further, one_fails}
 use Rattle.yp_edit.proofs.edit.stands_above.Goals as goal

@@ -1,5 +1,5 @@
 use Rattle.std.proofs.Common.{sym, ap, ◌∙◌}
-use Rattle.yp_schema.specs.Datastore.{last_node}
+use Rattle.yp_base.specs.Paths.{last_node}
 use Rattle.yp_edit.proofs.Ends.{last_node-append}
 use Rattle.yp_edit.proofs.target.end_of.Goals as goal
 

@@ -1,5 +1,6 @@
 use Rattle.std.proofs.Common.{sym, ap, ◌∙◌}
-use Rattle.yp_schema.specs.Datastore.{last_node, is_key_at}
+use Rattle.yp_base.specs.Paths.{last_node}
+use Rattle.yp_schema.specs.Datastore.{is_key_at}
 use Rattle.yp_schema.specs.SchemaLaws.{last_node_append, open_place}
 use Rattle.yp_schema.proofs.schema.Schema.ends_in_key.Goals as goal
 
