@@ -16,6 +16,7 @@ from collections.abc import Iterator
 from typing import Any
 
 from make_script import MOST_ROWS, SCHEMA, establish, head, patch, scattered, write
+from names import escaped, interface_name
 
 ROWS_EACH = 4
 AT_ONCE = 500
@@ -25,7 +26,7 @@ Edit = tuple[str, str, Any]
 
 
 def interface(number: int) -> dict[str, Any]:
-    return {"name": f"eth{number}", "mtu": 1500, "enabled": True, "stats": {"in": "0"}}
+    return {"name": interface_name(number), "mtu": 1500, "enabled": True, "stats": {"in": "0"}}
 
 
 def interfaces(count: int) -> Iterator[dict[str, Any]]:
@@ -38,7 +39,7 @@ def interfaces(count: int) -> Iterator[dict[str, Any]]:
 def replacements(count: int, first: int) -> Iterator[Edit]:
     """Edits without end: the counters of so many interfaces get one value after another, from the first on."""
     for value, number in enumerate(itertools.cycle(list(scattered(count))), first):
-        yield "replace", f"/acme:interfaces/interface=eth{number}/stats/in", {"acme:in": str(value)}
+        yield "replace", f"/acme:interfaces/interface={escaped(interface_name(number))}/stats/in", {"acme:in": str(value)}
 
 
 def replacing(count: int, edits: int, first: int = FIRST_VALUE) -> Iterator[dict[str, Any]]:

@@ -16,6 +16,7 @@ from collections.abc import Iterator
 from typing import Any
 
 from make_script import SCHEMA, creation, patch, write
+from names import escaped, interface_name
 
 LEAST, MOST = 100, 100_000
 COUNT = 64
@@ -32,7 +33,7 @@ def begun() -> Iterator[dict[str, Any]]:
     yield {"schema": SCHEMA}
     for name, user in RECEIVERS:
         yield {"receiver": {"name": name, "user": user, "queue": 4, "take": "auto"}}
-    entries = [{"name": f"eth{number}", "mtu": FIRST_MTU} for number in range(COUNT)]
+    entries = [{"name": interface_name(number), "mtu": FIRST_MTU} for number in range(COUNT)]
     yield creation(1, "/acme:interfaces", {"acme:interfaces": {"interface": entries}})
     for name, _ in RECEIVERS:
         yield {"establish": {"by": name, "datastore": "ietf-datastores:operational", "on-change": {}}}
@@ -41,7 +42,8 @@ def begun() -> Iterator[dict[str, Any]]:
 def commands(lane: int) -> Iterator[dict[str, Any]]:
     """The commands of a lane, without end. An interface never gets the mtu that it has."""
     for place in itertools.count(1):
-        target = f"/acme:interfaces/interface=eth{EACH * (lane - 1) + place % EACH}/mtu"
+        name = escaped(interface_name(EACH * (lane - 1) + place % EACH))
+        target = f"/acme:interfaces/interface={name}/mtu"
         yield patch(place, [("replace", target, {"acme:mtu": FIRST_MTU + 1 + place % MTUS})])
 
 

@@ -14,6 +14,8 @@ import sys
 from collections.abc import Iterable, Iterator
 from typing import Any
 
+from names import escaped, interface_name
+
 SCHEMA = [
     {"path": "/acme:interfaces", "kind": "container"},
     {"path": "/acme:interfaces/interface", "kind": "list", "keys": ["name"]},
@@ -47,15 +49,15 @@ def establish() -> dict[str, Any]:
     return {"establish": {"by": RECEIVER, "datastore": "ietf-datastores:operational", "on-change": {}}}
 
 
-def patch(number: int, edits: Iterable[tuple[str, str, Any]]) -> dict[str, Any]:
-    """The patch of so many edits, each with its operation, target and value."""
+def patch(number: int | str, edits: Iterable[tuple[str, str, Any]]) -> dict[str, Any]:
+    """The patch of so many edits, each with its operation, target and value, where it has one."""
     said = [
-        {"edit-id": str(place), "operation": operation, "target": target, "value": value}
+        {"edit-id": str(place), "operation": operation, "target": target, **({} if value is None else {"value": value})}
         for place, (operation, target, value) in enumerate(edits, 1)]
     return {"patch": {"ietf-yang-patch:yang-patch": {"patch-id": str(number), "edit": said}}}
 
 
-def creation(number: int, target: str, value: Any) -> dict[str, Any]:
+def creation(number: int | str, target: str, value: Any) -> dict[str, Any]:
     return patch(number, [("create", target, value)])
 
 
@@ -69,8 +71,8 @@ def entries(count: int, whole: bool) -> Iterator[tuple[str, Any]]:
     """So many creations, each with its target and value."""
     each = 1 if whole else 4
     for place, number in enumerate(scattered((count + each - 1) // each)):
-        name = f"eth{number}"
-        target = f"/acme:interfaces/interface={name}"
+        name = interface_name(number)
+        target = f"/acme:interfaces/interface={escaped(name)}"
         leaves = {"mtu": 576 + number % 8192, "enabled": number % 2 == 0}
         if whole:
             yield target, {"acme:interface": [{"name": name, **leaves, "stats": {"in": str(number)}}]}

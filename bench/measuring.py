@@ -2,12 +2,16 @@
 
 from __future__ import annotations
 
+import filecmp
 import pathlib
+import shutil
 import subprocess
 import sys
 from dataclasses import dataclass
 
 BENCH = pathlib.Path(__file__).resolve().parent
+FLOOR = BENCH.parent / "crates/parse_floor/out/parse_floor"
+UNBUILT = "crates/parse_floor isn't built: `rt run <stdin` in its folder builds it"
 MADE = BENCH / "made"
 RUNS = 3
 
@@ -50,16 +54,35 @@ def run_once(words: list[str], script: pathlib.Path, output: pathlib.Path) -> Co
     return Cost(float(clock), float(processors), int(peak) / 1024, int(peak) > 1.1 * int(least))
 
 
+def run_floor(script: pathlib.Path, output: pathlib.Path) -> Cost:
+    """What the floor takes for a script and its report: it parses all lines, and writes those of the report again."""
+    both, again = MADE / "both", MADE / "again"
+    with both.open("wb") as out:
+        for part in (script, output):
+            with part.open("rb") as source:
+                shutil.copyfileobj(source, out)
+    cost = run_once([str(FLOOR)], both, again)
+    if not filecmp.cmp(output, again, shallow=False):
+        sys.exit(f"{script.name}: the floor doesn't write the report again")
+    for path in (both, again):
+        path.unlink()
+    return cost
+
+
 def best(runs: list[Cost]) -> Cost:
     return Cost(
         min(run.clock for run in runs), min(run.processors for run in runs), min(run.memory for run in runs),
         all(run.is_exact for run in runs))
 
 
-def wanted(script: pathlib.Path) -> tuple[int, int]:
-    """How many commands are accepted, and how many updates sent, where each command of a script is accepted.
+REFUSED = b'"patch-id":"refused'
 
-    A subscription is told all once, and then each patch behind it.
+
+def wanted(script: pathlib.Path) -> tuple[int, int]:
+    """How many commands are accepted, and how many updates sent.
+
+    A subscription is told all once, and then each patch after it. The patches that are to be refused say so in
+    their ids.
     """
     accepted = told = subscriptions = 0
     with script.open("rb") as lines:
@@ -67,7 +90,7 @@ def wanted(script: pathlib.Path) -> tuple[int, int]:
             if b'{"establish":' in line:
                 subscriptions += 1
                 told += 1
-            elif b'{"patch":' in line:
+            elif b'{"patch":' in line and REFUSED not in line:
                 accepted += 1
                 told += subscriptions
             elif b'{"tick":' in line:
@@ -76,7 +99,8 @@ def wanted(script: pathlib.Path) -> tuple[int, int]:
 
 
 def look(script: pathlib.Path, output: pathlib.Path) -> None:
-    """Each command is accepted, each patch after a subscription is told to it, and the report is whole."""
+    """Each command is accepted but those that are to be refused, each patch after a subscription is told to it, and
+    the report is whole."""
     accepted = told = 0
     last = b""
     with output.open("rb") as lines:
