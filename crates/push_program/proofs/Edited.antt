@@ -16,6 +16,7 @@ use Rattle.yp_schema.specs.declared.schema.SchemaNode.{SchemaNode}
 use Rattle.yp_schema.specs.Nodes.{node_at}
 use Rattle.yp_base.specs.Paths.{last_node}
 use Rattle.yp_schema.specs.Datastore.{is_path_of, is_place, is_key_node, is_key_at, value_of_kind, holds_value, IsRowOf, AreWritable}
+use Rattle.yp_schema.specs.SchemaLaws.{row_place}
 use Rattle.yp_edit.specs.declared.changed.ChangedRow.{ChangedRow}
 use Rattle.yp_edit.proofs.Alike.{are_one}
 use Rattle.yp_base.specs.PathLaws.{within_itself}
@@ -37,21 +38,12 @@ there_of_schema nodes path value (row ∷ rows) all there =
       | false ↦ λ here h. there_of_schema nodes path value rows all.1 h
     ] refl there
 
-no_key : (nodes : List SchemaNode) (node : Option ℕ) (value : Value) → holds_value nodes node value ≡ true → not (is_key_at nodes node) ≡ true
-no_key nodes None value holds = refl
-no_key nodes (Some n) value holds = (and_parts (not (is_key_node nodes n)) (value_of_kind (node_at n nodes).kind (node_at n nodes).ty value) holds).0
-
--- data may stand where there is a row
-row_place : (nodes : List SchemaNode) (path : List Seg) (value : Value) → IsRowOf nodes (record { path = path; value = value }) → is_place nodes path ≡ true
-row_place nodes [] value row = refl
-row_place nodes (seg ∷ path) value row = (λ i. row.path i && no_key nodes (last_node (seg ∷ path)) value row.value i)
-
 -- the visible rows at or below a row that may be read can be written there
 writable_below : (nodes : List SchemaNode) (path : List Seg) (value : Value) (rows : List Row) → AreInOrder rows → AllByRecursion (IsRowOf nodes) rows → is_readable nodes path ≡ true → value_at path rows ≡ Some value → AreWritable nodes path (rows_within path (visible_rows nodes rows))
 writable_below nodes path value rows order all may there =
     let seen = visible_rows nodes rows in
     record {
-      place = row_place nodes path value (there_of_schema nodes path value rows all there);
+      place = row_place nodes (record { path = path; value = value }) (there_of_schema nodes path value rows all there);
       in_order = some_keep_order (is_within path) seen (some_keep_order (is_readable nodes) rows order);
       of_schema = all_picked (is_within path) (IsRowOf nodes) seen (all_picked (is_readable nodes) (IsRowOf nodes) rows all);
       within = all_pass (is_within path) seen;

@@ -7,6 +7,7 @@ use Rattle.yp_base.specs.declared.notice.Change.{Change}
 use Rattle.yp_base.specs.Rows.{value_at}
 use Rattle.yp_schema.specs.declared.schema.SchemaNode.{SchemaNode}
 use Rattle.yp_schema.specs.Datastore.{is_path_of, IsRowOf, IsDatastore}
+use Rattle.yp_schema.specs.SchemaLaws.{row_path}
 use Rattle.yp_edit.specs.declared.changed.ChangedRow.{ChangedRow}
 use Rattle.yp_edit.specs.Changes.{changed_rows}
 use Rattle.yp_encode.specs.Sendable.{IsSendableChange}
@@ -23,7 +24,7 @@ pub record IsChangeTo (nodes : List SchemaNode) (rows : List Row) (row : Changed
 
 have_paths : (nodes : List SchemaNode) (rows : List Row) → AllByRecursion (IsRowOf nodes) rows → AllByRecursion (λ row. is_path_of nodes row.path ≡ true) rows
 have_paths nodes [] all = tt
-have_paths nodes (row ∷ rows) all = (all.0.path, have_paths nodes rows all.1)
+have_paths nodes (row ∷ rows) all = (row_path nodes row all.0, have_paths nodes rows all.1)
 
 each_change : (nodes : List SchemaNode) (old new : List Row) (rows : List ChangedRow) → AllByRecursion (λ row. is_path_of nodes row.path ≡ true) rows → AllByRecursion (IsBetween old new) rows → AllByRecursion (IsChangeTo nodes new) rows
 each_change nodes old new [] paths values = tt

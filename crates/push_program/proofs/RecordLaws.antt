@@ -3,7 +3,6 @@ use Rattle.std.proofs.Common.{◌≡◌, ℕ, List, [], ◌∷◌, ◌++◌, map
 use Rattle.std.specs.Prelude.{is_some}
 use Rattle.std.specs.List.{filter_map, cons_option, list_any, AllByRecursion}
 use Rattle.std.specs.Ordering.{is_eq}
-use Rattle.std.proofs.lemmas.Bool.{and_parts}
 use Rattle.yp_base.specs.declared.path.Seg.{Seg}
 use Rattle.yp_base.specs.declared.row.Value.{Value}
 use Rattle.yp_base.specs.declared.row.Row.{Row}
@@ -17,7 +16,8 @@ use Rattle.yp_schema.specs.declared.schema.Kind.{Kind}
 use Rattle.yp_schema.specs.declared.schema.Kind.TheVariants.{Container, Presence, List as Listing, Leaf, LeafList}
 use Rattle.yp_schema.specs.Nodes.{node_at, may_hold}
 use Rattle.yp_schema.specs.WellFormed.{IsSchema}
-use Rattle.yp_schema.specs.Datastore.{goes_down, is_path_of, holds_value, value_of_kind, is_key_node, is_entry_kind, last_kind_is, has_row, IsRowOf, IsDatastore}
+use Rattle.yp_schema.specs.Datastore.{goes_down, is_path_of, holds_value, value_of_kind, is_key_node, is_entry_kind, last_kind_is, has_row, IsRowOf, IsDatastore, goes_to_row}
+use Rattle.yp_schema.specs.SchemaLaws.{row_node, row_path}
 use Rattle.yp_data_json.proofs.AtPlace.{front_rest, node_after, goes_on}
 use Rattle.yp_data_json.proofs.Steps.{leaf_ends}
 use Rattle.yp_edit.specs.declared.changed.ChangedRow.{ChangedRow}
@@ -112,13 +112,13 @@ or_none : (value : Option Value) → or_else value None ≡ value
 or_none None = refl
 or_none (Some value) = refl
 
--- a path of the schema that ends in a node whose kind has rows of this value
+-- a path at which a row of some value may be
 abbrev EndsAsRow : List SchemaNode → List Seg → Type 0
-EndsAsRow nodes path = (is_path_of nodes path ≡ true) × ((value : Value) × (holds_value nodes (last_node path) value ≡ true))
+EndsAsRow nodes path = (value : Value) × (goes_to_row nodes None path value ≡ true)
 
 rows_end : (nodes : List SchemaNode) (rows : List Row) → AllByRecursion (IsRowOf nodes) rows → AllByRecursion (λ row. EndsAsRow nodes row.path) rows
 rows_end nodes [] all = tt
-rows_end nodes (row ∷ rows) all = ((all.0.path, (row.value, all.0.value)), rows_end nodes rows all.1)
+rows_end nodes (row ∷ rows) all = ((row.value, all.0.goes), rows_end nodes rows all.1)
 
 -- the node that a row ends in is an entry's, or nothing stands below it
 entry_or_leaf : {A : Type 0} (kind : Kind) (ty : Option LeafType) (value : Value) → value_of_kind kind ty value ≡ true → (is_entry_kind kind ≡ true → A) → (may_hold kind ≡ false → A) → A
@@ -128,25 +128,23 @@ entry_or_leaf Listing ty value h entry leaf = entry refl
 entry_or_leaf Leaf ty value h entry leaf = leaf refl
 entry_or_leaf LeafList ty value h entry leaf = leaf refl
 
-node_of_row : {A : Type 0} (nodes : List SchemaNode) (end : Option ℕ) (value : Value) → holds_value nodes end value ≡ true → ((n : ℕ) → end ≡ Some n → value_of_kind (node_at n nodes).kind (node_at n nodes).ty value ≡ true → A) → A
-node_of_row nodes None value h go = absurd (true≢false (sym h))
-node_of_row nodes (Some n) value h go = go n refl (and_parts (not (is_key_node nodes n)) (value_of_kind (node_at n nodes).kind (node_at n nodes).ty value) h).1
-
 module _ (nodes : List SchemaNode) (schema : IsSchema nodes) (old new : List Row) (before : IsDatastore nodes old) (after : IsDatastore nodes new) where
   -- where a row is gone, none is left below it
   none_below : (root rest : List Seg) → has_row root old ≡ true → has_row root new ≡ false → is_path_of nodes (root ++ rest) ≡ true → has_row (root ++ rest) new ≡ true → ⊥
   none_below [] rest was gone down there =
-      let ends = holds_at (EndsAsRow nodes) old [] (rows_end nodes old before.of_schema) was in true≢false (sym ends.0)
+      let ends = holds_at (EndsAsRow nodes) old [] (rows_end nodes old before.of_schema) was in true≢false (sym ends.1)
   none_below (seg ∷ root) rest was gone down there =
       let ends = holds_at (EndsAsRow nodes) old (seg ∷ root) (rows_end nodes old before.of_schema) was in
-      node_of_row nodes (last_node (seg ∷ root)) ends.1.0 ends.1.1 (λ n last of_kind.
-      entry_or_leaf (node_at n nodes).kind (node_at n nodes).ty ends.1.0 of_kind
+      let found = row_node nodes None (seg ∷ root) ends.0 ends.1 in
+      let n = found.0 in
+      let last = found.1.0 in
+      entry_or_leaf (node_at n nodes).kind (node_at n nodes).ty ends.0 found.1.1
       (λ entry. true≢false (sym (after.entries (seg ∷ root) rest refl (ap (last_kind_is is_entry_kind nodes) last ∙ entry) there) ∙ gone))
       (λ leaf.
       let below : goes_down nodes (Some n) rest ≡ true = subst (λ (o : Option ℕ). goes_down nodes o rest ≡ true) (sym (last_after seg root) ∙ last) (goes_on nodes None (seg ∷ root) rest down) in
       let none : rest ≡ [] = leaf_ends nodes schema n rest leaf below in
       let same : (seg ∷ root) ++ rest ≡ seg ∷ root = ap (λ (more : List Seg). (seg ∷ root) ++ more) none ∙ append-nil (seg ∷ root) in
-      true≢false (sym (subst (λ (p : List Seg). has_row p new ≡ true) same there) ∙ gone)))
+      true≢false (sym (subst (λ (p : List Seg). has_row p new ≡ true) same there) ∙ gone))
 
   value_gone : (root path : List Seg) → has_row root old ≡ true → has_row root new ≡ false → is_within root path ≡ true → value_at path new ≡ None
   value_gone root path was gone within =
@@ -156,7 +154,7 @@ module _ (nodes : List SchemaNode) (schema : IsSchema nodes) (old new : List Row
             let found = front_rest root path within in
             let there : has_row path new ≡ true = ap is_some e in
             let ends = holds_at (EndsAsRow nodes) new path (rows_end nodes new after.of_schema) there in
-            absurd (none_below root found.0 was gone (subst (λ (p : List Seg). is_path_of nodes p ≡ true) found.1 ends.0) (subst (λ (p : List Seg). has_row p new ≡ true) found.1 there))
+            absurd (none_below root found.0 was gone (subst (λ (p : List Seg). is_path_of nodes p ≡ true) found.1 (row_path nodes (record { path = path; value = ends.0 }) (record { goes = ends.1 }))) (subst (λ (p : List Seg). has_row p new ≡ true) found.1 there))
       ] refl
 
   none_left : (root : List Seg) → has_row root old ≡ true → has_row root new ≡ false → rows_within root new ≡ []

@@ -17,17 +17,17 @@ use Rattle.yp_schema.specs.declared.schema.SchemaNode.{SchemaNode}
 use Rattle.yp_schema.specs.declared.schema.Kind.TheVariants.{Leaf}
 use Rattle.yp_schema.specs.Nodes.{node_at, may_hold}
 use Rattle.yp_schema.specs.WellFormed.{IsSchema}
-use Rattle.yp_schema.specs.Datastore.{goes_down, is_segment, is_place, holds_value, value_of_kind, typed_fits, IsRowOf, is_leaf_kind, last_kind_is, ends_in_leaf, has_row, AreWritable}
-use Rattle.yp_schema.specs.SchemaLaws.{path_down}
+use Rattle.yp_schema.specs.Datastore.{goes_down, is_segment, is_place, value_of_kind, typed_fits, IsRowOf, is_leaf_kind, last_kind_is, ends_in_leaf, has_row, AreWritable, goes_to_row}
+use Rattle.yp_schema.specs.SchemaLaws.{row_goes_down, row_ends, end_kind}
 use Rattle.yp_data_json.specs.Forest.{forest_at}
-use Rattle.yp_base.specs.Paths.{last_segment, last_node}
+use Rattle.yp_base.specs.Paths.{last_segment}
 use Rattle.yp_data_json.specs.Writing.{leaf_data, members_in, place_data, data_at, named_member, rows_json}
 use Rattle.std.specs.Prelude.{IfOk}
 use Rattle.serde_json.specs.Data.{Data, object}
 use Rattle.serde_json.specs.View.{view}
 use Rattle.serde_json.specs.declared.value.Value.{Value as Json}
 use Rattle.yp_base.specs.declared.memory.NoMemory.{NoMemory}
-use Rattle.yp_data_json.specs.Runs.{EndsWell, IsRest, rest_of, AreBelow}
+use Rattle.yp_data_json.specs.Runs.{GoesOn, IsRest, rest_of, AreBelow}
 use Rattle.yp_data_json.proofs.Growing.{last_of}
 use Rattle.yp_data_json.proofs.Steps.{leaf_ends}
 
@@ -50,18 +50,15 @@ pub goes_on : (nodes : List SchemaNode) (parent : Option ℕ) (at rest : List Se
 goes_on nodes parent [] rest h = h
 goes_on nodes parent (s ∷ at) rest h = goes_on nodes (Some s.node) at rest (and_parts _ _ h).1
 
-pub last_on : (at : List Seg) (seg : Seg) (rest : List Seg) → last_node (at ++ seg ∷ rest) ≡ last_node (seg ∷ rest)
-last_on [] seg rest = refl
-last_on (s ∷ []) seg rest = refl
-last_on (s ∷ t ∷ at) seg rest = last_on (t ∷ at) seg rest
-
 pub after_last : (parent : Option ℕ) (above : List Seg) (seg : Seg) → node_after parent (above ++ seg ∷ []) ≡ Some seg.node
 after_last parent [] seg = refl
 after_last parent (s ∷ above) seg = after_last (Some s.node) above seg
 
-rest_ends : (nodes : List SchemaNode) (at rest : List Seg) (v : Value) → holds_value nodes (last_node (at ++ rest)) v ≡ true → EndsWell nodes rest v
-rest_ends nodes at [] v h = tt
-rest_ends nodes at (seg ∷ rest) v h = subst (λ n. holds_value nodes n v ≡ true) (last_on at seg rest) h
+row_goes_on : (nodes : List SchemaNode) (parent : Option ℕ) (at rest : List Seg) (v : Value) → goes_to_row nodes parent (at ++ rest) v ≡ true → GoesOn nodes (node_after parent at) rest v
+row_goes_on nodes parent at [] v h = tt
+row_goes_on nodes parent [] (seg ∷ rest) v h = h
+row_goes_on nodes parent (s ∷ []) (seg ∷ rest) v h = (and_parts _ _ h).1
+row_goes_on nodes parent (s ∷ t ∷ at) (seg ∷ rest) v h = row_goes_on nodes (Some s.node) (t ∷ at) (seg ∷ rest) v (and_parts _ _ h).1
 
 pub left_over : (at path rest : List Seg) → path ≡ at ++ rest → drop (length at) path ≡ rest
 left_over at path rest is = ap (drop (length at)) is ∙ drop-append_seam at rest
@@ -69,10 +66,8 @@ left_over at path rest is = ap (drop (length at)) is ∙ drop-append_seam at res
 is_rest : (nodes : List SchemaNode) (at : List Seg) (row : Row) → is_within at row.path ≡ true → IsRowOf nodes row → IsRest nodes (node_after None at) (length at) row
 is_rest nodes at row within of_schema =
     let found = front_rest at row.path within in
-    let left = left_over at row.path found.0 found.1 in
-    let down = goes_on nodes None at found.0 (subst (λ path. goes_down nodes None path ≡ true) found.1 (path_down nodes row.path of_schema.path)) in
-    let ends = rest_ends nodes at found.0 row.value (subst (λ path. holds_value nodes (last_node path) row.value ≡ true) found.1 of_schema.value) in
-    (subst (λ path. goes_down nodes (node_after None at) path ≡ true) (sym left) down, subst (λ path. EndsWell nodes path row.value) (sym left) ends)
+    let goes = row_goes_on nodes None at found.0 row.value (subst (λ path. goes_to_row nodes None path row.value ≡ true) found.1 of_schema.goes) in
+    subst (λ path. GoesOn nodes (node_after None at) path row.value) (sym (left_over at row.path found.0 found.1)) goes
 
 all_rest : (nodes : List SchemaNode) (at : List Seg) (rows : List Row) → AllByRecursion (λ row. is_within at row.path ≡ true) rows → AllByRecursion (IsRowOf nodes) rows → AllByRecursion (IsRest nodes (node_after None at) (length at)) rows
 all_rest nodes at [] within of_schema = tt
@@ -123,7 +118,7 @@ place_leaf nodes at above seg is kind = ap (ends_in_leaf nodes) is ∙ ap (last_
 leaf_path : (nodes : List SchemaNode) → IsSchema nodes → (at above : List Seg) (seg : Seg) (row : Row) → at ≡ above ++ seg ∷ [] → (node_at seg.node nodes).kind ≡ Leaf → is_within at row.path ≡ true → IsRowOf nodes row → row.path ≡ at
 leaf_path nodes schema at above seg row is kind within of_schema =
     let found = front_rest at row.path within in
-    let down = goes_on nodes None at found.0 (subst (λ path. goes_down nodes None path ≡ true) found.1 (path_down nodes row.path of_schema.path)) in
+    let down = goes_on nodes None at found.0 (subst (λ path. goes_down nodes None path ≡ true) found.1 (row_goes_down nodes None row.path row.value of_schema.goes)) in
     let parent : node_after None at ≡ Some seg.node = ap (node_after None) is ∙ after_last None above seg in
     let none = leaf_ends nodes schema seg.node found.0 (ap may_hold kind) (subst (λ n. goes_down nodes n found.0 ≡ true) parent down) in
     found.1 ∙ ap (λ xs. at ++ xs) none ∙ append-nil at
@@ -142,9 +137,8 @@ place_fits nodes schema at above seg rows row more is kind first h =
     let within = (subst (λ xs. AllByRecursion (λ (x : Row). is_within at x.path ≡ true) xs) first h.within).0 in
     let of_schema = (subst (λ xs. AllByRecursion (IsRowOf nodes) xs) first h.of_schema).0 in
     let here = leaf_path nodes schema at above seg row is kind within of_schema in
-    let ends : last_node row.path ≡ Some seg.node = ap last_node (here ∙ is) ∙ last_of above seg in
-    let holds : holds_value nodes (Some seg.node) row.value ≡ true = subst (λ n. holds_value nodes n row.value ≡ true) ends of_schema.value in
-    subst (λ k. value_of_kind k (node_at seg.node nodes).ty row.value ≡ true) kind (and_parts _ _ holds).1
+    let ends = row_ends nodes None above seg row.value (subst (λ path. goes_to_row nodes None path row.value ≡ true) (here ∙ is) of_schema.goes) in
+    subst (λ k. value_of_kind k (node_at seg.node nodes).ty row.value ≡ true) kind (end_kind nodes seg row.value ends)
 
 pub place_some : (nodes : List SchemaNode) (at above : List Seg) (seg : Seg) (rows : List Row) → at ≡ above ++ seg ∷ [] → (node_at seg.node nodes).kind ≡ Leaf → AreWritable nodes at rows → rows ≡ [] → ⊥
 place_some nodes at above seg rows is kind h none = true≢false (sym (h.leaf (place_leaf nodes at above seg is kind)) ∙ ap (has_row at) none)

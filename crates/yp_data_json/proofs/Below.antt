@@ -6,7 +6,7 @@ use Rattle.std.specs.List.{AllByRecursion}
 use Rattle.std.specs.List.Sorted.{IsStrictlySortedBy}
 use Rattle.std.proofs.lemmas.Cmp.{tied_itself}
 use Rattle.std.proofs.lemmas.List.{drop-drop, length-drop}
-use Rattle.std.proofs.lemmas.Bool.{eqb-true, eq-eqb}
+use Rattle.std.proofs.lemmas.Bool.{and_parts, eqb-true, eq-eqb}
 use Rattle.std.specs.Cmp.{ranked}
 use Rattle.yp_base.specs.declared.path.Seg.{Seg}
 use Rattle.yp_base.specs.declared.row.Value.{Value}
@@ -19,8 +19,8 @@ use Rattle.yp_schema.specs.Nodes.{node_at}
 use Rattle.yp_schema.specs.WellFormed.{IsSchema}
 use Rattle.yp_schema.specs.Datastore.{goes_down, is_segment}
 use Rattle.serde_json.specs.Data.{Data, Members, member}
-use Rattle.yp_schema.specs.SchemaLaws.{segment_within}
-use Rattle.yp_data_json.specs.Runs.{EndsWell, IsRest, rest_of, AreBelow, begins_with, goes_through, ends_through, HasSegment, StandsBefore}
+use Rattle.yp_schema.specs.SchemaLaws.{segment_within, row_goes_down}
+use Rattle.yp_data_json.specs.Runs.{GoesOn, IsRest, rest_of, AreBelow, begins_with, goes_through, ends_through, HasSegment, StandsBefore}
 use Rattle.yp_data_json.proofs.Parts.{all_front, all_back, sorted_front, sorted_back, less_middle}
 
 -- ---- parts of a test
@@ -43,16 +43,20 @@ back_below nodes parent depth xs ys h = record { each = all_back (IsRest nodes p
 
 -- ---- one segment further down
 
-rest_further : (nodes : List SchemaNode) (seg : Seg) (rest : List Seg) (v : Value) → EndsWell nodes (seg ∷ rest) v → EndsWell nodes rest v
-rest_further nodes seg [] v h = tt
-rest_further nodes seg (next ∷ rest) v h = h
+on_down : (nodes : List SchemaNode) (parent : Option ℕ) (path : List Seg) (v : Value) → GoesOn nodes parent path v → goes_down nodes parent path ≡ true
+on_down nodes parent [] v h = refl
+on_down nodes parent (seg ∷ path) v h = row_goes_down nodes parent (seg ∷ path) v h
+
+-- what is left of a path goes down
+pub rest_down : (nodes : List SchemaNode) (parent : Option ℕ) (depth : ℕ) (row : Row) → IsRest nodes parent depth row → goes_down nodes parent (drop depth row.path) ≡ true
+rest_down nodes parent depth row h = on_down nodes parent (drop depth row.path) row.value h
+
+rest_further : (nodes : List SchemaNode) (parent : Option ℕ) (seg : Seg) (rest : List Seg) (v : Value) → GoesOn nodes parent (seg ∷ rest) v → GoesOn nodes (Some seg.node) rest v
+rest_further nodes parent seg [] v h = tt
+rest_further nodes parent seg (next ∷ rest) v h = (and_parts _ _ h).1
 
 is_further : (nodes : List SchemaNode) (parent : Option ℕ) (depth : ℕ) (seg : Seg) (row : Row) → HasSegment depth seg row → IsRest nodes parent depth row → IsRest nodes (Some seg.node) (depth + 1) row
-is_further nodes parent depth seg row here h =
-    let down : goes_down nodes parent (seg ∷ drop (depth + 1) row.path) ≡ true = subst (λ path. goes_down nodes parent path ≡ true) here h.0 in (
-      both_right (same_number (node_at seg.node nodes).parent parent && is_segment nodes seg) (goes_down nodes (Some seg.node) (drop (depth + 1) row.path)) down,
-      rest_further nodes seg (drop (depth + 1) row.path) row.value (subst (λ path. EndsWell nodes path row.value) here h.1),
-    )
+is_further nodes parent depth seg row here h = rest_further nodes parent seg (drop (depth + 1) row.path) row.value (subst (λ path. GoesOn nodes parent path row.value) here h)
 
 all_further : (nodes : List SchemaNode) (parent : Option ℕ) (depth : ℕ) (seg : Seg) (rows : List Row) → AllByRecursion (HasSegment depth seg) rows → AllByRecursion (IsRest nodes parent depth) rows
     → AllByRecursion (IsRest nodes (Some seg.node) (depth + 1)) rows
@@ -175,14 +179,14 @@ all_before_at : (nodes : List SchemaNode) → IsSchema nodes → (parent : Optio
     → AllBefore nodes depth (member (node_at n nodes).member d ms) rows
 all_before_at nodes schema parent depth n d ms [] rest less of_parent within = tt
 all_before_at nodes schema parent depth n d ms (row ∷ rows) rest less of_parent within =
-    (before_at nodes schema parent n d ms (drop depth row.path) rest.0.0 less.0 of_parent within, all_before_at nodes schema parent depth n d ms rows rest.1 less.1 of_parent within)
+    (before_at nodes schema parent n d ms (drop depth row.path) (rest_down nodes parent depth row rest.0) less.0 of_parent within, all_before_at nodes schema parent depth n d ms rows rest.1 less.1 of_parent within)
 
 -- members of the rows before a run stand before the member of the run
 pub front_before : (nodes : List SchemaNode) → IsSchema nodes → (parent : Option ℕ) (depth n : ℕ) (d : Data) (ms : Members) (front : List Row) (row : Row) (more : List Row)
     → AreBelow nodes parent depth (front ++ row ∷ more) → goes_through depth n row ≡ true → ends_through depth n front ≡ false
     → AllBefore nodes depth (member (node_at n nodes).member d ms) front
 front_before nodes schema parent depth n d ms front row more below is apart =
-    let here = through_parent nodes parent n (drop depth row.path) (all_back (IsRest nodes parent depth) front (row ∷ more) below.each).0.0 is in
+    let here = through_parent nodes parent n (drop depth row.path) (rest_down nodes parent depth row (all_back (IsRest nodes parent depth) front (row ∷ more) below.each).0) is in
     all_before_at nodes schema parent depth n d ms front (all_front (IsRest nodes parent depth) front (row ∷ more) below.each) (front_earlier depth n front row more below.in_order is apart) here.0 here.1
 
 -- ---- segments

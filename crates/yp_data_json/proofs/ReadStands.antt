@@ -15,12 +15,14 @@ use Rattle.yp_schema.specs.declared.schema.Kind.{Kind}
 use Rattle.yp_schema.specs.declared.schema.Kind.TheVariants.{Container, Presence, List as Listing, Leaf, LeafList}
 use Rattle.yp_base.specs.Paths.{same_number}
 use Rattle.yp_schema.specs.Nodes.{node_at, child_of, is_key}
-use Rattle.yp_schema.specs.Datastore.{keys_of_kind, is_segment, is_path_of, is_key_node, value_of_kind, holds_value, is_entry_kind, last_kind_is, ends_in_entry, has_row}
+use Rattle.yp_schema.specs.Datastore.{keys_of_kind, is_segment, is_path_of, is_key_node, value_of_kind, is_entry_kind, last_kind_is, ends_in_entry, has_row, may_end}
 use Rattle.serde_json.specs.Data.{Data, null, boolean, number, string, array, object, Items, no_items, item, Members, no_members, member}
 use Rattle.yp_data_json.specs.declared.fault.DataFault.TheVariants.{UnknownElement, InvalidValue, RepeatedKey}
 use Rattle.yp_schema.specs.Values.{typed_value, typed_atom}
 use Rattle.yp_base.specs.Results.{◌>>=◌}
 use Rattle.yp_data_json.specs.Reading.{valid, keys_in, below, row_at, leaf_read, entered, value_read, values_read, in_object, in_array, in_plain, plain_read, for_child, members_read, node_read, entries_read, entry_read}
+use Rattle.yp_schema.specs.SchemaLaws.{path_down, row_led}
+use Rattle.yp_data_json.proofs.AtPlace.{down_last}
 use Rattle.yp_data_json.proofs.PutRows.{put_there}
 use Rattle.yp_data_json.proofs.Growing.{Stand, Grown, Entered, grown_still, grown_on, cut, put_grown, last_of, path_more, within_more}
 use Rattle.yp_data_json.proofs.Readings.{bound, ok_rows, given, value_typed, atom_typed, keys_typed, child_is}
@@ -49,15 +51,16 @@ under_on : {nodes : List SchemaNode} {at : List Seg} {parent : Option ℕ} {path
 under_on under grown = record { down = under.down; inside = under.inside; above = λ front rest e within entry. grown.keep front (under.above front rest e within entry) }
 
 module _ (nodes : List SchemaNode) (at : List Seg) where
+  spot_end : (n : ℕ) (path : List Seg) (keys : List Atom) (value : Value) (rows : List Row) → Spot nodes at n path keys rows → value_of_kind (node_at n nodes).kind (node_at n nodes).ty value ≡ true → may_end nodes (record { node = n; keys = keys }) value ≡ true
+  spot_end n path keys value rows spot fit =
+      and_from _ _ (down_last nodes None path (record { node = n; keys = keys }) (path_down nodes (below path n keys) spot.place)) (and_from (not (is_key_node nodes n)) _ (ap not spot.free) fit)
+
   -- a value of the node's kind may be put there
   pub put_spot : (n : ℕ) (path : List Seg) (keys : List Atom) (value : Value) (rows : List Row) → Spot nodes at n path keys rows → Stand nodes at rows → value_of_kind (node_at n nodes).kind (node_at n nodes).ty value ≡ true →
       Grown nodes at rows (put_row (row_at (below path n keys) value) rows)
   put_spot n path keys value rows spot stand fit =
       put_grown nodes at path n keys value rows stand
-      (record {
-        path = spot.place;
-        value = ap (λ (l : Option ℕ). holds_value nodes l value) (last_of path (record { node = n; keys = keys })) ∙ and_from (not (is_key_node nodes n)) _ (ap not spot.free) fit;
-      })
+      (record { goes = row_led nodes None path (record { node = n; keys = keys }) value (path_down nodes (below path n keys) spot.place) (spot_end n path keys value rows spot fit) })
       spot.inside spot.above
 
   ends : (n : ℕ) (path : List Seg) (keys : List Atom) (kind : Kind) → (node_at n nodes).kind ≡ kind → ends_in_entry nodes (below path n keys) ≡ is_entry_kind kind

@@ -1,7 +1,7 @@
 -- What is read below a place stands there: each function of the reading gives rows that are of the schema and come with those of their entries.
 use Rattle.std.proofs.Common.{◌≡◌, ℕ, suc, ◌+◌, ◌<◌, length, get_or, List, [], ◌∷◌, Bool, true, false, refl, sym, ap, subst, ◌∙◌, cond, arith}
 use Rattle.std.specs.Prelude.{Option, Some, None, option_and_then, Result, Ok, Err}
-use Rattle.std.proofs.lemmas.Bool.{and_parts, and_from, eqb-true}
+use Rattle.std.proofs.lemmas.Bool.{and_parts, and_from}
 use Rattle.yp_base.specs.declared.atom.Atom.{Atom}
 use Rattle.yp_base.specs.declared.leaf_type.LeafType.{LeafType}
 use Rattle.yp_base.specs.declared.row.Value.{Value}

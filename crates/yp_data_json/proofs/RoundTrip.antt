@@ -19,7 +19,7 @@ use Rattle.yp_schema.specs.declared.schema.Kind.{Kind}
 use Rattle.yp_schema.specs.declared.schema.Kind.TheVariants.{Container, Presence, List as Listing, Leaf, LeafList}
 use Rattle.yp_schema.specs.Nodes.{node_at, qualified_name, may_hold}
 use Rattle.yp_schema.specs.WellFormed.{IsSchema}
-use Rattle.yp_schema.specs.Datastore.{keys_of_kind, goes_down, value_of_kind, holds_value, IsRowOf, is_entry_kind, is_leaf_kind, last_kind_is, has_row, is_path_of, AreWhole}
+use Rattle.yp_schema.specs.Datastore.{keys_of_kind, goes_down, goes_to_row, value_of_kind, IsRowOf, is_entry_kind, is_leaf_kind, last_kind_is, has_row, AreWhole}
 use Rattle.serde_json.specs.Data.{object, Members}
 use Rattle.yp_data_json.specs.declared.fault.DataFault.{DataFault}
 use Rattle.yp_data_json.specs.declared.fault.DataFault.TheVariants.{UnknownElement, InvalidValue}
@@ -35,6 +35,8 @@ use Rattle.yp_data_json.proofs.Growing.{last_of}
 use Rattle.yp_data_json.proofs.Laying.{StandsUnder, forest_rows}
 use Rattle.yp_data_json.proofs.Fits.{keys_stand}
 use Rattle.yp_data_json.proofs.Again.{value_again, atom_again, keys_again, skip_keys, leaf_node, path_is, keys_path, read_again}
+use Rattle.yp_schema.specs.SchemaLaws.{row_ends, end_kind}
+use Rattle.yp_data_json.proofs.Below.{rest_down}
 use Rattle.yp_data_json.proofs.Steps.{own_row_adds, leaf_ends, empty_keys}
 use Rattle.yp_data_json.proofs.Under.{OwnFirst, under_or_own, none_under, own_value, entries_under, entries_rest}
 use Rattle.yp_data_json.proofs.Whole.{EntriesBelow, whole_fits, present_is, member_is, one_is}
@@ -110,7 +112,7 @@ module _ (nodes : List SchemaNode) (schema : IsSchema nodes) where
 
       module _ (value : Value) (rest : List Row) (whole : AreWhole nodes at (row_at at value ∷ rest)) (under : AllByRecursion (StandsUnder at) rest) where
         own_kind : value_of_kind kind node.ty value ≡ true
-        own_kind = (and_parts _ _ (subst (λ n. holds_value nodes n value ≡ true) (last_of above seg) whole.writable.of_schema.0.value)).1
+        own_kind = end_kind nodes seg value (row_ends nodes None above seg value whole.writable.of_schema.0.goes)
 
         value_is : (k : Kind) → kind ≡ k → value_of_kind k node.ty value ≡ true
         value_is k e = sym (ap (λ j. value_of_kind j node.ty value) e) ∙ own_kind
@@ -151,7 +153,7 @@ module _ (nodes : List SchemaNode) (schema : IsSchema nodes) where
             go : (rows : List Row) → AllByRecursion (IsRest nodes (Some seg.node) (length at)) rows → AllByRecursion (StandsUnder at) rows → rows ≡ []
             go [] each stand = refl
             go (row ∷ rows) each stand =
-                let down = subst (λ p. goes_down nodes (Some seg.node) p ≡ true) (left_over at row.path (stand.0.0 ∷ stand.0.1) stand.0.2) each.0.0 in
+                let down = subst (λ p. goes_down nodes (Some seg.node) p ≡ true) (left_over at row.path (stand.0.0 ∷ stand.0.1) stand.0.2) (rest_down nodes (Some seg.node) (length at) row each.0) in
                 let no : stand.0.0 ∷ stand.0.1 ≡ [] = leaf_ends nodes schema seg.node (stand.0.0 ∷ stand.0.1) none down in
                 cc
 
@@ -228,7 +230,7 @@ module _ (nodes : List SchemaNode) (schema : IsSchema nodes) where
   top_under (row ∷ rows) all = (top_row row.path row refl all.0, top_under rows all.1)
     where
       top_row : (path : List Seg) (row : Row) → row.path ≡ path → IsRowOf nodes row → StandsUnder [] row
-      top_row [] row is of = absurd (true≢false (sym (subst (λ p. is_path_of nodes p ≡ true) is of.path)))
+      top_row [] row is of = absurd (true≢false (sym (subst (λ p. goes_to_row nodes None p row.value ≡ true) is of.goes)))
       top_row (seg ∷ path) row is of = (seg, path, is)
 
   top_again : (rows : List Row) → AreWhole nodes [] rows → rows_read nodes [] (rows_json nodes [] rows) ≡ Ok rows

@@ -17,17 +17,17 @@ use Rattle.yp_schema.specs.declared.schema.Kind.TheVariants.{Container, Presence
 use Rattle.yp_base.specs.Paths.{same_number}
 use Rattle.yp_schema.specs.Nodes.{node_at, is_in, may_hold}
 use Rattle.yp_schema.specs.WellFormed.{IsSchema, is_parent_of, is_empty, is_key_leaf, are_key_leaves, has_none, kind_stands}
-use Rattle.yp_schema.specs.Datastore.{goes_down, is_segment, keys_of_kind, holds_value, value_of_kind, typed_fits}
+use Rattle.yp_schema.specs.Datastore.{goes_down, is_segment, keys_of_kind, goes_to_row, value_of_kind, typed_fits}
 use Rattle.serde_json.specs.Data.{Data, null, boolean, number, string, array, object, Items, no_items, item, Members, no_members, member, put}
 use Rattle.serde_json.specs.View.{items_of}
 use Rattle.yp_data_json.specs.Forest.{Forest, bare, branch, own_of, in_front, laid, laid_all, forest_at}
 use Rattle.yp_data_json.specs.Writing.{leaf_data, item_data, item_in_front, branch_members, members_in}
-use Rattle.yp_data_json.specs.Runs.{EndsWell, IsRest, AreBelow, AreNodes, longest, begins_with, goes_through, AllGoThrough, ends_through, HasSegment, StartsApart, StandsBefore, all_in_front, has_items, AreOneMember, AreItems}
+use Rattle.yp_data_json.specs.Runs.{GoesOn, IsRest, AreBelow, AreNodes, longest, begins_with, goes_through, AllGoThrough, ends_through, HasSegment, StartsApart, StandsBefore, all_in_front, has_items, AreOneMember, AreItems}
 use Rattle.yp_data_json.proofs.Parts.{all_back, ends_last}
 use Rattle.yp_data_json.proofs.Branches.{StartsElse, own_at, one_branch, laid_append, rows_start}
 use Rattle.yp_data_json.proofs.Members.{put_first, run_is, items_append, starts_else}
-use Rattle.yp_schema.specs.SchemaLaws.{segment_within}
-use Rattle.yp_data_json.proofs.Below.{both_left, both_right, further, NextBefore, AllBefore, front_before, next_parent, next_segment, segment_of, deep_enough}
+use Rattle.yp_schema.specs.SchemaLaws.{segment_within, row_ends, end_kind}
+use Rattle.yp_data_json.proofs.Below.{both_left, both_right, rest_down, further, NextBefore, AllBefore, front_before, next_parent, next_segment, segment_of, deep_enough}
 
 -- ---- the most segments
 
@@ -51,7 +51,7 @@ pub first_next : (nodes : List SchemaNode) (parent : Option ℕ) (depth : ℕ) (
     → goes_down nodes parent (seg ∷ drop (depth + 1) first.path) ≡ true
 first_next nodes parent depth seg left first later is here below =
     let each = subst (λ rows. AllByRecursion (IsRest nodes parent depth) rows) is below.each in
-    subst (λ path. goes_down nodes parent path ≡ true) here each.0.0
+    subst (λ path. goes_down nodes parent path ≡ true) here (rest_down nodes parent depth first each.0)
 
 pub first_node : (depth n : ℕ) (seg : Seg) (left : List Row) (first : Row) (later : List Row) → left ≡ first ∷ later → HasSegment depth seg first → AllGoThrough depth n left → seg.node ≡ n
 first_node depth n seg left first later is here through =
@@ -98,7 +98,7 @@ pub last_next : (nodes : List SchemaNode) (parent : Option ℕ) (depth : ℕ) (s
     → goes_down nodes parent (seg ∷ drop (depth + 1) last.path) ≡ true
 last_next nodes parent depth seg left before last is here below =
     let each = all_back (IsRest nodes parent depth) before (last ∷ []) (subst (λ rows. AllByRecursion (IsRest nodes parent depth) rows) is below.each) in
-    subst (λ path. goes_down nodes parent path ≡ true) here each.0.0
+    subst (λ path. goes_down nodes parent path ≡ true) here (rest_down nodes parent depth last each.0)
 
 pub last_before : (nodes : List SchemaNode) (depth : ℕ) (ms : Members) (seg : Seg) (left before : List Row) (last : Row) → left ≡ before ++ last ∷ [] → HasSegment depth seg last → AllBefore nodes depth ms left
     → StandsBefore (node_at seg.node nodes).member ms
@@ -162,7 +162,7 @@ plain_keys LeafList nodes node keys plain h = absurd (true≢false (sym plain))
 pub plain_at : (nodes : List SchemaNode) (parent : Option ℕ) (depth n : ℕ) (row : Row) → has_plain (node_at n nodes).kind ≡ true → goes_through depth n row ≡ true → IsRest nodes parent depth row → HasSegment depth (plain_segment n) row
 plain_at nodes parent depth n row plain through rest =
     let found = segment_of depth n row through in
-    let down : goes_down nodes parent (found.0 ∷ drop (depth + 1) row.path) ≡ true = subst (λ path. goes_down nodes parent path ≡ true) found.1.0 rest.0 in
+    let down : goes_down nodes parent (found.0 ∷ drop (depth + 1) row.path) ≡ true = subst (λ path. goes_down nodes parent path ≡ true) found.1.0 (rest_down nodes parent depth row rest) in
     let same : found.0 ≡ plain_segment n =
     plain_is nodes n found.0 found.1.1 (next_segment nodes parent found.0 (drop (depth + 1) row.path) down) (node_at n nodes).kind refl (plain_keys (node_at n nodes).kind nodes (node_at n nodes) found.0.keys plain) in
     subst (λ (s : Seg). HasSegment depth s row) same found.1.0
@@ -223,7 +223,7 @@ pub leaf_row : (nodes : List SchemaNode) → IsSchema nodes → (parent : Option
     → drop (depth + 1) row.path ≡ []
 leaf_row nodes schema parent depth n row kind through rest =
     let here = plain_at nodes parent depth n row (ap has_plain kind) through rest in
-    let down : goes_down nodes parent (plain_segment n ∷ drop (depth + 1) row.path) ≡ true = subst (λ path. goes_down nodes parent path ≡ true) here rest.0 in
+    let down : goes_down nodes parent (plain_segment n ∷ drop (depth + 1) row.path) ≡ true = subst (λ path. goes_down nodes parent path ≡ true) here (rest_down nodes parent depth row rest) in
     leaf_ends nodes schema n (drop (depth + 1) row.path) (ap may_hold kind) (both_right _ (goes_down nodes (Some n) (drop (depth + 1) row.path)) down)
 
 pub leaf_fits : (nodes : List SchemaNode) → IsSchema nodes → (parent : Option ℕ) (depth n : ℕ) (row : Row) → (node_at n nodes).kind ≡ Leaf → goes_through depth n row ≡ true → IsRest nodes parent depth row
@@ -231,8 +231,8 @@ pub leaf_fits : (nodes : List SchemaNode) → IsSchema nodes → (parent : Optio
 leaf_fits nodes schema parent depth n row kind through rest =
     let here = plain_at nodes parent depth n row (ap has_plain kind) through rest in
     let path_is : drop depth row.path ≡ plain_segment n ∷ [] = here ∙ ap (λ path. plain_segment n ∷ path) (leaf_row nodes schema parent depth n row kind through rest) in
-    let ends : holds_value nodes (Some n) row.value ≡ true = subst (λ path. EndsWell nodes path row.value) path_is rest.1 in
-    let fits : value_of_kind (node_at n nodes).kind (node_at n nodes).ty row.value ≡ true = both_right _ (value_of_kind (node_at n nodes).kind (node_at n nodes).ty row.value) ends in
+    let goes : goes_to_row nodes parent (plain_segment n ∷ []) row.value ≡ true = subst (λ path. GoesOn nodes parent path row.value) path_is rest in
+    let fits = end_kind nodes (plain_segment n) row.value (row_ends nodes parent [] (plain_segment n) row.value goes) in
     subst (λ k. value_of_kind k (node_at n nodes).ty row.value ≡ true) kind fits
 
 pub leaf_member : (nodes : List SchemaNode) → IsSchema nodes → (parent : Option ℕ) (depth n : ℕ) (rows : List Row) (row : Row) (more : List Row) (d : Data) → (node_at n nodes).kind ≡ Leaf → AllGoThrough depth n rows → AreBelow nodes parent depth rows

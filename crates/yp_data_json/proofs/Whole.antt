@@ -1,5 +1,5 @@
 -- Whole rows make a forest that fits.
-use Rattle.std.proofs.Common.{◌≡◌, ℕ, ◌<◌, List, [], ◌∷◌, ◌++◌, length, drop, map, Bool, true, false, true≢false, Option, Some, None, is_some, refl, sym, ap, subst, ◌∙◌, cond, arith, append_assoc, append-nil, not, ◌||◌, nat_eq, Ordering, Less, Equal, Greater}
+use Rattle.std.proofs.Common.{◌≡◌, ℕ, ◌<◌, List, [], ◌∷◌, ◌++◌, length, drop, map, Bool, true, false, true≢false, Option, Some, None, is_some, refl, sym, ap, subst, ◌∙◌, cond, arith, append_assoc, append-nil, ◌||◌, nat_eq, Ordering, Less, Equal, Greater}
 use Rattle.std.specs.Ordering.{eq_by_cmp, is_eq, is_lt, ordering_then}
 use Rattle.std.specs.List.{AllByRecursion}
 use Rattle.std.specs.List.Sorted.{IsStrictlySortedBy}
@@ -20,18 +20,18 @@ use Rattle.yp_schema.specs.declared.schema.Kind.{Kind}
 use Rattle.yp_schema.specs.declared.schema.Kind.TheVariants.{Container, Presence, List as Listing, Leaf, LeafList}
 use Rattle.yp_schema.specs.Nodes.{node_at, child_of, is_key, is_in, may_hold}
 use Rattle.yp_schema.specs.WellFormed.{IsSchema, is_parent_of, is_empty, is_key_leaf, are_key_leaves, kind_stands}
-use Rattle.yp_schema.specs.Datastore.{atom_fits, keys_fit, one_fits, typed_fits, keys_of_kind, goes_down, is_key_node, is_present, is_member, value_of_kind, is_entry_kind, last_kind_is, ends_in_entry, has_row}
+use Rattle.yp_schema.specs.Datastore.{atom_fits, keys_fit, one_fits, typed_fits, keys_of_kind, goes_down, goes_to_row, is_present, is_member, value_of_kind, is_entry_kind, last_kind_is, ends_in_entry, has_row}
 use Rattle.yp_data_json.specs.Forest.{Forest, bare, branch, own_of, in_front, laid, forest_at}
-use Rattle.yp_data_json.specs.Runs.{EndsWell}
 use Rattle.std.proofs.Math.Seq.{drop-append_seam}
 use Rattle.yp_base.specs.Order.{is_within}
-use Rattle.yp_data_json.specs.Runs.{IsRest}
+use Rattle.yp_data_json.specs.Runs.{IsRest, GoesOn}
 use Rattle.yp_base.specs.PathLaws.{less_turned, within_itself, numbers_same}
+
 use Rattle.yp_data_json.proofs.Growing.{last_of, within_more}
 use Rattle.yp_data_json.proofs.Laying.{StandsUnder}
 use Rattle.yp_data_json.proofs.Parts.{less_middle}
 use Rattle.yp_data_json.proofs.AtPlace.{same_front}
-use Rattle.yp_schema.specs.SchemaLaws.{segment_within}
+use Rattle.yp_schema.specs.SchemaLaws.{segment_within, row_goes_down, row_ends, end_kind, end_open}
 use Rattle.yp_data_json.proofs.Below.{next_parent, next_segment}
 use Rattle.yp_data_json.proofs.Steps.{empty_keys, child_holds}
 use Rattle.yp_data_json.proofs.Fits.{BranchFits, Fits}
@@ -156,10 +156,6 @@ still nodes LeafList node seg kids other h = absurd (none_some Member h.1)
 
 -- ---- of a schema
 
-pub not_true : (b : Bool) → not b ≡ true → b ≡ false
-not_true true h = absurd (true≢false (sym h))
-not_true false h = refl
-
 leaf_kind_at : (nodes : List SchemaNode) (n k : ℕ) (j : Kind) → (node_at k nodes).kind ≡ j → is_key_leaf n nodes k ≡ true → may_hold j ≡ false
 leaf_kind_at nodes n k Leaf e h = refl
 leaf_kind_at nodes n k LeafList e h = refl
@@ -221,36 +217,42 @@ module _ (nodes : List SchemaNode) (schema : IsSchema nodes) where
   keys_right : (parent : Option ℕ) (seg : Seg) (rest : List Seg) → goes_down nodes parent (seg ∷ rest) ≡ true → keys_of_kind (node_at seg.node nodes).kind nodes (node_at seg.node nodes) seg.keys ≡ true
   keys_right parent seg rest down = (and_parts _ _ (next_segment nodes parent seg rest down)).1
 
-  no_key_of : (parent : Option ℕ) (seg : Seg) (rest : List Seg) (v : Value) → goes_down nodes parent (seg ∷ rest) ≡ true → EndsWell nodes (seg ∷ rest) v → is_key seg.node parent nodes ≡ false
-  no_key_of parent seg [] v down ends = subst (λ p. is_key seg.node p nodes ≡ false) (parent_of parent seg [] down) (not_true (is_key_node nodes seg.node) (and_parts _ _ ends).0)
-  no_key_of parent seg (next ∷ rest) v down ends =
+  no_key_of : (parent : Option ℕ) (seg : Seg) (rest : List Seg) (v : Value) → goes_to_row nodes parent (seg ∷ rest) v ≡ true → is_key seg.node parent nodes ≡ false
+  no_key_of parent seg [] v goes = subst (λ p. is_key seg.node p nodes ≡ false) (parent_of parent seg [] (row_goes_down nodes parent (seg ∷ []) v goes)) (end_open nodes seg v (row_ends nodes parent [] seg v goes))
+  no_key_of parent seg (next ∷ rest) v goes =
+      let down = row_goes_down nodes parent (seg ∷ next ∷ rest) v goes in
       let within = within_of parent seg (next ∷ rest) down in
       subst (λ p. is_key seg.node p nodes ≡ false) (parent_of parent seg (next ∷ rest) down)
       (no_key_at nodes schema seg.node (node_at seg.node nodes).parent (schema.each seg.node within).parent within (kind_holds seg next rest (further parent seg (next ∷ rest) down)))
 
-  value_right : (seg : Seg) (v : Value) → EndsWell nodes (seg ∷ []) v → value_of_kind (node_at seg.node nodes).kind (node_at seg.node nodes).ty v ≡ true
-  value_right seg v ends = (and_parts _ _ ends).1
+  value_right : (parent : Option ℕ) (seg : Seg) (v : Value) → goes_to_row nodes parent (seg ∷ []) v ≡ true → value_of_kind (node_at seg.node nodes).kind (node_at seg.node nodes).ty v ≡ true
+  value_right parent seg v goes = end_kind nodes seg v (row_ends nodes parent [] seg v goes)
+
+  goes_further : (parent : Option ℕ) (seg s : Seg) (rest : List Seg) (v : Value) → goes_to_row nodes parent (seg ∷ s ∷ rest) v ≡ true → goes_to_row nodes (Some seg.node) (s ∷ rest) v ≡ true
+  goes_further parent seg s rest v goes = (and_parts _ _ goes).1
 
   -- a new first branch
-  fresh : (parent : Option ℕ) (path : List Seg) (seg : Seg) (rest : List Seg) (v : Value) (next : Forest) (r : List Seg) → r ≡ path ++ seg ∷ rest → goes_down nodes parent (seg ∷ rest) ≡ true → EndsWell nodes (seg ∷ rest) v → Fits nodes parent next
+  fresh : (parent : Option ℕ) (path : List Seg) (seg : Seg) (rest : List Seg) (v : Value) (next : Forest) (r : List Seg) → r ≡ path ++ seg ∷ rest → goes_to_row nodes parent (seg ∷ rest) v ≡ true → Fits nodes parent next
       → Spine nodes parent (branch seg (own_of rest v None) (laid rest v bare) next) × (first_path path (branch seg (own_of rest v None) (laid rest v bare) next) ≡ r)
-  fresh parent path seg [] v next r is down ends fits = (
+  fresh parent path seg [] v next r is goes fits =
+      let down = row_goes_down nodes parent (seg ∷ []) v goes in (
     (
       found_of parent seg [] down,
-      no_key_of parent seg [] v down ends,
+      no_key_of parent seg [] v goes,
       within_of parent seg [] down,
-      end_new nodes (node_at seg.node nodes).kind (node_at seg.node nodes) seg v (keys_right parent seg [] down) (value_right seg v ends),
+      end_new nodes (node_at seg.node nodes).kind (node_at seg.node nodes) seg v (keys_right parent seg [] down) (value_right parent seg v goes),
       tt,
       fits,
     ),
     sym is,
   )
-  fresh parent path seg (s ∷ rest) v next r is down ends fits =
+  fresh parent path seg (s ∷ rest) v next r is goes fits =
+      let down = row_goes_down nodes parent (seg ∷ s ∷ rest) v goes in
       let below = further parent seg (s ∷ rest) down in
-      let inner = fresh (Some seg.node) (path ++ seg ∷ []) s rest v bare r (is ∙ sym (append_assoc path (seg ∷ []) (s ∷ rest))) below ends tt in (
+      let inner = fresh (Some seg.node) (path ++ seg ∷ []) s rest v bare r (is ∙ sym (append_assoc path (seg ∷ []) (s ∷ rest))) (goes_further parent seg s rest v goes) tt in (
         (
           found_of parent seg (s ∷ rest) down,
-          no_key_of parent seg (s ∷ rest) v down ends,
+          no_key_of parent seg (s ∷ rest) v goes,
           within_of parent seg (s ∷ rest) down,
           passes nodes (node_at seg.node nodes).kind (node_at seg.node nodes) seg (laid (s ∷ rest) v bare) (keys_right parent seg (s ∷ rest) down) (kind_holds seg s rest below),
           tt,
@@ -329,20 +331,20 @@ module _ (nodes : List SchemaNode) (schema : IsSchema nodes) where
     Laid parent path g r = Spine nodes parent g × (first_path path g ≡ r)
 
     lay_end : (b : Bool) (parent : Option ℕ) (path : List Seg) (seg : Seg) (v : Value) (first : Seg) (own : Option Value) (kids next : Forest) (r k : List Seg) → is_within at path ≡ true → eq_by_cmp segment_cmp seg first ≡ b
-        → r ≡ path ++ seg ∷ [] → goes_down nodes parent (seg ∷ []) ≡ true → EndsWell nodes (seg ∷ []) v → Behind r k path (branch first own kids next) → Spine nodes parent (branch first own kids next)
+        → r ≡ path ++ seg ∷ [] → goes_to_row nodes parent (seg ∷ []) v ≡ true → Behind r k path (branch first own kids next) → Spine nodes parent (branch first own kids next)
         → Laid parent path (cond b (branch first (Some v) kids next) (branch seg (Some v) bare (branch first own kids next))) r
-    lay_end false parent path seg v first own kids next r k inside apart is down ends behind sp =
-        fresh parent path seg [] v (branch first own kids next) r is down ends
+    lay_end false parent path seg v first own kids next r k inside apart is goes behind sp =
+        fresh parent path seg [] v (branch first own kids next) r is goes
         (close (λ q. path_cmp r q ≡ Less) (rises r) k behind.2 behind.3 parent path (branch first own kids next) inside (λ b. behind.0) (beside path seg first [] own kids next r k is apart behind.0 behind.1) sp)
-    lay_end true parent path seg v first (Some w) kids next r k inside alike is down ends behind sp = absurd (no_own path seg first [] r k is ((segments_decide seg first).0 alike) behind.0 behind.1)
-    lay_end true parent path seg v first None kids next r k inside alike is down ends behind sp =
+    lay_end true parent path seg v first (Some w) kids next r k inside alike is goes behind sp = absurd (no_own path seg first [] r k is ((segments_decide seg first).0 alike) behind.0 behind.1)
+    lay_end true parent path seg v first None kids next r k inside alike is goes behind sp =
         let same = (segments_decide seg first).0 alike in
         let here : r ≡ path ++ first ∷ [] = is ∙ ap (λ (s : Seg). path ++ s ∷ []) same in (
           (
             sp.0,
             sp.1,
             sp.2,
-            end_old nodes (node_at first.node nodes).kind (node_at first.node nodes) first v kids (value_right first v (subst (λ (s : Seg). EndsWell nodes (s ∷ []) v) same ends)) sp.3,
+            end_old nodes (node_at first.node nodes).kind (node_at first.node nodes) first v kids (value_right parent first v (subst (λ (s : Seg). goes_to_row nodes parent (s ∷ []) v ≡ true) same goes)) sp.3,
             close (λ q. path_cmp r q ≡ Less) (rises r) k behind.2 behind.3 (Some first.node) (path ++ first ∷ []) kids (within_more at path (first ∷ []) inside) (λ b. behind.0) (low_kids (path ++ first ∷ []) r kids here) sp.5,
             sp.6,
           ),
@@ -358,28 +360,28 @@ module _ (nodes : List SchemaNode) (schema : IsSchema nodes) where
     laid_branch s rest v inner (branch first own kids next) = branch_at (eq_by_cmp segment_cmp s first) s first (own_of rest v own) (own_of rest v None) own (inner kids) (inner bare) kids next
 
     lay_on : (b : Bool) (parent : Option ℕ) (path : List Seg) (seg s : Seg) (rest : List Seg) (v : Value) (first : Seg) (own : Option Value) (kids next : Forest) (r k : List Seg) → is_within at path ≡ true → eq_by_cmp segment_cmp seg first ≡ b
-        → r ≡ path ++ seg ∷ s ∷ rest → goes_down nodes parent (seg ∷ s ∷ rest) ≡ true → EndsWell nodes (seg ∷ s ∷ rest) v → Behind r k path (branch first own kids next) → Spine nodes parent (branch first own kids next)
+        → r ≡ path ++ seg ∷ s ∷ rest → goes_to_row nodes parent (seg ∷ s ∷ rest) v ≡ true → Behind r k path (branch first own kids next) → Spine nodes parent (branch first own kids next)
         → (own ≡ None → seg ≡ first → Laid (Some first.node) (path ++ first ∷ []) (laid (s ∷ rest) v kids) r)
         → Laid parent path (cond b (branch first own (laid (s ∷ rest) v kids) next) (branch seg None (laid (s ∷ rest) v bare) (branch first own kids next))) r
-    lay_on false parent path seg s rest v first own kids next r k inside apart is down ends behind sp inner =
-        fresh parent path seg (s ∷ rest) v (branch first own kids next) r is down ends
+    lay_on false parent path seg s rest v first own kids next r k inside apart is goes behind sp inner =
+        fresh parent path seg (s ∷ rest) v (branch first own kids next) r is goes
         (close (λ q. path_cmp r q ≡ Less) (rises r) k behind.2 behind.3 parent path (branch first own kids next) inside (λ b. behind.0) (beside path seg first (s ∷ rest) own kids next r k is apart behind.0 behind.1) sp)
-    lay_on true parent path seg s rest v first (Some w) kids next r k inside alike is down ends behind sp inner = absurd (no_own path seg first (s ∷ rest) r k is ((segments_decide seg first).0 alike) behind.0 behind.1)
-    lay_on true parent path seg s rest v first None kids next r k inside alike is down ends behind sp inner =
+    lay_on true parent path seg s rest v first (Some w) kids next r k inside alike is goes behind sp inner = absurd (no_own path seg first (s ∷ rest) r k is ((segments_decide seg first).0 alike) behind.0 behind.1)
+    lay_on true parent path seg s rest v first None kids next r k inside alike is goes behind sp inner =
         let i = inner refl ((segments_decide seg first).0 alike) in
         ((sp.0, sp.1, sp.2, still nodes (node_at first.node nodes).kind (node_at first.node nodes) first kids (laid (s ∷ rest) v kids) sp.3, laid_branch s rest v (laid rest v) kids, i.0, sp.6), i.1)
 
-    lay : (parent : Option ℕ) (path : List Seg) (seg : Seg) (rest : List Seg) (v : Value) (g : Forest) (r k : List Seg) → is_within at path ≡ true → r ≡ path ++ seg ∷ rest → goes_down nodes parent (seg ∷ rest) ≡ true → EndsWell nodes (seg ∷ rest) v
+    lay : (parent : Option ℕ) (path : List Seg) (seg : Seg) (rest : List Seg) (v : Value) (g : Forest) (r k : List Seg) → is_within at path ≡ true → r ≡ path ++ seg ∷ rest → goes_to_row nodes parent (seg ∷ rest) v ≡ true
         → (IsBranch g → Behind r k path g) → Spine nodes parent g → Laid parent path (laid (seg ∷ rest) v g) r
-    lay parent path seg rest v bare r k inside is down ends behind sp = fresh parent path seg rest v bare r is down ends tt
-    lay parent path seg [] v (branch first own kids next) r k inside is down ends behind sp = lay_end (eq_by_cmp segment_cmp seg first) parent path seg v first own kids next r k inside refl is down ends (behind tt) sp
-    lay parent path seg (s ∷ rest) v (branch first (Some w) kids next) r k inside is down ends behind sp =
-        lay_on (eq_by_cmp segment_cmp seg first) parent path seg s rest v first (Some w) kids next r k inside refl is down ends (behind tt) sp (λ none same. absurd (some_none w none))
-    lay parent path seg (s ∷ rest) v (branch first None kids next) r k inside is down ends behind sp =
-        lay_on (eq_by_cmp segment_cmp seg first) parent path seg s rest v first None kids next r k inside refl is down ends (behind tt) sp
+    lay parent path seg rest v bare r k inside is goes behind sp = fresh parent path seg rest v bare r is goes tt
+    lay parent path seg [] v (branch first own kids next) r k inside is goes behind sp = lay_end (eq_by_cmp segment_cmp seg first) parent path seg v first own kids next r k inside refl is goes (behind tt) sp
+    lay parent path seg (s ∷ rest) v (branch first (Some w) kids next) r k inside is goes behind sp =
+        lay_on (eq_by_cmp segment_cmp seg first) parent path seg s rest v first (Some w) kids next r k inside refl is goes (behind tt) sp (λ none same. absurd (some_none w none))
+    lay parent path seg (s ∷ rest) v (branch first None kids next) r k inside is goes behind sp =
+        lay_on (eq_by_cmp segment_cmp seg first) parent path seg s rest v first None kids next r k inside refl is goes (behind tt) sp
         (λ none same. lay (Some first.node) (path ++ first ∷ []) s rest v kids r k (within_more at path (first ∷ []) inside)
         (is ∙ ap (λ (x : Seg). path ++ x ∷ s ∷ rest) same ∙ sym (append_assoc path (first ∷ []) (s ∷ rest)))
-        (subst (λ (x : Seg). goes_down nodes (Some x.node) (s ∷ rest) ≡ true) same (further parent seg (s ∷ rest) down)) ends (λ b. behind tt) sp.5)
+        (subst (λ (x : Seg). goes_to_row nodes (Some x.node) (s ∷ rest) v ≡ true) same (goes_further parent seg s rest v goes)) (λ b. behind tt) sp.5)
 
     -- ---- all rows
 
@@ -435,7 +437,7 @@ module _ (nodes : List SchemaNode) (schema : IsSchema nodes) where
     lay_row parent row seg rest g k is goes behind sp =
         let left = ap (drop (length at)) is ∙ drop-append_seam at (seg ∷ rest) in
         subst (λ path. Laid parent at (laid path row.value g) row.path) (sym left)
-        (lay parent at seg rest row.value g row.path k (within_itself at) is (subst (λ path. goes_down nodes parent path ≡ true) left goes.0) (subst (λ path. EndsWell nodes path row.value) left goes.1) behind sp)
+        (lay parent at seg rest row.value g row.path k (within_itself at) is (subst (λ path. GoesOn nodes parent path row.value) left goes) behind sp)
 
     spine_rows : (parent : Option ℕ) (before rows : List Row) → full ≡ before ++ rows → AreInOrder full → AllByRecursion (IsRest nodes parent (length at)) rows → AllByRecursion (StandsUnder at) rows
         → Spine nodes parent (forest_at (length at) rows) × FirstIs rows (forest_at (length at) rows)

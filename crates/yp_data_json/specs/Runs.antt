@@ -13,8 +13,7 @@ use Rattle.yp_schema.specs.declared.schema.SchemaNode.{SchemaNode}
 use Rattle.yp_schema.specs.declared.schema.Kind.{Kind}
 use Rattle.yp_schema.specs.declared.schema.Kind.TheVariants.{Container, Presence, List as Listing, Leaf, LeafList}
 use Rattle.yp_schema.specs.Nodes.{node_at}
-use Rattle.yp_base.specs.Paths.{last_node}
-use Rattle.yp_schema.specs.Datastore.{goes_down, holds_value}
+use Rattle.yp_schema.specs.Datastore.{goes_to_row}
 use Rattle.serde_json.specs.Data.{Data, Members, no_members, member}
 use Rattle.yp_data_json.specs.Forest.{Forest, laid_all}
 use Rattle.yp_data_json.specs.Writing.{item_in_front, members_in}
@@ -25,13 +24,13 @@ EndsIn seg path = (above : List Seg) × (path ≡ above ++ seg ∷ [])
 
 -- ---- rows below one object
 
--- what is left of a row's path goes down from the object's node, and ends where a row of this value may
-abbrev pub EndsWell : List SchemaNode → List Seg → Value → Type 0
-EndsWell nodes [] value = Unit {0}
-EndsWell nodes (seg ∷ segs) value = holds_value nodes (last_node (seg ∷ segs)) value ≡ true
+-- what is left of a row's path goes down from the object's node to where a row of this value may end, unless nothing is left
+abbrev pub GoesOn : List SchemaNode → Option ℕ → List Seg → Value → Type 0
+GoesOn nodes parent [] value = Unit {0}
+GoesOn nodes parent (seg ∷ segs) value = goes_to_row nodes parent (seg ∷ segs) value ≡ true
 
 abbrev pub IsRest : List SchemaNode → Option ℕ → ℕ → Row → Type 0
-IsRest nodes parent depth row = (goes_down nodes parent (drop depth row.path) ≡ true) × EndsWell nodes (drop depth row.path) row.value
+IsRest nodes parent depth row = GoesOn nodes parent (drop depth row.path) row.value
 
 abbrev pub rest_of : ℕ → Row → List Seg
 rest_of depth row = drop depth row.path

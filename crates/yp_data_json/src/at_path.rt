@@ -8,7 +8,7 @@ ghost use Rattle.yp_base.specs.Payloads.{content_data};
 ghost use Rattle.yp_schema.specs.Datastore.{is_place, AreWhole};
 ghost use Rattle.yp_schema.specs.Nodes.{node_at, qualified_name};
 ghost use Rattle.yp_data_json.specs.Reading.{Gives, Leaves};
-ghost use Rattle.yp_data_json.specs.AtPath.{leaf_row, named_entry, named_value, array_of_one, one_of, named_read, outer_read, is_bare, object_read, rows_read};
+ghost use Rattle.yp_data_json.specs.AtPath.{leaf_row, named_entry, named_value, one_of, named_read, outer_read, is_bare, object_read, rows_read};
 
 use crate::fault::DataFault;
 use crate::keys::{atom_of, read_keys, value_of};

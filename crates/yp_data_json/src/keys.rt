@@ -4,7 +4,7 @@ ghost use Rattle.serde_json.specs.View.{view, members_view};
 ghost use Rattle.serde_json.specs.Find.{get_member};
 ghost use Rattle.yp_schema.specs.Nodes.{node_at};
 ghost use Rattle.yp_schema.specs.Values.{typed_value, typed_atom};
-ghost use Rattle.yp_data_json.specs.Reading.{Gives, KeyFault, valid, at_key, key_in, earliest, keys_in};
+ghost use Rattle.yp_data_json.specs.Reading.{Gives, valid, at_key, key_in, earliest, keys_in};
 
 use crate::fault::DataFault;
 use serde_json::{Map, Value as Json};

@@ -1,7 +1,6 @@
 //! The rows of a datastore's data.
 ghost use Rattle.std.specs.Prelude.{◌≡◌, ◌<◌, ◌∷◌, [], length, IfSome, IfOk};
 ghost use Rattle.serde_json.specs.View.{view, members_view, items_view};
-ghost use Rattle.yp_schema.specs.Nodes.{node_at};
 ghost use Rattle.yp_data_json.specs.Reading.{Gives, Leaves, below, entered, leaf_read, value_read, values_read, members_read, node_read, entries_read, entry_read, datastore_read};
 
 use crate::fault::DataFault;

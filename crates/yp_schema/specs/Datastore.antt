@@ -104,15 +104,19 @@ value_of_kind Listing ty value = is_present value
 value_of_kind Leaf ty value = typed_fits ty value
 value_of_kind LeafList ty value = is_member value
 
--- whether a row of this value may end in this node; none ends in a key leaf
-abbrev pub holds_value : List SchemaNode → Option ℕ → Value → Bool
-holds_value nodes None value = false
-holds_value nodes (Some n) value = not (is_key_node nodes n) && value_of_kind (node_at n nodes).kind (node_at n nodes).ty value
+-- whether a row of this value may end in this segment, which has the keys that its node asks for; none ends in a key leaf
+abbrev pub may_end : List SchemaNode → Seg → Value → Bool
+may_end nodes seg value = is_segment nodes seg && (not (is_key_node nodes seg.node) && value_of_kind (node_at seg.node nodes).kind (node_at seg.node nodes).ty value)
 
--- a row of a schema
+-- whether segments go down to the end of a row of this value, the first one's node being a child of `parent`
+abbrev pub goes_to_row : List SchemaNode → Option ℕ → List Seg → Value → Bool
+goes_to_row nodes parent [] value = false
+goes_to_row nodes parent (seg ∷ []) value = same_number (node_at seg.node nodes).parent parent && may_end nodes seg value
+goes_to_row nodes parent (seg ∷ next ∷ segs) value = same_number (node_at seg.node nodes).parent parent && is_segment nodes seg && goes_to_row nodes (Some seg.node) (next ∷ segs) value
+
+-- a row of a schema: its path goes down from the top to where a row of its value may end
 pub record IsRowOf (nodes : List SchemaNode) (row : Row) : Type 0 where
-  pub path : is_path_of nodes row.path ≡ true
-  pub value : holds_value nodes (last_node row.path) row.value ≡ true
+  pub goes : goes_to_row nodes None row.path row.value ≡ true
 
 -- ---- lists of rows
 

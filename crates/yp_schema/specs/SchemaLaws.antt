@@ -11,10 +11,11 @@ use Rattle.yp_base.specs.Types.{is_type}
 use Rattle.yp_schema.specs.declared.schema.SchemaNode.{SchemaNode}
 use Rattle.yp_schema.specs.declared.schema.Kind.{Kind}
 use Rattle.yp_schema.specs.declared.schema.Kind.TheVariants.{Container, Presence, List as Listing, Leaf, LeafList}
+use Rattle.yp_base.specs.Paths.{same_number}
 use Rattle.yp_schema.specs.Nodes.{node_at}
 use Rattle.yp_schema.specs.WellFormed.{IsSchema, is_parent_of, kind_stands, has_none, has_type, has_atom_type, is_empty, is_key_leaf, are_key_leaves}
 use Rattle.yp_base.specs.Paths.{last_node}
-use Rattle.yp_schema.specs.Datastore.{is_segment, goes_down, is_path_of, is_key_node, is_key_at, ends_in_key, is_place, holds_value, IsRowOf}
+use Rattle.yp_schema.specs.Datastore.{is_segment, goes_down, is_path_of, is_key_node, is_key_at, ends_in_key, is_place, IsRowOf, value_of_kind, may_end, goes_to_row}
 
 -- ---- the nodes of a schema
 
@@ -111,10 +112,60 @@ not_true : (t : Bool) → not t ≡ true → t ≡ false
 not_true true h = absurd (true≢false (sym h))
 not_true false h = refl
 
-open_row : (nodes : List SchemaNode) (end : Option ℕ) (value : Value) → holds_value nodes end value ≡ true → is_key_at nodes end ≡ false
-open_row nodes None value h = refl
-open_row nodes (Some n) value h = not_true (is_key_node nodes n) (and_parts _ _ h).0
+-- ---- rows
 
--- and so at the path of each row
+last_part : (nodes : List SchemaNode) (seg : Seg) (value : Value) → may_end nodes seg value ≡ true → (not (is_key_node nodes seg.node) ≡ true) × (value_of_kind (node_at seg.node nodes).kind (node_at seg.node nodes).ty value ≡ true)
+last_part nodes seg value h = and_parts _ _ (and_parts (is_segment nodes seg) _ h).1
+
+-- where a row may end there is a segment
+pub end_segment : (nodes : List SchemaNode) (seg : Seg) (value : Value) → may_end nodes seg value ≡ true → is_segment nodes seg ≡ true
+end_segment nodes seg value h = (and_parts (is_segment nodes seg) _ h).0
+
+-- of a node of this kind of value
+pub end_kind : (nodes : List SchemaNode) (seg : Seg) (value : Value) → may_end nodes seg value ≡ true → value_of_kind (node_at seg.node nodes).kind (node_at seg.node nodes).ty value ≡ true
+end_kind nodes seg value h = (last_part nodes seg value h).1
+
+-- that is no key
+pub end_open : (nodes : List SchemaNode) (seg : Seg) (value : Value) → may_end nodes seg value ≡ true → is_key_node nodes seg.node ≡ false
+end_open nodes seg value h = not_true (is_key_node nodes seg.node) (last_part nodes seg value h).0
+
+-- a row may end in the last segment of its path
+pub row_ends : (nodes : List SchemaNode) (parent : Option ℕ) (above : List Seg) (seg : Seg) (value : Value) → goes_to_row nodes parent (above ++ seg ∷ []) value ≡ true → may_end nodes seg value ≡ true
+row_ends nodes parent [] seg value h = (and_parts _ _ h).1
+row_ends nodes parent (first ∷ []) seg value h = row_ends nodes (Some first.node) [] seg value (and_parts _ _ h).1
+row_ends nodes parent (first ∷ next ∷ above) seg value h = row_ends nodes (Some first.node) (next ∷ above) seg value (and_parts _ _ h).1
+
+-- the way there goes down
+pub row_goes_down : (nodes : List SchemaNode) (parent : Option ℕ) (path : List Seg) (value : Value) → goes_to_row nodes parent path value ≡ true → goes_down nodes parent path ≡ true
+row_goes_down nodes parent [] value h = refl
+row_goes_down nodes parent (seg ∷ []) value h =
+    and_from _ _ (and_from _ _ (and_parts (same_number (node_at seg.node nodes).parent parent) _ h).0 (end_segment nodes seg value (row_ends nodes parent [] seg value h))) refl
+row_goes_down nodes parent (seg ∷ next ∷ path) value h = and_from _ _ (and_parts _ _ h).0 (row_goes_down nodes (Some seg.node) (next ∷ path) value (and_parts _ _ h).1)
+
+-- a way down is one to a row that may end in its last segment
+pub row_led : (nodes : List SchemaNode) (parent : Option ℕ) (above : List Seg) (seg : Seg) (value : Value) → goes_down nodes parent (above ++ seg ∷ []) ≡ true → may_end nodes seg value ≡ true
+    → goes_to_row nodes parent (above ++ seg ∷ []) value ≡ true
+row_led nodes parent [] seg value down ends = and_from _ _ (and_parts _ _ (and_parts _ _ down).0).0 ends
+row_led nodes parent (first ∷ []) seg value down ends = and_from _ _ (and_parts _ _ down).0 (row_led nodes (Some first.node) [] seg value (and_parts _ _ down).1 ends)
+row_led nodes parent (first ∷ next ∷ above) seg value down ends = and_from _ _ (and_parts _ _ down).0 (row_led nodes (Some first.node) (next ∷ above) seg value (and_parts _ _ down).1 ends)
+
+-- the node that a row ends in
+pub row_node : (nodes : List SchemaNode) (parent : Option ℕ) (path : List Seg) (value : Value) → goes_to_row nodes parent path value ≡ true
+    → (n : ℕ) × ((last_node path ≡ Some n) × (value_of_kind (node_at n nodes).kind (node_at n nodes).ty value ≡ true) × (is_key_node nodes n ≡ false))
+row_node nodes parent [] value h = absurd (true≢false (sym h))
+row_node nodes parent (seg ∷ []) value h = let ends = row_ends nodes parent [] seg value h in (seg.node, (refl, end_kind nodes seg value ends, end_open nodes seg value ends))
+row_node nodes parent (seg ∷ next ∷ path) value h = row_node nodes (Some seg.node) (next ∷ path) value (and_parts _ _ h).1
+
+row_way : (nodes : List SchemaNode) (path : List Seg) (value : Value) → goes_to_row nodes None path value ≡ true → is_path_of nodes path ≡ true
+row_way nodes [] value h = h
+row_way nodes (seg ∷ path) value h = row_goes_down nodes None (seg ∷ path) value h
+
+-- the path of a row is one of the schema
+pub row_path : (nodes : List SchemaNode) (row : Row) → IsRowOf nodes row → is_path_of nodes row.path ≡ true
+row_path nodes row is = row_way nodes row.path row.value is.goes
+
+-- and data may stand there
 pub row_place : (nodes : List SchemaNode) (row : Row) → IsRowOf nodes row → is_place nodes row.path ≡ true
-row_place nodes row is = open_place nodes row.path is.path (open_row nodes (last_node row.path) row.value is.value)
+row_place nodes row is =
+    let node = row_node nodes None row.path row.value is.goes in
+    open_place nodes row.path (row_path nodes row is) (ap (is_key_at nodes) node.1.0 ∙ node.1.2)

@@ -1,5 +1,5 @@
-ghost use Rattle.std.specs.Prelude.{◌≡◌, [], true};
-ghost use Rattle.yp_schema.specs.Datastore.{is_place, AreWhole};
+ghost use Rattle.std.specs.Prelude.{[], true};
+ghost use Rattle.yp_schema.specs.Datastore.{AreWhole};
 
 use super::*;
 use std::test::Fail;
