@@ -1,10 +1,10 @@
 -- What is written of a forest is read again as its rows.
-use Rattle.std.proofs.Common.{◌≡◌, ℕ, ◌<◌, List, [], ◌∷◌, ◌++◌, length, Bool, true, false, Option, Some, None, is_some, refl, sym, ap, ◌∙◌, subst, Ok, Err, Result, cond, append_assoc, append-nil, true≢false, Ordering, Less, Equal, Greater, nat_cmp}
-use Rattle.std.specs.Cmp.Lexicographic.{slice_cmp, pointwise}
+use Rattle.std.proofs.Common.{◌≡◌, ℕ, ◌<◌, List, [], ◌∷◌, ◌++◌, length, map, Bool, true, false, Option, Some, None, is_some, refl, sym, ap, ◌∙◌, subst, Ok, Err, Result, cond, append_assoc, append-nil, true≢false, Ordering, Less, Equal, Greater, nat_cmp}
+use Rattle.std.specs.Cmp.Lexicographic.{slice_cmp}
 use Rattle.std.specs.Prelude.{nat_eq}
 use Rattle.std.specs.Ordering.{match_ordering, is_eq}
 use Rattle.std.specs.List.{AllByRecursion}
-use Rattle.std.proofs.lemmas.Bool.{and_parts}
+use Rattle.std.proofs.lemmas.Bool.{and_parts, eqb-true}
 use Rattle.std.proofs.lemmas.Map.Text.{is_eq-slice_cmp}
 use Rattle.std.proofs.lemmas.Slice.Eq.{bytes_eq-Decides}
 use Rattle.yp_base.specs.declared.path.Seg.{Seg}
@@ -35,7 +35,8 @@ use Rattle.yp_schema.specs.SchemaLaws.{type_is}
 use Rattle.yp_base.specs.Results.{◌>>=◌}
 use Rattle.yp_data_json.specs.Reading.{valid, key_in, at_key, both, keys_found, fault_alone, keys_in, below, row_at, leaf_read, entered, value_read, values_read, for_child, members_read, node_read, entries_read, entry_read}
 use Rattle.yp_data_json.specs.Forest.{Forest, bare, branch}
-use Rattle.yp_data_json.specs.Writing.{leaf_data, key_data, one_key_data, with_keys, item_in_front, branch_members, members_in}
+use Rattle.serde_json.specs.View.{items_of}
+use Rattle.yp_data_json.specs.Writing.{leaf_data, key_data, one_key_data, with_keys, Entry, Gathered, no_nodes, single, entries, entry_in_front, branch_in_front, members_of, gathered, members_in}
 use Rattle.yp_data_json.proofs.Readings.{valid_atom}
 use Rattle.yp_base.specs.RowLaws.{put_last_row, not_there_yet}
 use Rattle.yp_data_json.proofs.RowsIn.{rows_in, front_cmp}
@@ -158,37 +159,32 @@ module _ (nodes : List SchemaNode) (parent : Option ℕ) (n : ℕ) (path : List 
       list_member name (item d no_items) ms acc found key
       ∙ ap (λ (r : Reading). r >>= λ a. members_read nodes parent path ms a) (one d no_items acc ∙ then_same (read d acc) (λ a. reads no_items a) (λ a. Ok a) none ∙ then_ok (read d acc))
 
-  which_list : (b : Bool) (name other : List ℕ) (d : Data) (ds : Items) (ms : Members) (acc : List Row) → pointwise nat_eq name other ≡ b
-      → child_of parent name nodes ≡ Some n → is_key n parent nodes ≡ false
-      → members_read nodes parent path (cond b (member other (array (item d ds)) ms) (member name (array (item d no_items)) (member other (array ds) ms))) acc
-      ≡ (read d acc >>= λ a. members_read nodes parent path (member other (array ds) ms) a)
-  which_list true name other d ds ms acc is found key =
-      let same : name ≡ other = (bytes_eq-Decides name other).0 is in
-      old_list other d ds ms acc (subst (λ x. child_of parent x nodes ≡ Some n) same found) key
-  which_list false name other d ds ms acc is found key = new_list name d (member other (array ds) ms) acc found key
+  which_list : (b : Bool) (m : ℕ) (e : Entry) (each : List Entry) (g : Gathered) (acc : List Row) → nat_eq n m ≡ b
+      → child_of parent (node_at n nodes).member nodes ≡ Some n → is_key n parent nodes ≡ false
+      → members_read nodes parent path (members_of nodes (cond b (entries m (e ∷ each) g) (entries n (e ∷ []) (entries m each g)))) acc
+      ≡ (read e.json acc >>= λ a. members_read nodes parent path (members_of nodes (entries m each g)) a)
+  which_list true m e each g acc is found key =
+      old_list (node_at m nodes).member e.json (items_of (map (λ x. x.json) each)) (members_of nodes g) acc (subst (λ k. child_of parent (node_at k nodes).member nodes ≡ Some n) (eqb-true n m is) found) key
+  which_list false m e each g acc is found key = new_list (node_at n nodes).member e.json (members_of nodes (entries m each g)) acc found key
 
-  -- an item in front is read first
-  item_first : (name : List ℕ) (d : Data) (ms : Members) (acc : List Row) → child_of parent name nodes ≡ Some n → is_key n parent nodes ≡ false
-      → members_read nodes parent path (item_in_front name d ms) acc ≡ (read d acc >>= λ a. members_read nodes parent path ms a)
-  item_first name d no_members acc found key = new_list name d no_members acc found key
-  item_first name d (member other null ms) acc found key = new_list name d (member other null ms) acc found key
-  item_first name d (member other (boolean b) ms) acc found key = new_list name d (member other (boolean b) ms) acc found key
-  item_first name d (member other (number x) ms) acc found key = new_list name d (member other (number x) ms) acc found key
-  item_first name d (member other (string s) ms) acc found key = new_list name d (member other (string s) ms) acc found key
-  item_first name d (member other (object os) ms) acc found key = new_list name d (member other (object os) ms) acc found key
-  item_first name d (member other (array ds) ms) acc found key = which_list (pointwise nat_eq name other) name other d ds ms acc refl found key
+  -- an entry in front is read first
+  item_first : (e : Entry) (g : Gathered) (acc : List Row) → child_of parent (node_at n nodes).member nodes ≡ Some n → is_key n parent nodes ≡ false
+      → members_read nodes parent path (members_of nodes (entry_in_front n e g)) acc ≡ (read e.json acc >>= λ a. members_read nodes parent path (members_of nodes g) a)
+  item_first e no_nodes acc found key = new_list (node_at n nodes).member e.json no_members acc found key
+  item_first e (single m d g) acc found key = new_list (node_at n nodes).member e.json (members_of nodes (single m d g)) acc found key
+  item_first e (entries m each g) acc found key = which_list (nat_eq n m) m e each g acc refl found key
 
-entry_first : (nodes : List SchemaNode) (parent : Option ℕ) (n : ℕ) (path : List Seg) (name : List ℕ) (d : Data) (ms : Members) (acc : List Row)
-    → child_of parent name nodes ≡ Some n → is_key n parent nodes ≡ false → (node_at n nodes).kind ≡ Listing
-    → members_read nodes parent path (item_in_front name d ms) acc ≡ (entry_read nodes n path d acc >>= λ a. members_read nodes parent path ms a)
-entry_first nodes parent n path name d ms acc found key kind =
-    item_first nodes parent n path (entry_read nodes n path) (entries_read nodes n path) (λ ds rows. rw kind refl) (λ rows. refl) (λ e ds rows. refl) name d ms acc found key
+entry_first : (nodes : List SchemaNode) (parent : Option ℕ) (n : ℕ) (path : List Seg) (e : Entry) (g : Gathered) (acc : List Row)
+    → child_of parent (node_at n nodes).member nodes ≡ Some n → is_key n parent nodes ≡ false → (node_at n nodes).kind ≡ Listing
+    → members_read nodes parent path (members_of nodes (entry_in_front n e g)) acc ≡ (entry_read nodes n path e.json acc >>= λ a. members_read nodes parent path (members_of nodes g) a)
+entry_first nodes parent n path e g acc found key kind =
+    item_first nodes parent n path (entry_read nodes n path) (entries_read nodes n path) (λ ds rows. rw kind refl) (λ rows. refl) (λ d ds rows. refl) e g acc found key
 
-value_first : (nodes : List SchemaNode) (parent : Option ℕ) (n : ℕ) (path : List Seg) (name : List ℕ) (d : Data) (ms : Members) (acc : List Row)
-    → child_of parent name nodes ≡ Some n → is_key n parent nodes ≡ false → (node_at n nodes).kind ≡ LeafList
-    → members_read nodes parent path (item_in_front name d ms) acc ≡ (value_read nodes n path d acc >>= λ a. members_read nodes parent path ms a)
-value_first nodes parent n path name d ms acc found key kind =
-    item_first nodes parent n path (value_read nodes n path) (values_read nodes n path) (λ ds rows. rw kind refl) (λ rows. refl) (λ e ds rows. refl) name d ms acc found key
+value_first : (nodes : List SchemaNode) (parent : Option ℕ) (n : ℕ) (path : List Seg) (e : Entry) (g : Gathered) (acc : List Row)
+    → child_of parent (node_at n nodes).member nodes ≡ Some n → is_key n parent nodes ≡ false → (node_at n nodes).kind ≡ LeafList
+    → members_read nodes parent path (members_of nodes (entry_in_front n e g)) acc ≡ (value_read nodes n path e.json acc >>= λ a. members_read nodes parent path (members_of nodes g) a)
+value_first nodes parent n path e g acc found key kind =
+    item_first nodes parent n path (value_read nodes n path) (values_read nodes n path) (λ ds rows. rw kind refl) (λ rows. refl) (λ d ds rows. refl) e g acc found key
 
 -- ---- leaves
 
@@ -279,7 +275,7 @@ list_again : (nodes : List SchemaNode) → IsSchema nodes → (parent : Option �
     → child_of parent (node_at seg.node nodes).member nodes ≡ Some seg.node → is_key seg.node parent nodes ≡ false → keys_fit nodes (node_at seg.node nodes).keys seg.keys ≡ true
     → Again nodes (Some seg.node) (path ++ seg ∷ []) kids → Again nodes parent path next
     → AreInOrder (acc ++ rows_in path (branch seg (Some Present) kids next))
-    → members_read nodes parent path (item_in_front (node_at seg.node nodes).member (object (with_keys nodes (node_at seg.node nodes).keys seg.keys (members_in nodes kids))) (members_in nodes next)) acc
+    → members_read nodes parent path (members_of nodes (entry_in_front seg.node (record { keys = seg.keys; json = object (with_keys nodes (node_at seg.node nodes).keys seg.keys (members_in nodes kids)) }) (gathered nodes next))) acc
     ≡ Ok (acc ++ rows_in path (branch seg (Some Present) kids next))
 list_again nodes schema parent path seg kids next acc kind within found key fit inner later order =
     let stand = keys_stand nodes schema seg.node within kind in
@@ -288,7 +284,7 @@ list_again nodes schema parent path seg kids next acc kind within found key fit 
     let ks = (node_at seg.node nodes).keys in
     let entry = with_keys nodes ks seg.keys (members_in nodes kids) in
     then_next nodes parent path (members_in nodes next) acc (row ∷ []) below_rows (rows_in path next) (entry_read nodes seg.node path (object entry) acc) _
-    (entry_first nodes parent seg.node path (node_at seg.node nodes).member (object entry) (members_in nodes next) acc found key kind)
+    (entry_first nodes parent seg.node path (record { keys = seg.keys; json = object entry }) (gathered nodes next) acc found key kind)
     (rw (keys_again nodes schema seg.node ks seg.keys (members_in nodes kids) stand fit, none_here acc below_rows (rows_in path next) row order, put_here acc below_rows (rows_in path next) row order)
     (skip_keys nodes seg.node (path ++ seg ∷ []) ks seg.keys (members_in nodes kids) (acc ++ row ∷ []) stand
     ∙ inner (acc ++ row ∷ []) (fronts acc (row ∷ []) below_rows (rows_in path next) order)))
@@ -319,13 +315,13 @@ value_entry_again : (nodes : List SchemaNode) → IsSchema nodes → (parent : O
     → child_of parent (node_at seg.node nodes).member nodes ≡ Some seg.node → is_key seg.node parent nodes ≡ false → atom_fits (node_at seg.node nodes).ty a ≡ true → seg.keys ≡ a ∷ []
     → Again nodes parent path next
     → AreInOrder (acc ++ rows_in path (branch seg (Some Member) bare next))
-    → members_read nodes parent path (item_in_front (node_at seg.node nodes).member (one_key_data (node_at seg.node nodes).ty seg.keys) (members_in nodes next)) acc ≡ Ok (acc ++ rows_in path (branch seg (Some Member) bare next))
+    → members_read nodes parent path (members_of nodes (entry_in_front seg.node (record { keys = seg.keys; json = one_key_data (node_at seg.node nodes).ty seg.keys }) (gathered nodes next))) acc ≡ Ok (acc ++ rows_in path (branch seg (Some Member) bare next))
 value_entry_again nodes schema parent path seg a next acc kind within found key fit is_keys later order =
     let row = row_at (path ++ seg ∷ []) Member in
     let d = key_data (node_at seg.node nodes).ty a in
     then_next nodes parent path (members_in nodes next) acc (row ∷ []) [] (rows_in path next) (value_read nodes seg.node path d acc) _
-    (ap (λ ks. members_read nodes parent path (item_in_front (node_at seg.node nodes).member (one_key_data (node_at seg.node nodes).ty ks) (members_in nodes next)) acc) is_keys
-    ∙ value_first nodes parent seg.node path (node_at seg.node nodes).member d (members_in nodes next) acc found key kind)
+    (ap (λ ks. members_read nodes parent path (members_of nodes (entry_in_front seg.node (record { keys = seg.keys; json = one_key_data (node_at seg.node nodes).ty ks }) (gathered nodes next))) acc) is_keys
+    ∙ value_first nodes parent seg.node path (record { keys = seg.keys; json = d }) (gathered nodes next) acc found key kind)
     (ap (λ (r : Result Atom DataFault). r >>= λ atom. entered (below path seg.node (atom ∷ [])) Member acc) (atom_again nodes schema seg.node a within fit)
     ∙ ap (λ p. entered p Member acc) (keys_path path seg a is_keys)
     ∙ rw (none_here acc [] (rows_in path next) row order, put_here acc [] (rows_in path next) row order) (ap (λ xs. Ok xs) (sym (append-nil (acc ++ row ∷ [])))))
@@ -339,14 +335,14 @@ branch_again : (k : Kind) (nodes : List SchemaNode) → IsSchema nodes → (pare
     → child_of parent (node_at seg.node nodes).member nodes ≡ Some seg.node → is_key seg.node parent nodes ≡ false → BranchFits nodes k (node_at seg.node nodes) seg own kids
     → Again nodes (Some seg.node) (path ++ seg ∷ []) kids → Again nodes parent path next
     → AreInOrder (acc ++ rows_in path (branch seg own kids next))
-    → members_read nodes parent path (branch_members nodes k (node_at seg.node nodes).member (node_at seg.node nodes) seg own (members_in nodes kids) (members_in nodes next)) acc ≡ Ok (acc ++ rows_in path (branch seg own kids next))
+    → members_read nodes parent path (members_of nodes (branch_in_front nodes k (node_at seg.node nodes) seg own (members_in nodes kids) (gathered nodes next))) acc ≡ Ok (acc ++ rows_in path (branch seg own kids next))
 branch_again Container nodes schema parent path seg None kids next acc kind within found key fit inner later order = container_again nodes parent path seg kids next acc kind found key fit.1 inner later order
 branch_again Container nodes schema parent path seg (Some v) kids next acc kind within found key fit inner later order = absurd (none_is_some v (sym fit.0))
 branch_again Presence nodes schema parent path seg own kids next acc kind within found key fit inner later order =
     subst (λ (o : Option Value). AreInOrder (acc ++ rows_in path (branch seg o kids next)) → members_read nodes parent path (member (node_at seg.node nodes).member (object (members_in nodes kids)) (members_in nodes next)) acc ≡ Ok (acc ++ rows_in path (branch seg o kids next)))
     (sym fit.0) (presence_again nodes parent path seg kids next acc kind found key fit.1 inner later) order
 branch_again Listing nodes schema parent path seg own kids next acc kind within found key fit inner later order =
-    subst (λ (o : Option Value). AreInOrder (acc ++ rows_in path (branch seg o kids next)) → members_read nodes parent path (item_in_front (node_at seg.node nodes).member (object (with_keys nodes (node_at seg.node nodes).keys seg.keys (members_in nodes kids))) (members_in nodes next)) acc ≡ Ok (acc ++ rows_in path (branch seg o kids next)))
+    subst (λ (o : Option Value). AreInOrder (acc ++ rows_in path (branch seg o kids next)) → members_read nodes parent path (members_of nodes (entry_in_front seg.node (record { keys = seg.keys; json = object (with_keys nodes (node_at seg.node nodes).keys seg.keys (members_in nodes kids)) }) (gathered nodes next))) acc ≡ Ok (acc ++ rows_in path (branch seg o kids next)))
     (sym fit.0) (list_again nodes schema parent path seg kids next acc kind within found key fit.1 inner later) order
 branch_again Leaf nodes schema parent path seg own kids next acc kind within found key (v, is_own, fit, bare_keys, is_bare) inner later order =
     subst (λ (o : Option Value). AreInOrder (acc ++ rows_in path (branch seg o kids next)) → members_read nodes parent path (member (node_at seg.node nodes).member (leaf_data (node_at seg.node nodes).ty o) (members_in nodes next)) acc ≡ Ok (acc ++ rows_in path (branch seg o kids next)))
@@ -354,9 +350,9 @@ branch_again Leaf nodes schema parent path seg own kids next acc kind within fou
     (subst (λ (f : Forest). AreInOrder (acc ++ rows_in path (branch seg (Some v) f next)) → members_read nodes parent path (member (node_at seg.node nodes).member (leaf_data (node_at seg.node nodes).ty (Some v)) (members_in nodes next)) acc ≡ Ok (acc ++ rows_in path (branch seg (Some v) f next)))
     (sym is_bare) (leaf_again nodes schema parent path seg v next acc kind within found key fit bare_keys later)) order
 branch_again LeafList nodes schema parent path seg own kids next acc kind within found key (a, is_own, is_keys, fit, is_bare) inner later order =
-    subst (λ (o : Option Value). AreInOrder (acc ++ rows_in path (branch seg o kids next)) → members_read nodes parent path (item_in_front (node_at seg.node nodes).member (one_key_data (node_at seg.node nodes).ty seg.keys) (members_in nodes next)) acc ≡ Ok (acc ++ rows_in path (branch seg o kids next)))
+    subst (λ (o : Option Value). AreInOrder (acc ++ rows_in path (branch seg o kids next)) → members_read nodes parent path (members_of nodes (entry_in_front seg.node (record { keys = seg.keys; json = one_key_data (node_at seg.node nodes).ty seg.keys }) (gathered nodes next))) acc ≡ Ok (acc ++ rows_in path (branch seg o kids next)))
     (sym is_own)
-    (subst (λ (f : Forest). AreInOrder (acc ++ rows_in path (branch seg (Some Member) f next)) → members_read nodes parent path (item_in_front (node_at seg.node nodes).member (one_key_data (node_at seg.node nodes).ty seg.keys) (members_in nodes next)) acc ≡ Ok (acc ++ rows_in path (branch seg (Some Member) f next)))
+    (subst (λ (f : Forest). AreInOrder (acc ++ rows_in path (branch seg (Some Member) f next)) → members_read nodes parent path (members_of nodes (entry_in_front seg.node (record { keys = seg.keys; json = one_key_data (node_at seg.node nodes).ty seg.keys }) (gathered nodes next))) acc ≡ Ok (acc ++ rows_in path (branch seg (Some Member) f next)))
     (sym is_bare) (value_entry_again nodes schema parent path seg a next acc kind within found key fit is_keys later)) order
 
 -- what is written of a forest is read again as its rows

@@ -1,7 +1,6 @@
 -- What each call of the writer adds.
-use Rattle.std.proofs.Common.{◌≡◌, ℕ, ◌+◌, ◌<◌, ◌≤◌, List, [], ◌∷◌, ◌++◌, length, drop, Bool, true, false, true≢false, Option, Some, None, cond, refl, sym, ap, subst, ◌∙◌, arith, append_assoc, append-nil, not, ◌&&◌}
+use Rattle.std.proofs.Common.{◌≡◌, ℕ, ◌+◌, ◌<◌, ◌≤◌, List, [], ◌∷◌, ◌++◌, length, drop, map, Bool, true, false, true≢false, Option, Some, None, cond, refl, sym, ap, subst, ◌∙◌, arith, append_assoc, append-nil, not, ◌&&◌}
 use Rattle.std.specs.Prelude.{nat_eq}
-use Rattle.std.specs.Cmp.Lexicographic.{pointwise}
 use Rattle.std.specs.Ordering.{eq_by_cmp}
 use Rattle.yp_base.specs.Order.{segment_cmp}
 use Rattle.std.specs.List.{AllByRecursion}
@@ -18,14 +17,14 @@ use Rattle.yp_base.specs.Paths.{same_number}
 use Rattle.yp_schema.specs.Nodes.{node_at, is_in, may_hold}
 use Rattle.yp_schema.specs.WellFormed.{IsSchema, is_parent_of, is_empty, is_key_leaf, are_key_leaves, has_none, kind_stands}
 use Rattle.yp_schema.specs.Datastore.{goes_down, is_segment, keys_of_kind, goes_to_row, value_of_kind, typed_fits}
-use Rattle.serde_json.specs.Data.{Data, null, boolean, number, string, array, object, Items, no_items, item, Members, no_members, member, put}
+use Rattle.serde_json.specs.Data.{Data, array, object, Members, no_members, member, put}
 use Rattle.serde_json.specs.View.{items_of}
 use Rattle.yp_data_json.specs.Forest.{Forest, bare, branch, own_of, in_front, laid, laid_all, forest_at}
-use Rattle.yp_data_json.specs.Writing.{leaf_data, item_data, item_in_front, branch_members, members_in}
-use Rattle.yp_data_json.specs.Runs.{GoesOn, IsRest, AreBelow, AreNodes, longest, begins_with, goes_through, AllGoThrough, ends_through, HasSegment, StartsApart, StandsBefore, all_in_front, has_items, AreOneMember, AreItems}
+use Rattle.yp_data_json.specs.Writing.{leaf_data, item_data, Entry, Gathered, no_nodes, single, entries, entry_in_front, branch_in_front, members_of, gathered, members_in}
+use Rattle.yp_data_json.specs.Runs.{GoesOn, IsRest, AreBelow, AreNodes, longest, begins_with, goes_through, AllGoThrough, ends_through, HasSegment, StartsApart, StandsBefore, all_in_front, has_items, AreOneMember, AreEntries}
 use Rattle.yp_data_json.proofs.Parts.{all_back, ends_last}
 use Rattle.yp_data_json.proofs.Branches.{StartsElse, own_at, one_branch, laid_append, rows_start}
-use Rattle.yp_data_json.proofs.Members.{put_first, run_is, items_append, starts_else}
+use Rattle.yp_data_json.proofs.Members.{put_first, other_first, run_is, entries_append, starts_else}
 use Rattle.yp_schema.specs.SchemaLaws.{segment_within, row_ends, end_kind}
 use Rattle.yp_data_json.proofs.Below.{both_left, both_right, rest_down, further, NextBefore, AllBefore, front_before, next_parent, next_segment, segment_of, deep_enough}
 
@@ -195,14 +194,14 @@ pub container_member : (nodes : List SchemaNode) (parent : Option ℕ) (depth n 
     → ms ≡ members_in nodes (forest_at (depth + 1) rows) → AreOneMember nodes depth n rows (object ms)
 container_member nodes parent depth n rows ms kind through below some is f before =
     ap (members_in nodes) (plain_branch nodes parent depth n rows f (ap has_plain kind) through below some before)
-    ∙ ap (λ k. branch_members nodes k (node_at n nodes).member (node_at n nodes) (plain_segment n) (own_at depth rows) (members_in nodes (forest_at (depth + 1) rows)) (members_in nodes f)) kind
+    ∙ ap (λ k. members_of nodes (branch_in_front nodes k (node_at n nodes) (plain_segment n) (own_at depth rows) (members_in nodes (forest_at (depth + 1) rows)) (gathered nodes f))) kind
     ∙ ap (λ (x : Members). member (node_at n nodes).member (object x) (members_in nodes f)) (sym is)
 
 pub presence_member : (nodes : List SchemaNode) (parent : Option ℕ) (depth n : ℕ) (rows : List Row) (ms : Members) → (node_at n nodes).kind ≡ Presence → AllGoThrough depth n rows → AreBelow nodes parent depth rows → 0 < length rows
     → ms ≡ members_in nodes (forest_at (depth + 1) rows) → AreOneMember nodes depth n rows (object ms)
 presence_member nodes parent depth n rows ms kind through below some is f before =
     ap (members_in nodes) (plain_branch nodes parent depth n rows f (ap has_plain kind) through below some before)
-    ∙ ap (λ k. branch_members nodes k (node_at n nodes).member (node_at n nodes) (plain_segment n) (own_at depth rows) (members_in nodes (forest_at (depth + 1) rows)) (members_in nodes f)) kind
+    ∙ ap (λ k. members_of nodes (branch_in_front nodes k (node_at n nodes) (plain_segment n) (own_at depth rows) (members_in nodes (forest_at (depth + 1) rows)) (gathered nodes f))) kind
     ∙ ap (λ (x : Members). member (node_at n nodes).member (object x) (members_in nodes f)) (sym is)
 
 -- nothing goes on below a leaf
@@ -242,7 +241,7 @@ leaf_member nodes schema parent depth n rows row more d kind through below is wr
     let first_rest = (subst (λ xs. AllByRecursion (IsRest nodes parent depth) xs) is below.each).0 in
     let own : own_at depth rows ≡ Some row.value = ap (own_at depth) is ∙ ap (λ rest. own_of rest row.value (own_at depth more)) (leaf_row nodes schema parent depth n row kind first_through first_rest) in
     ap (members_in nodes) (plain_branch nodes parent depth n rows f (ap has_plain kind) through below (some_rows rows row more is) before)
-    ∙ ap (λ k. branch_members nodes k (node_at n nodes).member (node_at n nodes) (plain_segment n) (own_at depth rows) (members_in nodes (forest_at (depth + 1) rows)) (members_in nodes f)) kind
+    ∙ ap (λ k. members_of nodes (branch_in_front nodes k (node_at n nodes) (plain_segment n) (own_at depth rows) (members_in nodes (forest_at (depth + 1) rows)) (gathered nodes f))) kind
     ∙ ap (λ o. member (node_at n nodes).member (leaf_data (node_at n nodes).ty o) (members_in nodes f)) own
     ∙ ap (λ (x : Data). member (node_at n nodes).member x (members_in nodes f)) (sym written)
 
@@ -258,93 +257,94 @@ others_start : (nodes : List SchemaNode) (depth n : ℕ) (seg : Seg) (others : L
 others_start nodes depth n seg [] f same through apart before = starts_else nodes seg f (subst (λ k. StandsBefore (node_at k nodes).member (members_in nodes f)) (sym same) before)
 others_start nodes depth n seg (row ∷ rows) f same through apart before = let found = segment_of depth n row through.0 in rows_start depth seg found.0 row rows f found.1.0 apart
 
-item_branch : (k : Kind) (nodes : List SchemaNode) (name : List ℕ) (node : SchemaNode) (seg : Seg) (own : Option Value) (kids next : Members) → has_items k ≡ true
-    → branch_members nodes k name node seg own kids next ≡ item_in_front name (item_data nodes k node seg kids) next
-item_branch Container nodes name node seg own kids next items = absurd (true≢false (sym items))
-item_branch Presence nodes name node seg own kids next items = absurd (true≢false (sym items))
-item_branch Listing nodes name node seg own kids next items = refl
-item_branch Leaf nodes name node seg own kids next items = absurd (true≢false (sym items))
-item_branch LeafList nodes name node seg own kids next items = refl
+item_branch : (k : Kind) (nodes : List SchemaNode) (node : SchemaNode) (seg : Seg) (own : Option Value) (kids : Members) (next : Gathered) → has_items k ≡ true
+    → branch_in_front nodes k node seg own kids next ≡ entry_in_front seg.node (record { keys = seg.keys; json = item_data nodes k node seg kids }) next
+item_branch Container nodes node seg own kids next items = absurd (true≢false (sym items))
+item_branch Presence nodes node seg own kids next items = absurd (true≢false (sym items))
+item_branch Listing nodes node seg own kids next items = refl
+item_branch Leaf nodes node seg own kids next items = absurd (true≢false (sym items))
+item_branch LeafList nodes node seg own kids next items = refl
 
-entry_in_front : (nodes : List SchemaNode) (depth n : ℕ) (seg : Seg) (entry others : List Row) (row : Row) (more : List Row) (d : Data) (f : Forest) → has_items (node_at n nodes).kind ≡ true → seg.node ≡ n
-    → entry ≡ row ∷ more → AllByRecursion (HasSegment depth seg) entry → StartsElse seg (laid_all depth others f)
-    → d ≡ item_data nodes (node_at seg.node nodes).kind (node_at seg.node nodes) seg (members_in nodes (forest_at (depth + 1) entry))
-    → members_in nodes (laid_all depth (entry ++ others) f) ≡ item_in_front (node_at n nodes).member d (members_in nodes (laid_all depth others f))
-entry_in_front nodes depth n seg entry others row more d f items same is here starts written =
+-- the entry that is written of rows with one segment
+abbrev IsEntryOf : List SchemaNode → ℕ → Seg → List Row → Entry → Type 0
+IsEntryOf nodes depth seg rows e = e ≡ record { keys = seg.keys; json = item_data nodes (node_at seg.node nodes).kind (node_at seg.node nodes) seg (members_in nodes (forest_at (depth + 1) rows)) }
+
+entry_laid : (nodes : List SchemaNode) (depth n : ℕ) (seg : Seg) (entry others : List Row) (row : Row) (more : List Row) (e : Entry) (f : Forest) → has_items (node_at n nodes).kind ≡ true → seg.node ≡ n
+    → entry ≡ row ∷ more → AllByRecursion (HasSegment depth seg) entry → StartsElse seg (laid_all depth others f) → IsEntryOf nodes depth seg entry e
+    → gathered nodes (laid_all depth (entry ++ others) f) ≡ entry_in_front n e (gathered nodes (laid_all depth others f))
+entry_laid nodes depth n seg entry others row more e f items same is here starts written =
     let all = subst (λ rows. AllByRecursion (HasSegment depth seg) rows) is here in
     let one : laid_all depth entry (laid_all depth others f) ≡ branch seg (own_at depth entry) (forest_at (depth + 1) entry) (laid_all depth others f) =
     subst (λ (rows : List Row). laid_all depth rows (laid_all depth others f) ≡ branch seg (own_at depth rows) (forest_at (depth + 1) rows) (laid_all depth others f)) (sym is)
     (one_branch depth seg row more (laid_all depth others f) starts all.0 all.1) in
-    ap (members_in nodes) (laid_append depth entry others f ∙ one)
-    ∙ item_branch (node_at seg.node nodes).kind nodes (node_at seg.node nodes).member (node_at seg.node nodes) seg (own_at depth entry) (members_in nodes (forest_at (depth + 1) entry)) (members_in nodes (laid_all depth others f))
+    ap (gathered nodes) (laid_append depth entry others f ∙ one)
+    ∙ item_branch (node_at seg.node nodes).kind nodes (node_at seg.node nodes) seg (own_at depth entry) (members_in nodes (forest_at (depth + 1) entry)) (gathered nodes (laid_all depth others f))
     (ap (λ k. has_items (node_at k nodes).kind) same ∙ items)
-    ∙ ap (λ (x : Data). item_in_front (node_at seg.node nodes).member x (members_in nodes (laid_all depth others f))) (sym written)
-    ∙ ap (λ k. item_in_front (node_at k nodes).member d (members_in nodes (laid_all depth others f))) same
+    ∙ ap (λ (x : Entry). entry_in_front seg.node x (gathered nodes (laid_all depth others f))) (sym written)
+    ∙ ap (λ k. entry_in_front k e (gathered nodes (laid_all depth others f))) same
 
--- one more item behind those so far
-pub item_step : (nodes : List SchemaNode) (depth n : ℕ) (seg : Seg) (all left entry others : List Row) (row : Row) (more : List Row) (ds : List Data) (d : Data) → has_items (node_at n nodes).kind ≡ true → seg.node ≡ n
+-- one more entry behind those so far
+pub entry_step : (nodes : List SchemaNode) (depth n : ℕ) (seg : Seg) (all left entry others : List Row) (row : Row) (more : List Row) (es : List Entry) (e : Entry) → has_items (node_at n nodes).kind ≡ true → seg.node ≡ n
     → left ≡ entry ++ others → entry ≡ row ∷ more → AllByRecursion (HasSegment depth seg) entry → AllGoThrough depth n others → StartsApart depth seg others
-    → d ≡ item_data nodes (node_at seg.node nodes).kind (node_at seg.node nodes) seg (members_in nodes (forest_at (depth + 1) entry))
-    → ((f : Forest) → StandsBefore (node_at n nodes).member (members_in nodes f) → members_in nodes (laid_all depth all f) ≡ all_in_front (node_at n nodes).member ds (members_in nodes (laid_all depth left f)))
-    → (f : Forest) → StandsBefore (node_at n nodes).member (members_in nodes f) → members_in nodes (laid_all depth all f) ≡ all_in_front (node_at n nodes).member (ds ++ d ∷ []) (members_in nodes (laid_all depth others f))
-item_step nodes depth n seg all left entry others row more ds d items same parts is here through apart written so_far f before =
+    → e ≡ record { keys = seg.keys; json = item_data nodes (node_at seg.node nodes).kind (node_at seg.node nodes) seg (members_in nodes (forest_at (depth + 1) entry)) }
+    → ((f : Forest) → StandsBefore (node_at n nodes).member (members_in nodes f) → gathered nodes (laid_all depth all f) ≡ all_in_front n es (gathered nodes (laid_all depth left f)))
+    → (f : Forest) → StandsBefore (node_at n nodes).member (members_in nodes f) → gathered nodes (laid_all depth all f) ≡ all_in_front n (es ++ e ∷ []) (gathered nodes (laid_all depth others f))
+entry_step nodes depth n seg all left entry others row more es e items same parts is here through apart written so_far f before =
     so_far f before
-    ∙ ap (λ rows. all_in_front (node_at n nodes).member ds (members_in nodes (laid_all depth rows f))) parts
-    ∙ ap (all_in_front (node_at n nodes).member ds) (entry_in_front nodes depth n seg entry others row more d f items same is here (others_start nodes depth n seg others f same through apart before) written)
-    ∙ sym (items_append (node_at n nodes).member ds (d ∷ []) (members_in nodes (laid_all depth others f)))
+    ∙ ap (λ rows. all_in_front n es (gathered nodes (laid_all depth rows f))) parts
+    ∙ ap (all_in_front n es) (entry_laid nodes depth n seg entry others row more e f items same is here (others_start nodes depth n seg others f same through apart before) written)
+    ∙ sym (entries_append n es (e ∷ []) (gathered nodes (laid_all depth others f)))
 
-abbrev is_none : Members → Bool
-is_none no_members = true
-is_none (member name d ms) = false
+abbrev is_none : Gathered → Bool
+is_none no_nodes = true
+is_none (single n d next) = false
+is_none (entries n each next) = false
 
-item_some_at : (b : Bool) (name other : List ℕ) (d : Data) (ds : Items) (ms : Members) → is_none (cond b (member other (array (item d ds)) ms) (member name (array (item d no_items)) (member other (array ds) ms))) ≡ false
-item_some_at true name other d ds ms = refl
-item_some_at false name other d ds ms = refl
+entry_some_at : (b : Bool) (n m : ℕ) (e : Entry) (each : List Entry) (g : Gathered) → is_none (cond b (entries m (e ∷ each) g) (entries n (e ∷ []) (entries m each g))) ≡ false
+entry_some_at true n m e each g = refl
+entry_some_at false n m e each g = refl
 
-item_some : (name : List ℕ) (d : Data) (ms : Members) → is_none (item_in_front name d ms) ≡ false
-item_some name d no_members = refl
-item_some name d (member other null ms) = refl
-item_some name d (member other (boolean b) ms) = refl
-item_some name d (member other (number x) ms) = refl
-item_some name d (member other (string s) ms) = refl
-item_some name d (member other (object os) ms) = refl
-item_some name d (member other (array ds) ms) = item_some_at (pointwise nat_eq name other) name other d ds ms
+entry_is_some : (n : ℕ) (e : Entry) (g : Gathered) → is_none (entry_in_front n e g) ≡ false
+entry_is_some n e no_nodes = refl
+entry_is_some n e (single m d g) = refl
+entry_is_some n e (entries m each g) = entry_some_at (nat_eq n m) n m e each g
 
-branch_some : (k : Kind) (nodes : List SchemaNode) (name : List ℕ) (node : SchemaNode) (seg : Seg) (own : Option Value) (kids next : Members) → is_none (branch_members nodes k name node seg own kids next) ≡ false
-branch_some Container nodes name node seg own kids next = refl
-branch_some Presence nodes name node seg own kids next = refl
-branch_some Listing nodes name node seg own kids next = item_some name _ next
-branch_some Leaf nodes name node seg own kids next = refl
-branch_some LeafList nodes name node seg own kids next = item_some name _ next
+branch_some : (k : Kind) (nodes : List SchemaNode) (node : SchemaNode) (seg : Seg) (own : Option Value) (kids : Members) (next : Gathered) → is_none (branch_in_front nodes k node seg own kids next) ≡ false
+branch_some Container nodes node seg own kids next = refl
+branch_some Presence nodes node seg own kids next = refl
+branch_some Listing nodes node seg own kids next = entry_is_some seg.node _ next
+branch_some Leaf nodes node seg own kids next = refl
+branch_some LeafList nodes node seg own kids next = entry_is_some seg.node _ next
 
-members_some : (nodes : List SchemaNode) (seg : Seg) (own : Option Value) (kids next : Forest) → is_none (members_in nodes (branch seg own kids next)) ≡ false
-members_some nodes seg own kids next = branch_some (node_at seg.node nodes).kind nodes (node_at seg.node nodes).member (node_at seg.node nodes) seg own (members_in nodes kids) (members_in nodes next)
+gathered_some : (nodes : List SchemaNode) (seg : Seg) (own : Option Value) (kids next : Forest) → is_none (gathered nodes (branch seg own kids next)) ≡ false
+gathered_some nodes seg own kids next = branch_some (node_at seg.node nodes).kind nodes (node_at seg.node nodes) seg own (members_in nodes kids) (gathered nodes next)
 
-in_front_some_at : (b : Bool) (nodes : List SchemaNode) (seg first : Seg) (one two three : Option Value) (f g h next : Forest) → is_none (members_in nodes (cond b (branch first one f next) (branch seg two g (branch first three h next)))) ≡ false
-in_front_some_at true nodes seg first one two three f g h next = members_some nodes first one f next
-in_front_some_at false nodes seg first one two three f g h next = members_some nodes seg two g (branch first three h next)
+in_front_some_at : (b : Bool) (nodes : List SchemaNode) (seg first : Seg) (one two three : Option Value) (f g h next : Forest) → is_none (gathered nodes (cond b (branch first one f next) (branch seg two g (branch first three h next)))) ≡ false
+in_front_some_at true nodes seg first one two three f g h next = gathered_some nodes first one f next
+in_front_some_at false nodes seg first one two three f g h next = gathered_some nodes seg two g (branch first three h next)
 
-in_front_some : (nodes : List SchemaNode) (seg : Seg) (rest : List Seg) (v : Value) (inner : Forest → Forest) (f : Forest) → is_none (members_in nodes (in_front seg rest v inner f)) ≡ false
-in_front_some nodes seg rest v inner bare = members_some nodes seg (own_of rest v None) (inner bare) bare
+in_front_some : (nodes : List SchemaNode) (seg : Seg) (rest : List Seg) (v : Value) (inner : Forest → Forest) (f : Forest) → is_none (gathered nodes (in_front seg rest v inner f)) ≡ false
+in_front_some nodes seg rest v inner bare = gathered_some nodes seg (own_of rest v None) (inner bare) bare
 in_front_some nodes seg rest v inner (branch first own kids next) =
     in_front_some_at (eq_by_cmp segment_cmp seg first) nodes seg first (own_of rest v own) (own_of rest v None) own (inner kids) (inner bare) kids next
 
--- rows of which the first goes on have members
-rows_some : (nodes : List SchemaNode) (depth : ℕ) (seg : Seg) (row : Row) (rows : List Row) → HasSegment depth seg row → is_none (members_in nodes (laid_all depth (row ∷ rows) bare)) ≡ false
+-- of rows of which the first goes on something is gathered
+rows_some : (nodes : List SchemaNode) (depth : ℕ) (seg : Seg) (row : Row) (rows : List Row) → HasSegment depth seg row → is_none (gathered nodes (laid_all depth (row ∷ rows) bare)) ≡ false
 rows_some nodes depth seg row rows here =
-    ap (λ path. is_none (members_in nodes (laid path row.value (laid_all depth rows bare)))) here
+    ap (λ path. is_none (gathered nodes (laid path row.value (laid_all depth rows bare)))) here
     ∙ in_front_some nodes seg (drop (depth + 1) row.path) row.value (laid (drop (depth + 1) row.path) row.value) (laid_all depth rows bare)
 
-items_some : (nodes : List SchemaNode) (depth n : ℕ) (rows : List Row) → AllGoThrough depth n rows → 0 < length rows → AreItems nodes depth n rows [] → ⊥
-items_some nodes depth n [] through some items = absurd (omega arith)
-items_some nodes depth n (row ∷ rows) through some items =
+entries_some : (nodes : List SchemaNode) (depth n : ℕ) (rows : List Row) → AllGoThrough depth n rows → 0 < length rows → AreEntries nodes depth n rows [] → ⊥
+entries_some nodes depth n [] through some are = absurd (omega arith)
+entries_some nodes depth n (row ∷ rows) through some are =
     let found = segment_of depth n row through.0 in
-    true≢false (sym (ap is_none (items bare tt)) ∙ rows_some nodes depth found.0 row rows found.1.0)
+    true≢false (sym (ap is_none (are bare tt)) ∙ rows_some nodes depth found.0 row rows found.1.0)
 
--- items of some rows are one member with the array of all
-pub items_member : (nodes : List SchemaNode) (depth n : ℕ) (rows : List Row) (ds : List Data) → AllGoThrough depth n rows → 0 < length rows → AreItems nodes depth n rows ds → AreOneMember nodes depth n rows (array (items_of ds))
-items_member nodes depth n rows [] through some items f before = absurd (items_some nodes depth n rows through some items)
-items_member nodes depth n rows (d ∷ ds) through some items f before = items f before ∙ run_is (node_at n nodes).member d ds (members_in nodes f) before
+-- entries of some rows are one member with the array of all
+pub entries_member : (nodes : List SchemaNode) (depth n : ℕ) (rows : List Row) (es : List Entry) → AllGoThrough depth n rows → 0 < length rows → AreEntries nodes depth n rows es
+    → AreOneMember nodes depth n rows (array (items_of (map (λ e. e.json) es)))
+entries_member nodes depth n rows [] through some are f before = absurd (entries_some nodes depth n rows through some are)
+entries_member nodes depth n rows (e ∷ es) through some are f before = ap (members_of nodes) (are f before ∙ run_is n e es (gathered nodes f) (other_first nodes n (gathered nodes f) before))
 
 -- ---- keys of a list
 

@@ -16,7 +16,9 @@ use Rattle.yp_schema.specs.Nodes.{node_at}
 use Rattle.yp_schema.specs.Datastore.{goes_to_row}
 use Rattle.serde_json.specs.Data.{Data, Members, no_members, member}
 use Rattle.yp_data_json.specs.Forest.{Forest, laid_all}
-use Rattle.yp_data_json.specs.Writing.{item_in_front, members_in}
+use Rattle.serde_json.specs.View.{view}
+use Rattle.yp_data_json.specs.declared.writing.Entry.{Entry as WrittenEntry}
+use Rattle.yp_data_json.specs.Writing.{Entry, Gathered, entry_in_front, gathered, members_in}
 
 -- a path ends in this segment
 abbrev pub EndsIn : Seg → List Seg → Type 0
@@ -83,10 +85,14 @@ StartsApart depth seg (row ∷ rows) = HasSegment depth seg row → ⊥
 
 -- ---- what is written of a run
 
--- items, each in front of those after it
-abbrev pub all_in_front : List ℕ → List Data → Members → Members
-all_in_front name [] ms = ms
-all_in_front name (d ∷ ds) ms = item_in_front name d (all_in_front name ds ms)
+-- an entry as it was written
+abbrev pub entry_of : WrittenEntry → Entry
+entry_of entry = record { keys = entry.keys.now; json = view entry.json }
+
+-- entries of a node, each in front of those after it
+abbrev pub all_in_front : ℕ → List Entry → Gathered → Gathered
+all_in_front n [] after = after
+all_in_front n (entry ∷ entries) after = entry_in_front n entry (all_in_front n entries after)
 
 -- whether a node of this kind has entries
 abbrev pub has_items : Kind → Bool
@@ -107,8 +113,8 @@ AreOneMember nodes depth node rows d =
     (f : Forest) → StandsBefore (node_at node nodes).member (members_in nodes f)
     → members_in nodes (laid_all depth rows f) ≡ member (node_at node nodes).member d (members_in nodes f)
 
--- rows of one list or leaf-list, in front of later members, are these items
-abbrev pub AreItems : List SchemaNode → ℕ → ℕ → List Row → List Data → Type 0
-AreItems nodes depth node rows ds =
+-- rows of one list or leaf-list, in front of later members, are these entries
+abbrev pub AreEntries : List SchemaNode → ℕ → ℕ → List Row → List Entry → Type 0
+AreEntries nodes depth node rows entries =
     (f : Forest) → StandsBefore (node_at node nodes).member (members_in nodes f)
-    → members_in nodes (laid_all depth rows f) ≡ all_in_front (node_at node nodes).member ds (members_in nodes f)
+    → gathered nodes (laid_all depth rows f) ≡ all_in_front node entries (gathered nodes f)

@@ -1,6 +1,5 @@
 -- The JSON of rows (RFC 7951 sections 4 to 6).
-use Rattle.std.specs.Prelude.{ℕ, List, [], ◌∷◌, length, Option, Some, None, if◌then◌else◌, nat_eq}
-use Rattle.std.specs.Cmp.Lexicographic.{pointwise}
+use Rattle.std.specs.Prelude.{ℕ, List, [], ◌∷◌, length, map, Option, Some, None, if◌then◌else◌, nat_eq}
 use Rattle.yp_base.specs.declared.atom.Atom.{Atom}
 use Rattle.yp_base.specs.declared.leaf_type.LeafType.{LeafType}
 use Rattle.yp_base.specs.declared.path.Seg.{Seg}
@@ -15,6 +14,7 @@ use Rattle.yp_schema.specs.declared.schema.Kind.{Kind}
 use Rattle.yp_schema.specs.declared.schema.Kind.TheVariants.{Container, Presence, List as Listing, Leaf, LeafList}
 use Rattle.yp_schema.specs.Nodes.{node_at, qualified_name}
 use Rattle.serde_json.specs.Data.{Data, null, boolean, number, string, array, object, no_items, item, Members, no_members, member, put}
+use Rattle.serde_json.specs.View.{items_of}
 use Rattle.yp_data_json.specs.Forest.{Forest, bare, branch, forest_at}
 
 -- the JSON of a leaf's value; no value is written of what has no row
@@ -46,30 +46,48 @@ item_data nodes Container node seg kids = null
 item_data nodes Presence node seg kids = null
 item_data nodes Leaf node seg kids = null
 
--- one more item in front: in the first member where that is an array of this name, else in a new member
-abbrev pub item_in_front : List ℕ → Data → Members → Members
-item_in_front name d no_members = member name (array (item d no_items)) no_members
-item_in_front name d (member other (array ds) ms) =
-    if pointwise nat_eq name other then member other (array (item d ds)) ms else member name (array (item d no_items)) (member other (array ds) ms)
-item_in_front name d (member other null ms) = member name (array (item d no_items)) (member other null ms)
-item_in_front name d (member other (boolean b) ms) = member name (array (item d no_items)) (member other (boolean b) ms)
-item_in_front name d (member other (number n) ms) = member name (array (item d no_items)) (member other (number n) ms)
-item_in_front name d (member other (string s) ms) = member name (array (item d no_items)) (member other (string s) ms)
-item_in_front name d (member other (object os) ms) = member name (array (item d no_items)) (member other (object os) ms)
+-- ---- the members of an object
 
--- a branch in front of the members after it, by its kind: a container is an object, a list an array of objects with their keys, a leaf its value, a leaf-list an array of values
-abbrev pub branch_members : List SchemaNode → Kind → List ℕ → SchemaNode → Seg → Option Value → Members → Members → Members
-branch_members nodes Container name node seg own kids next = member name (object kids) next
-branch_members nodes Presence name node seg own kids next = member name (object kids) next
-branch_members nodes Listing name node seg own kids next = item_in_front name (item_data nodes Listing node seg kids) next
-branch_members nodes Leaf name node seg own kids next = member name (leaf_data node.ty own) next
-branch_members nodes LeafList name node seg own kids next = item_in_front name (item_data nodes LeafList node seg kids) next
+-- an entry of a list or leaf-list: its keys, and its JSON
+pub record Entry : Type 0 where
+  pub keys : List Atom
+  pub json : Data
 
--- the members of an object, each under its member form: a list entry or container is there where it has a row or a row is below it
+-- what is written of the nodes of an object, one after another: of each node its one value, or its entries
+pub data Gathered : Type 0 where
+  no_nodes : Gathered
+  single : ℕ → Data → Gathered → Gathered
+  entries : ℕ → List Entry → Gathered → Gathered
+
+-- one more entry in front: of the first node where that is its own, else of a new first node
+abbrev pub entry_in_front : ℕ → Entry → Gathered → Gathered
+entry_in_front n entry no_nodes = entries n (entry ∷ []) no_nodes
+entry_in_front n entry (single m d next) = entries n (entry ∷ []) (single m d next)
+entry_in_front n entry (entries m others next) = if nat_eq n m then entries m (entry ∷ others) next else entries n (entry ∷ []) (entries m others next)
+
+-- a branch in front of what comes after it, by its kind: a container is an object, a list has entries with their keys, a leaf its value, a leaf-list has values
+abbrev pub branch_in_front : List SchemaNode → Kind → SchemaNode → Seg → Option Value → Members → Gathered → Gathered
+branch_in_front nodes Container node seg own kids next = single seg.node (object kids) next
+branch_in_front nodes Presence node seg own kids next = single seg.node (object kids) next
+branch_in_front nodes Listing node seg own kids next = entry_in_front seg.node (record { keys = seg.keys; json = item_data nodes Listing node seg kids }) next
+branch_in_front nodes Leaf node seg own kids next = single seg.node (leaf_data node.ty own) next
+branch_in_front nodes LeafList node seg own kids next = entry_in_front seg.node (record { keys = seg.keys; json = item_data nodes LeafList node seg kids }) next
+
+-- the members, each under its member form: the entries of a node are one array, in their order
+abbrev pub members_of : List SchemaNode → Gathered → Members
+members_of nodes no_nodes = no_members
+members_of nodes (single n d next) = member (node_at n nodes).member d (members_of nodes next)
+members_of nodes (entries n each next) = member (node_at n nodes).member (array (items_of (map (λ entry. entry.json) each))) (members_of nodes next)
+
+-- what is gathered of a forest: a list entry or container is there where it has a row or a row is below it
+abbrev pub gathered : List SchemaNode → Forest → Gathered
+gathered nodes bare = no_nodes
+gathered nodes (branch seg own kids next) = branch_in_front nodes (node_at seg.node nodes).kind (node_at seg.node nodes) seg own (members_of nodes (gathered nodes kids)) (gathered nodes next)
+
 abbrev pub members_in : List SchemaNode → Forest → Members
-members_in nodes bare = no_members
-members_in nodes (branch seg own kids next) =
-    branch_members nodes (node_at seg.node nodes).kind (node_at seg.node nodes).member (node_at seg.node nodes) seg own (members_in nodes kids) (members_in nodes next)
+members_in nodes f = members_of nodes (gathered nodes f)
+
+-- ---- at a place
 
 -- the JSON of what stands at a path, by the kind of its last segment's node: an entry is an array of one
 abbrev pub place_data : List SchemaNode → Kind → SchemaNode → Seg → Option Value → Members → Data

@@ -12,11 +12,11 @@ ghost use Rattle.yp_base.specs.declared.row.Row.{Row};
 ghost use Rattle.yp_data_json.specs.AtPath.{rows_read};
 ghost use Rattle.yp_data_json.specs.Forest.{forest_at};
 ghost use Rattle.yp_data_json.specs.Writing.{rows_json, data_at, members_in, with_keys, item_data, key_data, leaf_data};
-ghost use Rattle.yp_data_json.specs.Runs.{EndsIn, goes_through as goes_through_node, AllGoThrough, ends_through, HasSegment, StartsApart, GoOnBelow, AreNodes, AreOneMember, AreItems, has_items};
+ghost use Rattle.yp_data_json.specs.Runs.{EndsIn, goes_through as goes_through_node, AllGoThrough, ends_through, HasSegment, StartsApart, GoOnBelow, AreNodes, AreOneMember, AreEntries, has_items, entry_of};
 
 use serde_json::{Map, Value as Json};
 use std::alloc::Global;
-use yp_base::atom::Atom;
+use yp_base::atom::{Atom, Keys};
 use yp_base::json::write_json;
 use yp_base::memory::{Duplicate, NoMemory};
 use yp_base::path::{Path, Seg};
@@ -57,6 +57,25 @@ fn named(alloc: Global, schema: &Schema, node: u32, json: Json) -> Result<Json, 
     let mut members = Map::new(alloc);
     drop(members.insert(name, json)?);
     Ok(Json::Object(members))
+}
+
+/// An entry of a list or leaf-list: its keys, and its JSON.
+#[derive(Drop)]
+struct Entry<'a> {
+    keys: &'a Keys,
+    json: Json,
+}
+
+/// The items of an array: the JSON of entries, in their order.
+fn items_of(alloc: Global, entries: Vec<Entry>) -> Result<Vec<Json>, NoMemory>
+    ensures { IfOk result (λ items. map view items.items ≡ map (λ entry. entry.json) (map entry_of entries.entry.items)) }
+{
+    let mut items = Vec::with_capacity(alloc, entries.len())?;
+    for entry in entries {
+        let Entry { keys: _, json } = entry;
+        items.push(json)?;
+    }
+    Ok(items)
 }
 
 /// Writes what stands at a path, whose last segment is handed in beside it.
@@ -146,9 +165,10 @@ fn write_node(
             depth + 1,
             rows,
         )?)),
-        Kind::List | Kind::LeafList => Ok(Json::Array(write_items(
-            alloc, schema, node, depth, rows,
-        )?)),
+        Kind::List | Kind::LeafList => {
+            let entries = write_entries(alloc, schema, node, depth, rows)?;
+            Ok(Json::Array(items_of(alloc, entries)?))
+        }
         Kind::Leaf => match rows.split_first() {
             Some((row, _)) => write_leaf(alloc, schema, node, &row.value),
             None => Ok(Json::Null),
@@ -156,31 +176,35 @@ fn write_node(
     }
 }
 
-/// Writes the entries of a list or leaf-list: rows of one node at a depth.
+/// Writes the entries of a list or leaf-list, in the order of their keys: rows of one node at a depth.
 #[cycle(write)]
-fn write_items(
+fn write_entries<'a>(
     alloc: Global,
     schema: &Schema,
     node: u32,
     depth: usize,
-    rows: &[Row],
-) -> Result<Vec<Json>, NoMemory>
+    rows: &'a [Row],
+) -> Result<Vec<Entry<'a>>, NoMemory>
     requires schema { IsSchema schema.now }
     requires below { GoOnBelow schema.now depth rows.now }
     requires of_node { AllGoThrough depth node rows.now }
     requires kind { has_items (node_at node schema.now).kind ≡ true }
     requires room { depth + 1 < 2 ^ 64 }
-    ensures { IfOk result (λ items. AreItems schema.now depth node rows.now (map view items.items)) }
+    ensures { IfOk result (λ entries. AreEntries schema.now depth node rows.now (map entry_of entries.items)) }
 {
-    let mut items = Vec::new(alloc);
+    let mut entries = Vec::new(alloc);
     let mut left = rows;
     while let Some((first, _)) = left.split_first() {
         let seg = segment(first, depth);
         let (entry, others) = split_entry(left, depth, seg);
-        items.push(write_item(alloc, schema, seg, depth + 1, entry)?)?;
+        let json = write_item(alloc, schema, seg, depth + 1, entry)?;
+        entries.push(Entry {
+            keys: &seg.keys,
+            json,
+        })?;
         left = others;
     }
-    Ok(items)
+    Ok(entries)
 }
 
 /// Writes an entry of a list with its keys, and what its rows have from a depth on, or the value of an

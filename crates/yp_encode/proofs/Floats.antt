@@ -1,14 +1,15 @@
 -- No floating-point number is written.
-use Rattle.std.proofs.Common.{◌≡◌, ℕ, Bool, true, false, ◌||◌, List, [], ◌∷◌, length, cond, refl, ap, ◌∙◌, Option, Some, None}
+use Rattle.std.proofs.Common.{◌≡◌, ℕ, Bool, true, false, ◌||◌, List, [], ◌∷◌, length, map, cond, refl, ap, ◌∙◌, Option, Some, None}
 use Rattle.std.specs.Prelude.{ℤ, pos, negsuc, nat_eq}
 use Rattle.std.proofs.lemmas.Bool.{or_from, or_parts}
 use Rattle.std.specs.Ordering.{nat_cmp, match_ordering}
-use Rattle.std.specs.Cmp.Lexicographic.{slice_cmp, pointwise}
+use Rattle.std.specs.Cmp.Lexicographic.{slice_cmp}
 use Rattle.std.specs.declared.cmp.Ordering.{Ordering}
 use Rattle.std.specs.declared.cmp.Ordering.TheVariants.{Less, Equal, Greater}
 use Rattle.serde_json.specs.Data.{Num, unsigned, Data, null, boolean, number, string, array, object, Items, no_items, item, Members, no_members, member, put}
 use Rattle.serde_json.specs.Written.{has_float, items_have_float, members_have_float}
 use Rattle.serde_json.specs.Find.{of_integer}
+use Rattle.serde_json.specs.View.{items_of}
 use Rattle.yp_base.specs.declared.atom.Atom.{Atom}
 use Rattle.yp_base.specs.declared.atom.Atom.TheVariants.{Bool as Truth, Int, Uint, Dec, Text}
 use Rattle.yp_base.specs.declared.leaf_type.LeafType.{LeafType}
@@ -25,7 +26,7 @@ use Rattle.yp_schema.specs.declared.schema.Kind.TheVariants.{Container, Presence
 use Rattle.yp_schema.specs.Nodes.{node_at}
 use Rattle.yp_data_json.specs.Forest.{Forest, bare, branch, forest_at}
 use Rattle.yp_base.specs.Paths.{last_segment}
-use Rattle.yp_data_json.specs.Writing.{leaf_data, key_data, one_key_data, with_keys, item_in_front, item_data, branch_members, members_in, place_data, data_at, rows_json}
+use Rattle.yp_data_json.specs.Writing.{leaf_data, key_data, one_key_data, with_keys, Entry, Gathered, no_nodes, single, entries, entry_in_front, item_data, branch_in_front, members_of, gathered, members_in, place_data, data_at, rows_json}
 
 integer : (z : ℤ) → has_float (number (of_integer z)) ≡ false
 integer (pos n) = refl
@@ -78,21 +79,18 @@ keys_none nodes (k ∷ ks) (key ∷ keys) ms rest =
 new_item : (name : List ℕ) (d : Data) (ms : Members) → has_float d ≡ false → members_have_float ms ≡ false → members_have_float (member name (array (item d no_items)) ms) ≡ false
 new_item name d ms one rest = or_from (has_float d || false) (members_have_float ms) (or_from (has_float d) false one refl) rest
 
-item_at : (b : Bool) (name other : List ℕ) (d : Data) (ds : Items) (ms : Members) → has_float d ≡ false → members_have_float (member other (array ds) ms) ≡ false
-    → members_have_float (cond b (member other (array (item d ds)) ms) (member name (array (item d no_items)) (member other (array ds) ms))) ≡ false
-item_at true name other d ds ms one rest =
-    or_from (has_float d || items_have_float ds) (members_have_float ms) (or_from (has_float d) (items_have_float ds) one (or_parts (items_have_float ds) (members_have_float ms) rest).0)
-    (or_parts (items_have_float ds) (members_have_float ms) rest).1
-item_at false name other d ds ms one rest = new_item name d (member other (array ds) ms) one rest
+entry_at : (b : Bool) (nodes : List SchemaNode) (n m : ℕ) (e : Entry) (each : List Entry) (g : Gathered) → has_float e.json ≡ false → members_have_float (members_of nodes (entries m each g)) ≡ false
+    → members_have_float (members_of nodes (cond b (entries m (e ∷ each) g) (entries n (e ∷ []) (entries m each g)))) ≡ false
+entry_at true nodes n m e each g one rest =
+    let ds = items_of (map (λ x. x.json) each) in
+    let parts = or_parts (items_have_float ds) (members_have_float (members_of nodes g)) rest in
+    or_from (has_float e.json || items_have_float ds) (members_have_float (members_of nodes g)) (or_from (has_float e.json) (items_have_float ds) one parts.0) parts.1
+entry_at false nodes n m e each g one rest = new_item (node_at n nodes).member e.json (members_of nodes (entries m each g)) one rest
 
-item_none : (name : List ℕ) (d : Data) (ms : Members) → has_float d ≡ false → members_have_float ms ≡ false → members_have_float (item_in_front name d ms) ≡ false
-item_none name d no_members one rest = new_item name d no_members one rest
-item_none name d (member other null ms) one rest = new_item name d (member other null ms) one rest
-item_none name d (member other (boolean b) ms) one rest = new_item name d (member other (boolean b) ms) one rest
-item_none name d (member other (number n) ms) one rest = new_item name d (member other (number n) ms) one rest
-item_none name d (member other (string s) ms) one rest = new_item name d (member other (string s) ms) one rest
-item_none name d (member other (object os) ms) one rest = new_item name d (member other (object os) ms) one rest
-item_none name d (member other (array ds) ms) one rest = item_at (pointwise nat_eq name other) name other d ds ms one rest
+entry_none : (nodes : List SchemaNode) (n : ℕ) (e : Entry) (g : Gathered) → has_float e.json ≡ false → members_have_float (members_of nodes g) ≡ false → members_have_float (members_of nodes (entry_in_front n e g)) ≡ false
+entry_none nodes n e no_nodes one rest = new_item (node_at n nodes).member e.json no_members one rest
+entry_none nodes n e (single m d g) one rest = new_item (node_at n nodes).member e.json (members_of nodes (single m d g)) one rest
+entry_none nodes n e (entries m each g) one rest = entry_at (nat_eq n m) nodes n m e each g one rest
 
 item_data_none : (nodes : List SchemaNode) (k : Kind) (node : SchemaNode) (seg : Seg) (kids : Members) → members_have_float kids ≡ false → has_float (item_data nodes k node seg kids) ≡ false
 item_data_none nodes Container node seg kids below = refl
@@ -101,13 +99,13 @@ item_data_none nodes Listing node seg kids below = keys_none nodes node.keys seg
 item_data_none nodes Leaf node seg kids below = refl
 item_data_none nodes LeafList node seg kids below = one_key node.ty seg.keys
 
-branch_none : (nodes : List SchemaNode) (k : Kind) (name : List ℕ) (node : SchemaNode) (seg : Seg) (own : Option Value) (kids next : Members) → members_have_float kids ≡ false → members_have_float next ≡ false
-    → members_have_float (branch_members nodes k name node seg own kids next) ≡ false
-branch_none nodes Container name node seg own kids next below later = or_from (members_have_float kids) (members_have_float next) below later
-branch_none nodes Presence name node seg own kids next below later = or_from (members_have_float kids) (members_have_float next) below later
-branch_none nodes Listing name node seg own kids next below later = item_none name (item_data nodes Listing node seg kids) next (item_data_none nodes Listing node seg kids below) later
-branch_none nodes Leaf name node seg own kids next below later = or_from (has_float (leaf_data node.ty own)) (members_have_float next) (leaf node.ty own) later
-branch_none nodes LeafList name node seg own kids next below later = item_none name (item_data nodes LeafList node seg kids) next (item_data_none nodes LeafList node seg kids below) later
+branch_none : (nodes : List SchemaNode) (k : Kind) (node : SchemaNode) (seg : Seg) (own : Option Value) (kids : Members) (next : Gathered) → members_have_float kids ≡ false → members_have_float (members_of nodes next) ≡ false
+    → members_have_float (members_of nodes (branch_in_front nodes k node seg own kids next)) ≡ false
+branch_none nodes Container node seg own kids next below later = or_from (members_have_float kids) (members_have_float (members_of nodes next)) below later
+branch_none nodes Presence node seg own kids next below later = or_from (members_have_float kids) (members_have_float (members_of nodes next)) below later
+branch_none nodes Listing node seg own kids next below later = entry_none nodes seg.node (record { keys = seg.keys; json = item_data nodes Listing node seg kids }) next (item_data_none nodes Listing node seg kids below) later
+branch_none nodes Leaf node seg own kids next below later = or_from (has_float (leaf_data node.ty own)) (members_have_float (members_of nodes next)) (leaf node.ty own) later
+branch_none nodes LeafList node seg own kids next below later = entry_none nodes seg.node (record { keys = seg.keys; json = item_data nodes LeafList node seg kids }) next (item_data_none nodes LeafList node seg kids below) later
 
 place_none : (nodes : List SchemaNode) (k : Kind) (node : SchemaNode) (seg : Seg) (own : Option Value) (kids : Members) → members_have_float kids ≡ false → has_float (place_data nodes k node seg own kids) ≡ false
 place_none nodes Container node seg own kids below = below
@@ -119,7 +117,7 @@ place_none nodes LeafList node seg own kids below = or_from (has_float (item_dat
 members_none : (nodes : List SchemaNode) (f : Forest) → members_have_float (members_in nodes f) ≡ false
 members_none nodes bare = refl
 members_none nodes (branch seg own kids next) =
-    branch_none nodes (node_at seg.node nodes).kind (node_at seg.node nodes).member (node_at seg.node nodes) seg own (members_in nodes kids) (members_in nodes next) (members_none nodes kids) (members_none nodes next)
+    branch_none nodes (node_at seg.node nodes).kind (node_at seg.node nodes) seg own (members_in nodes kids) (gathered nodes next) (members_none nodes kids) (members_none nodes next)
 
 -- the JSON of rows has none
 pub rows_none : (nodes : List SchemaNode) (at : List Seg) (rows : List Row) → has_float (rows_json nodes at rows) ≡ false

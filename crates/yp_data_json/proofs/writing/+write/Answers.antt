@@ -1,9 +1,9 @@
 use Rattle.std.proofs.Common.{◌≡◌, ◌+◌, ◌<◌, ◌≤◌, ℕ, true, List, [], ◌∷◌, ◌++◌, length, drop, map, Some, inl, inr, Result, Ok, Err, sym, ap, subst, ◌∙◌, arith, rules, append-nil, length-append, string_bytes}
-use Rattle.std.proofs.lemmas.List.{map-append}
+use Rattle.std.proofs.lemmas.List.{map_push}
 use Rattle.std.specs.List.{AllByRecursion}
 use Rattle.std.proofs.Math.ListN.{drop_of_length-le}
-use Rattle.serde_json.specs.Data.{Data, object, no_members, put}
-use Rattle.serde_json.specs.View.{view, members_view}
+use Rattle.serde_json.specs.Data.{Data, array, object, no_members, put}
+use Rattle.serde_json.specs.View.{view, members_view, items_of}
 use Rattle.serde_json.proofs.Views.{members_view-insert_entry, view-Array, view-Object}
 use Rattle.serde_json.specs.declared.value.Value.{Value}
 use Rattle.std.specs.Prelude.{IfOk}
@@ -12,12 +12,12 @@ use Rattle.yp_base.specs.declared.memory.NoMemory.{NoMemory}
 use Rattle.yp_schema.specs.declared.schema.SchemaNode.{SchemaNode}
 use Rattle.yp_schema.specs.Nodes.{node_at}
 use Rattle.yp_data_json.specs.Forest.{laid_all}
-use Rattle.yp_data_json.specs.Writing.{leaf_data, members_in}
-use Rattle.yp_data_json.specs.Runs.{longest, IsRest, AreBelow, AreNodes, goes_through, AllGoThrough, all_in_front, AreOneMember}
+use Rattle.yp_data_json.specs.Writing.{leaf_data, gathered, members_in}
+use Rattle.yp_data_json.specs.Runs.{longest, IsRest, AreBelow, AreNodes, goes_through, AllGoThrough, entry_of, all_in_front, AreOneMember}
 use Rattle.yp_data_json.proofs.Parts.{all_front, all_back}
 use Rattle.yp_schema.specs.SchemaLaws.{segment_within}
 use Rattle.yp_data_json.proofs.Below.{front_below, back_below, next_segment, further, AllBefore, NextBefore}
-use Rattle.yp_data_json.proofs.Steps.{longest_front, longest_back, deep_rows, deep_left, first_next, first_node, all_before_none, own_row_adds, run_some, some_rows, last_next, last_before, one_more, regrouped, rest_before, has_plain, plain_below, container_member, presence_member, leaf_fits, leaf_member, entry_some, item_step, items_member, keys_within}
+use Rattle.yp_data_json.proofs.Steps.{longest_front, longest_back, deep_rows, deep_left, first_next, first_node, all_before_none, own_row_adds, run_some, some_rows, last_next, last_before, one_more, regrouped, rest_before, has_plain, plain_below, container_member, presence_member, leaf_fits, leaf_member, entry_some, entry_step, entries_member, keys_within}
 use Rattle.yp_data_json.proofs.writing.+write.Goals as goal
 
 pub write_item-put_keys-requires-clause-nodes : goal.write_item-put_keys-requires-clause-nodes
@@ -26,8 +26,8 @@ write_item-put_keys-requires-clause-nodes t c =
     let seg = c.args.seg.now in
     subst (λ ks. AreNodes nodes ks) (sym c.keys.ensures.keys) (keys_within nodes c.requires.schema seg.node (segment_within nodes seg c.requires.segment) (sym c.kind.ensures ∙ c.in-List.is))
 
-pub write_items-write_item-requires : goal.write_items-write_item-requires
-write_items-write_item-requires t c =
+pub write_entries-write_item-requires : goal.write_entries-write_item-requires
+write_entries-write_item-requires t c =
     let nodes = c.args.schema.now in
     let depth = c.args.depth in
     let seg = c.segment-seg.result.now in
@@ -51,8 +51,8 @@ write_items-write_item-requires t c =
       ),
     )
 
-pub write_items-loop-first-preserved : goal.write_items-loop-first-preserved
-write_items-loop-first-preserved t c =
+pub write_entries-loop-first-preserved : goal.write_entries-loop-first-preserved
+write_entries-loop-first-preserved t c =
     let nodes = c.args.schema.now in
     let depth = c.args.depth in
     let seg = c.segment-seg.result.now in
@@ -67,14 +67,14 @@ write_items-loop-first-preserved t c =
     let less : longest left ≤ longest c.args.rows.now = c.loop-first.invariant.2 in
     let some = entry_some depth seg left c.in-Some.first.now _ entry others first c.segment-seg.ensures.is parts c.split_entry.ensures.others in
     let same = first_node depth c.args.node seg left c.in-Some.first.now _ first c.segment-seg.ensures.is c.loop-first.invariant.1 in
-    let step = item_step nodes depth c.args.node seg c.args.rows.now left entry others some.0 some.1.0 (map view c.loop-first.items.items) (view c.in_ok-write_item.field-0) c.requires.kind same parts some.1.1
-    c.split_entry.ensures.entry through c.split_entry.ensures.others c.in_ok-write_item.ensures c.loop-first.invariant.3 in
-    let pushed : map view c.push.new.self.items ≡ map view c.loop-first.items.items ++ view c.in_ok-write_item.field-0 ∷ [] =
-    ap (map view) c.in_ok-push.ensures.items ∙ map-append view c.loop-first.items.items (c.in_ok-write_item.field-0 ∷ []) in (
+    let written = c.in_ok-json.ensures in
+    let step = entry_step nodes depth c.args.node seg c.args.rows.now left entry others some.0 some.1.0 (map entry_of c.loop-first.entries.items) (record { keys = seg.keys; json = view c.in_ok-json.json }) c.requires.kind same parts some.1.1
+    c.split_entry.ensures.entry through c.split_entry.ensures.others (λ i. record { keys = seg.keys; json = written i }) c.loop-first.invariant.3 in
+    let pushed = ap (map entry_of) c.in_ok-push.ensures.items ∙ map_push entry_of c.loop-first.entries.items _ in (
       (below.0, back_below nodes below.0 depth entry others (subst (λ rows. AreBelow nodes below.0 depth rows) parts below.1)),
       through,
       omega arith,
-      λ f before. step f before ∙ ap (λ ds. all_in_front (node_at c.args.node nodes).member ds (members_in nodes (laid_all depth others f))) (sym pushed),
+      λ f before. step f before ∙ ap (λ es. all_in_front c.args.node es (gathered nodes (laid_all depth others f))) (sym pushed),
     )
 
 pub write_members-loop-last-init : goal.write_members-loop-last-init
@@ -224,10 +224,12 @@ write_node-returns-in_ok-write_members-in-Container t c =
     ] in
     subst (λ d. AreOneMember nodes c.args.depth c.args.node c.args.rows.now d) (sym (view-Object made)) written
 
-pub write_node-returns-in_ok-write_items-in-List : goal.write_node-returns-in_ok-write_items-in-List
-write_node-returns-in_ok-write_items-in-List t c =
-    let member_is = items_member c.args.schema.now c.args.depth c.args.node c.args.rows.now (map view c.in_ok-write_items-in-List.field-0.items) c.requires.of_node c.requires.some c.in_ok-write_items-in-List.ensures in
-    subst (λ d. AreOneMember c.args.schema.now c.args.depth c.args.node c.args.rows.now d) (sym (view-Array c.in_ok-write_items-in-List.field-0)) member_is
+pub write_node-returns-in_ok-items_of-in-List : goal.write_node-returns-in_ok-items_of-in-List
+write_node-returns-in_ok-items_of-in-List t c =
+    let nodes = c.args.schema.now in
+    let made = c.in_ok-items_of-in-List.field-0 in
+    let member_is = entries_member nodes c.args.depth c.args.node c.args.rows.now (map entry_of c.in_ok-entries-in-List.entries.items) c.requires.of_node c.requires.some c.in_ok-entries-in-List.ensures in
+    subst (λ d. AreOneMember nodes c.args.depth c.args.node c.args.rows.now d) (ap (λ ds. array (items_of ds)) (sym c.in_ok-items_of-in-List.ensures) ∙ sym (view-Array made)) member_is
 
 pub write_node-returns-in-Some : goal.write_node-returns-in-Some
 write_node-returns-in-Some t c =
