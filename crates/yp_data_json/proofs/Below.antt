@@ -191,7 +191,7 @@ front_before nodes schema parent depth n d ms front row more below is apart =
 
 -- ---- segments
 
-drop_next : (i : ℕ) (xs : List Seg) (x : Seg) (rest : List Seg) → drop i xs ≡ x ∷ rest → drop (i + 1) xs ≡ rest
+pub drop_next : (i : ℕ) (xs : List Seg) (x : Seg) (rest : List Seg) → drop i xs ≡ x ∷ rest → drop (i + 1) xs ≡ rest
 drop_next i xs x rest h = sym (drop-drop 1 i xs) ∙ ap (drop 1) h
 
 pub segment_at : (depth n : ℕ) (row : Row) (path : List Seg) → drop depth row.path ≡ path → begins_with n path ≡ true → (seg : Seg) × (HasSegment depth seg row × (seg.node ≡ n))

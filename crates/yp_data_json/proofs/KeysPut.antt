@@ -1,6 +1,5 @@
 -- Keys put one by one.
-use Rattle.std.proofs.Common.{◌≡◌, ℕ, ◌+◌, ◌<◌, List, [], ◌∷◌, length, get_or, drop, true, ◌&&◌, refl, sym, ap, subst, ◌∙◌}
-use Rattle.std.proofs.lemmas.List.{drop_more}
+use Rattle.std.proofs.Common.{◌≡◌, ℕ, ◌<◌, List, [], ◌∷◌, length, true, ◌&&◌, refl, sym, ap, subst, ◌∙◌}
 use Rattle.yp_base.specs.declared.atom.Atom.{Atom}
 use Rattle.yp_schema.specs.declared.schema.SchemaNode.{SchemaNode}
 use Rattle.yp_schema.specs.Nodes.{node_at}
@@ -33,7 +32,3 @@ fit_first nodes all k ks atoms key keys is are h = (and_parts _ _ (fit_both node
 pub none_put : (nodes : List SchemaNode) (ks : List ℕ) (ms : Members) → with_keys nodes ks [] ms ≡ ms
 none_put nodes [] ms = refl
 none_put nodes (k ∷ ks) ms = refl
-
--- a key and those after it
-pub next_key : (keys : List Atom) (i : ℕ) (key : Atom) → i < length keys → key ≡ get_or keys i key → drop i keys ≡ key ∷ drop (i + 1) keys
-next_key keys i key low is = drop_more keys i key low ∙ ap (λ (k : Atom). k ∷ drop (i + 1) keys) (sym is)

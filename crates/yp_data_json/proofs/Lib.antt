@@ -5,6 +5,7 @@ pub mod Again
 pub mod AtPlace
 pub mod Below
 pub mod Branches
+pub mod Entries
 pub mod Faults
 pub mod Fits
 pub mod Growing

@@ -236,16 +236,16 @@ module _ (nodes : List SchemaNode) (schema : IsSchema nodes) where
       → Spine nodes parent (branch seg (own_of rest v None) (laid rest v bare) next) × (first_path path (branch seg (own_of rest v None) (laid rest v bare) next) ≡ r)
   fresh parent path seg [] v next r is goes fits =
       let down = row_goes_down nodes parent (seg ∷ []) v goes in (
-    (
-      found_of parent seg [] down,
-      no_key_of parent seg [] v goes,
-      within_of parent seg [] down,
-      end_new nodes (node_at seg.node nodes).kind (node_at seg.node nodes) seg v (keys_right parent seg [] down) (value_right parent seg v goes),
-      tt,
-      fits,
-    ),
-    sym is,
-  )
+        (
+          found_of parent seg [] down,
+          no_key_of parent seg [] v goes,
+          within_of parent seg [] down,
+          end_new nodes (node_at seg.node nodes).kind (node_at seg.node nodes) seg v (keys_right parent seg [] down) (value_right parent seg v goes),
+          tt,
+          fits,
+        ),
+        sym is,
+      )
   fresh parent path seg (s ∷ rest) v next r is goes fits =
       let down = row_goes_down nodes parent (seg ∷ s ∷ rest) v goes in
       let below = further parent seg (s ∷ rest) down in

@@ -1,5 +1,5 @@
 -- Rows cut into runs: the rows of one member, and of one entry.
-use Rattle.std.specs.Prelude.{◌≡◌, ℕ, ◌+◌, ◌<◌, List, [], ◌∷◌, ◌++◌, drop, length, max, map, Bool, true, false, Option, nat_eq}
+use Rattle.std.specs.Prelude.{◌≡◌, ℕ, ◌+◌, ◌<◌, ◌≤◌, List, [], ◌∷◌, ◌++◌, take, drop, length, max, map, Bool, true, false, Option, nat_eq}
 use Rattle.std.specs.Cmp.Lexicographic.{slice_cmp}
 use Rattle.std.specs.Ordering.{nat_cmp}
 use Rattle.std.specs.declared.cmp.Ordering.TheVariants.{Less}
@@ -37,10 +37,14 @@ IsRest nodes parent depth row = GoesOn nodes parent (drop depth row.path) row.va
 abbrev pub rest_of : ℕ → Row → List Seg
 rest_of depth row = drop depth row.path
 
--- rows that go on below one node, or from the top, in the order of what is left of their paths
+-- rows in the order of what is left of their paths
+abbrev pub AreRising : ℕ → List Row → Type 0
+AreRising depth rows = IsStrictlySortedBy path_cmp (map (rest_of depth) rows)
+
+-- rows that go on below one node, or from the top, in such order
 pub record AreBelow (nodes : List SchemaNode) (parent : Option ℕ) (depth : ℕ) (rows : List Row) : Type 0 where
   pub each : AllByRecursion (IsRest nodes parent depth) rows
-  pub in_order : IsStrictlySortedBy path_cmp (map (rest_of depth) rows)
+  pub in_order : AreRising depth rows
 
 abbrev pub GoOnBelow : List SchemaNode → ℕ → List Row → Type 0
 GoOnBelow nodes depth rows = (parent : Option ℕ) × AreBelow nodes parent depth rows
@@ -78,10 +82,22 @@ ends_through depth node (row ∷ next ∷ rows) = ends_through depth node (next 
 abbrev pub HasSegment : ℕ → Seg → Row → Type 0
 HasSegment depth seg row = drop depth row.path ≡ seg ∷ drop (depth + 1) row.path
 
+-- the first row's path does
+abbrev pub StartsWith : ℕ → Seg → List Row → Type 0
+StartsWith depth seg [] = ⊥
+StartsWith depth seg (row ∷ rows) = HasSegment depth seg row
+
 -- the first row's path doesn't
 abbrev pub StartsApart : ℕ → Seg → List Row → Type 0
 StartsApart depth seg [] = Unit {0}
 StartsApart depth seg (row ∷ rows) = HasSegment depth seg row → ⊥
+
+-- the rows of an entry that rows begin with go at least so far, and at most
+pub record EndsBetween (depth : ℕ) (seg : Seg) (rows : List Row) (low high : ℕ) : Type 0 where
+  pub order : low ≤ high
+  pub within : high ≤ length rows
+  pub run : AllByRecursion (HasSegment depth seg) (take low rows)
+  pub apart : StartsApart depth seg (drop high rows)
 
 -- ---- what is written of a run
 

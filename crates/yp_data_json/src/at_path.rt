@@ -22,7 +22,7 @@ use yp_base::payload::{Content, Payload};
 use yp_base::row::{Row, Rows, Value};
 use yp_base::series::Series;
 use yp_schema::schema::{Kind, Schema};
-use yp_tree::tree::Tree;
+use yp_tree::rising::Rising;
 
 /// Puts the rows of the list entry that a path names.
 fn read_named_entry(
@@ -32,7 +32,7 @@ fn read_named_entry(
     above: &Path,
     keys: &Keys,
     json: &Json,
-    rows: &mut Tree,
+    rows: &mut Rising,
 ) -> Result<(), DataFault>
     requires { node < length schema.now }
     ensures { Leaves result rows.new (named_entry schema.now node above.now keys.now (view json.now) rows.old) }
@@ -59,7 +59,7 @@ fn read_named_value(
     above: &Path,
     keys: &Keys,
     json: &Json,
-    rows: &mut Tree,
+    rows: &mut Rising,
 ) -> Result<(), DataFault>
     requires { node < length schema.now }
     ensures { Leaves result rows.new (named_value schema.now node above.now keys.now (view json.now) rows.old) }
@@ -81,7 +81,7 @@ fn read_one(
     above: &Path,
     keys: &Keys,
     items: &Vec<Json>,
-    rows: &mut Tree,
+    rows: &mut Rising,
 ) -> Result<(), DataFault>
     requires { node < length schema.now }
     ensures { Leaves result rows.new (one_of (items_view items.now.items) (λ d. named_entry schema.now node above.now keys.now d rows.old)) }
@@ -103,7 +103,7 @@ fn read_one_value(
     above: &Path,
     keys: &Keys,
     items: &Vec<Json>,
-    rows: &mut Tree,
+    rows: &mut Rising,
 ) -> Result<(), DataFault>
     requires { node < length schema.now }
     ensures { Leaves result rows.new (one_of (items_view items.now.items) (λ d. named_value schema.now node above.now keys.now d rows.old)) }
@@ -125,7 +125,7 @@ fn read_named(
     above: &Path,
     keys: &Keys,
     json: &Json,
-    rows: &mut Tree,
+    rows: &mut Rising,
 ) -> Result<(), DataFault>
     requires { node < length schema.now }
     ensures { Leaves result rows.new (named_read schema.now node above.now keys.now (view json.now) rows.old) }
@@ -152,7 +152,7 @@ fn read_outer(
     above: &Path,
     keys: &Keys,
     members: &Map<String, Json>,
-    rows: &mut Tree,
+    rows: &mut Rising,
 ) -> Result<(), DataFault>
     requires within { node < length schema.now }
     requires name { name.now ≡ qualified_name (node_at node schema.now) }
@@ -203,7 +203,7 @@ fn read_object(
                 return Err(DataFault::InvalidValue);
             }
             let name = qualified(alloc, schema, node)?;
-            let mut rows = Tree::new(alloc);
+            let mut rows = Rising::new(alloc);
             read_outer(
                 alloc,
                 schema,
@@ -284,7 +284,7 @@ fn read_node_rows(
     ensures { Gives result (named_read schema.now last.now.node above.now last.now.keys (view json.now) []) }
 {
     let above = path_of(alloc, above)?;
-    let mut rows = Tree::new(alloc);
+    let mut rows = Rising::new(alloc);
     read_named(
         alloc, schema, last.node, &above, &last.keys, json, &mut rows,
     )?;

@@ -13,4 +13,5 @@ pub mod fault;
 pub mod holding;
 mod keys;
 mod reading;
+mod runs;
 pub mod writing;

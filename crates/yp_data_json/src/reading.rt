@@ -13,7 +13,7 @@ use yp_base::path::{Path, Seg};
 use yp_base::row::{Row, Rows, Value};
 use yp_base::series::Series;
 use yp_schema::schema::{Kind, Schema};
-use yp_tree::tree::Tree;
+use yp_tree::rising::Rising;
 
 /// The path of a node below another.
 pub fn path_below(alloc: Global, path: &Path, node: u32, keys: Keys) -> Result<Path, NoMemory>
@@ -38,7 +38,7 @@ fn read_leaf(
     node: u32,
     path: &Path,
     json: &Json,
-    rows: &mut Tree,
+    rows: &mut Rising,
 ) -> Result<(), DataFault>
     requires { node < length schema.now }
     ensures { Leaves result rows.new (leaf_read schema.now node path.now (view json.now) rows.old) }
@@ -50,7 +50,7 @@ fn read_leaf(
 }
 
 /// Puts the row of an entry, of which there is none yet.
-pub fn enter(alloc: Global, path: Path, value: Value, rows: &mut Tree) -> Result<(), DataFault>
+pub fn enter(alloc: Global, path: Path, value: Value, rows: &mut Rising) -> Result<(), DataFault>
     ensures { Leaves result rows.new (entered path value rows.old) }
 {
     match rows.replace(alloc, Row { path, value })? {
@@ -66,7 +66,7 @@ fn read_entry_value(
     node: u32,
     path: &Path,
     json: &Json,
-    rows: &mut Tree,
+    rows: &mut Rising,
 ) -> Result<(), DataFault>
     requires { node < length schema.now }
     ensures { Leaves result rows.new (value_read schema.now node path.now (view json.now) rows.old) }
@@ -83,7 +83,7 @@ fn read_values(
     node: u32,
     path: &Path,
     items: &Vec<Json>,
-    rows: &mut Tree,
+    rows: &mut Rising,
 ) -> Result<(), DataFault>
     requires { node < length schema.now }
     ensures { Leaves result rows.new (values_read schema.now node path.now (items_view items.now.items) rows.old) }
@@ -102,7 +102,7 @@ pub fn read_members(
     parent: Option<u32>,
     path: &Path,
     members: &Map<String, Json>,
-    rows: &mut Tree,
+    rows: &mut Rising,
 ) -> Result<(), DataFault>
     requires { IfSome parent (λ parent. parent < length schema.now) }
     ensures { Leaves result rows.new (members_read schema.now parent path.now (members_view members.now.entries) rows.old) }
@@ -127,7 +127,7 @@ pub fn read_node(
     node: u32,
     path: &Path,
     json: &Json,
-    rows: &mut Tree,
+    rows: &mut Rising,
 ) -> Result<(), DataFault>
     requires { node < length schema.now }
     ensures { Leaves result rows.new (node_read schema.now node path.now (view json.now) rows.old) }
@@ -172,7 +172,7 @@ fn read_entries(
     node: u32,
     path: &Path,
     items: &Vec<Json>,
-    rows: &mut Tree,
+    rows: &mut Rising,
 ) -> Result<(), DataFault>
     requires { node < length schema.now }
     ensures { Leaves result rows.new (entries_read schema.now node path.now (items_view items.now.items) rows.old) }
@@ -191,7 +191,7 @@ fn read_entry(
     node: u32,
     path: &Path,
     json: &Json,
-    rows: &mut Tree,
+    rows: &mut Rising,
 ) -> Result<(), DataFault>
     requires { node < length schema.now }
     ensures { Leaves result rows.new (entry_read schema.now node path.now (view json.now) rows.old) }
@@ -213,7 +213,7 @@ pub fn read_datastore(alloc: Global, schema: &Schema, json: &Json) -> Result<Row
 {
     match json {
         Json::Object(members) => {
-            let mut rows = Tree::new(alloc);
+            let mut rows = Rising::new(alloc);
             let top = Path::from_vec(Vec::new(alloc));
             read_members(alloc, schema, None, &top, members, &mut rows)?;
             Ok(rows.into_rows(alloc)?)

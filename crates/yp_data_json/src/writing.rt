@@ -1,6 +1,5 @@
 //! Writing rows as JSON (RFC 7951 sections 4 to 6).
-ghost use Rattle.std.specs.Prelude.{◌≡◌, ◌<◌, ◌+◌, ◌^◌, ◌++◌, length, drop, IfOk, OnOk, Some, Ok, List, map, true, false};
-ghost use Rattle.std.specs.List.{AllByRecursion};
+ghost use Rattle.std.specs.Prelude.{◌≡◌, ◌<◌, ◌+◌, ◌^◌, length, drop, IfOk, OnOk, Some, Ok, List, map, true};
 ghost use Rattle.serde_json.specs.View.{view, members_view};
 ghost use Rattle.yp_schema.specs.Nodes.{node_at, qualified_name};
 ghost use Rattle.serde_json.specs.Data.{object, member, no_members, put};
@@ -12,8 +11,9 @@ ghost use Rattle.yp_base.specs.declared.row.Row.{Row};
 ghost use Rattle.yp_data_json.specs.AtPath.{rows_read};
 ghost use Rattle.yp_data_json.specs.Forest.{forest_at};
 ghost use Rattle.yp_data_json.specs.Writing.{rows_json, data_at, members_in, with_keys, item_data, key_data, leaf_data};
-ghost use Rattle.yp_data_json.specs.Runs.{EndsIn, goes_through as goes_through_node, AllGoThrough, ends_through, HasSegment, StartsApart, GoOnBelow, AreNodes, AreOneMember, AreEntries, has_items, entry_of};
+ghost use Rattle.yp_data_json.specs.Runs.{EndsIn, AllGoThrough, GoOnBelow, AreNodes, AreOneMember, AreEntries, has_items, entry_of};
 
+use crate::runs::{segment, split_entry, split_run};
 use serde_json::{Map, Value as Json};
 use std::alloc::Global;
 use yp_base::atom::{Atom, Keys};
@@ -308,62 +308,6 @@ fn write_leaf(alloc: Global, schema: &Schema, node: u32, value: &Value) -> Resul
         Some(ty) => write_json(alloc, ty, value),
         None => Ok(Json::Null),
     }
-}
-
-/// The segment of a row's path at a depth.
-fn segment(row: &Row, depth: usize) -> &Seg
-    requires { depth < length row.now.path }
-    ensures is { HasSegment depth result.now row.now }
-    ensures room { depth + 1 < 2 ^ 64 }
-{
-    &row.path.items()[depth]
-}
-
-/// Whether a row's path goes through a node at a depth.
-fn goes_through(row: &Row, depth: usize, node: u32) -> bool
-    ensures { result ≡ goes_through_node depth node row.now }
-{
-    row.path.len() > depth && segment(row, depth).node == node
-}
-
-/// Rows before a run of one node at their end, and that run.
-fn split_run<'a>(rows: &'a [Row], depth: usize, node: u32) -> (&'a [Row], &'a [Row])
-    ensures parts { rows.now ≡ result.0.now ++ result.1.now }
-    ensures run { AllGoThrough depth node result.1.now }
-    ensures front { ends_through depth node result.0.now ≡ false }
-{
-    let mut front = rows;
-    while let Some((last, before)) = front.split_last() {
-        if !goes_through(last, depth, node) {
-            break;
-        }
-        front = before;
-    }
-    rows.split_at(front.len())
-}
-
-/// The rows of one entry at the beginning of rows, and the others.
-fn split_entry<'a>(rows: &'a [Row], depth: usize, seg: &Seg) -> (&'a [Row], &'a [Row])
-    ensures parts { rows.now ≡ result.0.now ++ result.1.now }
-    ensures entry { AllByRecursion (HasSegment depth seg.now) result.0.now }
-    ensures others { StartsApart depth seg.now result.1.now }
-{
-    let mut others = rows;
-    while let Some((first, later)) = others.split_first() {
-        if !has_segment(first, depth, seg) {
-            break;
-        }
-        others = later;
-    }
-    rows.split_at(rows.len() - others.len())
-}
-
-/// Whether a row's path has a segment at a depth.
-fn has_segment(row: &Row, depth: usize, seg: &Seg) -> bool
-    ensures is { result ≡ true → HasSegment depth seg.now row.now }
-    ensures isnt { result ≡ false → HasSegment depth seg.now row.now → ⊥ }
-{
-    row.path.len() > depth && segment(row, depth) == seg
 }
 
 #[cfg(test)]

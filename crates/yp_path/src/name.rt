@@ -1,7 +1,6 @@
 //! Names of children.
-ghost use Rattle.std.specs.Prelude.{◌≡◌, ◌<◌, length, IfSome, true};
-ghost use Rattle.yp_schema.specs.Nodes.{node_at, child_of};
-ghost use Rattle.yp_schema.specs.WellFormed.{IsSchema, is_at_home};
+ghost use Rattle.std.specs.Prelude.{◌≡◌, ◌<◌, length, IfSome};
+ghost use Rattle.yp_schema.specs.WellFormed.{is_at_home};
 ghost use Rattle.yp_path.specs.Names.{child_named, own_child};
 
 use crate::cut::cut_once;

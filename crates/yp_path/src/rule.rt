@@ -1,7 +1,7 @@
 //! Rule paths: reading.
 ghost use Rattle.std.specs.Prelude.{◌≡◌, ◌<◌, length, All, IfOk, IfSome, Some, None, option_copied};
 ghost use Rattle.yp_base.specs.Paths.{same_number};
-ghost use Rattle.yp_schema.specs.Nodes.{node_at, is_in};
+ghost use Rattle.yp_schema.specs.Nodes.{is_in};
 ghost use Rattle.yp_schema.specs.RulePaths.{IsRulePathOf};
 ghost use Rattle.yp_path.specs.RulePaths.{pieces, node_named, key_named, given_for, is_new, each_once, key_value, rule_keys, with_predicates, rule_segment_in, rule_segments_in, rule_path_in};
 ghost use Rattle.yp_path.specs.Targets.{Gives, asked};
@@ -11,7 +11,7 @@ use crate::cut::behind;
 use crate::fault::PathFault;
 use crate::mark::{Place, cut_bare};
 use crate::name::child_named;
-use crate::predicate::{Predicate, Predicates, read_part};
+use crate::predicate::{Predicate, read_part};
 use crate::target::read_value;
 use std::alloc::Global;
 use yp_base::atom::Atom;

@@ -4,7 +4,6 @@ ghost use Rattle.yp_base.specs.Texts.{is_writable};
 ghost use Rattle.yp_base.specs.Cuts.{cut};
 ghost use Rattle.yp_schema.specs.Datastore.{is_path_of};
 ghost use Rattle.yp_schema.specs.Nodes.{node_at};
-ghost use Rattle.yp_base.specs.Results.{or_fault};
 ghost use Rattle.yp_path.specs.Texts.{texts_of, parts_of};
 ghost use Rattle.yp_path.specs.Targets.{Gives, value_of, values_read, with_values, asked, name_part, key_parts, segment_in, segments_in, target_in, keys_text, segment_text, target_text, are_texts, keys_read};
 

@@ -1,3 +1,4 @@
+pub mod Appending
 pub mod Without
 pub mod Cuts
 pub mod Nexts

@@ -9,6 +9,7 @@
 //! none: visits bound what is read for an update, and not what a patch costs.
 #![tactic(auto)]
 
+pub mod rising;
 #[cfg(test)]
 mod tests;
 pub mod tree;

@@ -210,6 +210,9 @@ impl Tree {
     {
         let _count = self.len();
         let paths = self.paths_within(alloc, under)?;
+        if paths.is_empty() {
+            return self.put_all(alloc, rows);
+        }
         let news = Tree::of_rows(alloc, rows)?;
         self.put_all(alloc, rows)?;
         self.leave_out_others(paths.as_slice(), &news);

@@ -1,7 +1,7 @@
 use Rattle.std.proofs.Common.{◌≡◌, ◌∷◌, ◌+◌, drop, true≢false, sym, ap, ◌∙◌}
 use Rattle.yp_base.specs.declared.path.Seg.{Seg}
 use Rattle.yp_base.specs.Exact.{segments_decide}
-use Rattle.yp_data_json.proofs.writing.has_segment.Goals as goal
+use Rattle.yp_data_json.proofs.runs.has_segment.Goals as goal
 
 pub returns-then-len-depth-clause-is : goal.returns-then-len-depth-clause-is
 returns-then-len-depth-clause-is c =

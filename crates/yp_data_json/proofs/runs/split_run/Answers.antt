@@ -1,8 +1,8 @@
 use Rattle.std.proofs.Common.{◌≡◌, false, sym, ap, ◌∙◌}
 use Rattle.yp_data_json.specs.Runs.{ends_through}
 use Rattle.yp_data_json.proofs.Parts.{take_front, ends_last, none_left}
-use Rattle.yp_data_json.proofs.writing.split_run.Goals as goal
-use Rattle.yp_data_json.proofs.writing.split_run.Goals.{in-Some+then-not-goes_through, in_default}
+use Rattle.yp_data_json.proofs.runs.split_run.Goals as goal
+use Rattle.yp_data_json.proofs.runs.split_run.Goals.{in-Some+then-not-goes_through, in_default}
 
 pub returns-clause-front : goal.returns-clause-front
 returns-clause-front c =

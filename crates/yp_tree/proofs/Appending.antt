@@ -1,0 +1,40 @@
+-- A row that comes past rows in order goes last.
+use Rattle.std.proofs.Common.{◌≡◌, List, [], ◌∷◌, ◌++◌, true, refl, Less}
+use Rattle.std.specs.Ordering.{is_lt}
+use Rattle.std.specs.declared.cmp.Ordering.{Ordering}
+use Rattle.yp_base.specs.declared.path.Seg.{Seg}
+use Rattle.yp_base.specs.declared.row.Row.{Row}
+use Rattle.yp_base.specs.Order.{path_cmp}
+use Rattle.yp_base.specs.OrderLaws.{paths_total}
+use Rattle.yp_base.specs.Rows.{put_row, put_rows, AreInOrder}
+use Rattle.yp_base.specs.RowLaws.{AllPast, none_order, first_order, rest_order, join_order}
+use Rattle.yp_tree.specs.Risen.{is_past}
+use Rattle.yp_tree.proofs.Nexts.{is_less}
+
+pub past_last : (path : List Seg) (rows : List Row) (last : Row) → is_past path (rows ++ last ∷ []) ≡ is_lt (path_cmp last.path path)
+past_last path [] last = refl
+past_last path (row ∷ []) last = refl
+past_last path (row ∷ next ∷ rows) last = past_last path (next ∷ rows) last
+
+past_all : (x : Row) (rows : List Row) (row : Row) → AllPast x.path rows → path_cmp x.path row.path ≡ Less → AllPast x.path (rows ++ row ∷ [])
+past_all x [] row past less = (less, tt)
+past_all x (y ∷ rows) row past less = (past.0, past_all x rows row past.1 less)
+
+-- a path that the last of rows in order is before is past all of them
+before_last : (x : Row) (rows : List Row) (row : Row) → AreInOrder (x ∷ rows) → is_past row.path (x ∷ rows) ≡ true → path_cmp x.path row.path ≡ Less
+before_last x [] row order past = is_less (path_cmp x.path row.path) past
+before_last x (y ∷ rows) row order past = paths_total.trans x.path y.path row.path (first_order x (y ∷ rows) order).0 (before_last y rows row (rest_order x (y ∷ rows) order) past)
+
+past_rest : (x : Row) (rows : List Row) (path : List Seg) → is_past path (x ∷ rows) ≡ true → is_past path rows ≡ true
+past_rest x [] path past = refl
+past_rest x (y ∷ rows) path past = past
+
+pub last_order : (rows : List Row) (row : Row) → AreInOrder rows → is_past row.path rows ≡ true → AreInOrder (rows ++ row ∷ [])
+last_order [] row order past = join_order row [] tt none_order
+last_order (x ∷ rows) row order past =
+    join_order x (rows ++ row ∷ []) (past_all x rows row (first_order x rows order) (before_last x rows row order past)) (last_order rows row (rest_order x rows order) (past_rest x rows row.path past))
+
+-- rows put after others
+pub put_rows_last : (news : List Row) (new : Row) (rows : List Row) → put_rows (news ++ new ∷ []) rows ≡ put_row new (put_rows news rows)
+put_rows_last [] new rows = refl
+put_rows_last (first ∷ news) new rows = put_rows_last news new (put_row first rows)
