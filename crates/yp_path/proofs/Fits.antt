@@ -1,13 +1,10 @@
-use Rattle.std.proofs.Common.{◌≡◌, ℕ, zero, suc, ◌<◌, List, [], ◌∷◌, length, get_or, true, false, ◌&&◌, ◌||◌, refl, sym, ap, subst, ◌∙◌, ⊎_elim, Option, Some, None, arith, nat_le}
-use Rattle.std.proofs.lemmas.Bool.{ltb-true, eqb-true, cases_Bool, and_parts}
+use Rattle.std.proofs.Common.{◌≡◌, ℕ, zero, suc, ◌<◌, List, [], ◌∷◌, length, get_or, true, false, refl, sym, ap, subst, ◌∙◌, Option, Some, None, arith}
+use Rattle.std.proofs.lemmas.Bool.{ltb-true, and_parts}
 use Rattle.yp_base.specs.Writable.{fits_writable}
 use Rattle.yp_base.specs.declared.atom.Atom.{Atom}
-use Rattle.yp_base.specs.declared.atom.Atom.TheVariants.{Bool as Truth, Int, Uint, Dec, Text}
 use Rattle.yp_base.specs.declared.leaf_type.LeafType.{LeafType}
-use Rattle.yp_base.specs.declared.leaf_type.LeafType.TheVariants.{Bool as TruthType, Int as IntType, Uint as UintType, Dec as DecType, Text as TextType, Names, Empty}
 use Rattle.yp_base.specs.declared.path.Seg.{Seg}
-use Rattle.yp_base.specs.Types.{is_type, is_among, is_short, are_short, are_names, same_text}
-use Rattle.yp_base.specs.Texts.{fits, is_writable}
+use Rattle.yp_base.specs.Texts.{is_writable}
 use Rattle.yp_schema.specs.declared.schema.SchemaNode.{SchemaNode}
 use Rattle.yp_schema.specs.declared.schema.Kind.{Kind}
 use Rattle.yp_schema.specs.declared.schema.Kind.TheVariants.{Container, Presence, List as Listing, Leaf, LeafList}

@@ -2,7 +2,6 @@ use Rattle.std.proofs.Common.{◌≡◌, ℕ, zero, suc, ◌<◌, ◌+◌, ◌==
 use Rattle.std.specs.List.{position_or_len, before_first, after_first}
 use Rattle.std.proofs.lemmas.Bool.{cond-true, cond-false, cases_Bool, and_from, or_left, or_right, eqb-true, and_parts}
 use Rattle.std.proofs.lemmas.List.Sums.{split_at_first, passes_at_first}
-use Rattle.std.proofs.lemmas.Slice.Eq.{bytes_eq-Decides}
 use Rattle.yp_base.specs.PathLaws.{numbers_same, texts_same, texts_told}
 use Rattle.yp_base.specs.Types.{same_text}
 use Rattle.yp_schema.specs.declared.schema.SchemaNode.{SchemaNode}
