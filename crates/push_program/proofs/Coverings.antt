@@ -7,11 +7,10 @@ use Rattle.std.proofs.lemmas.Bool.{and_parts}
 use Rattle.yp_base.specs.PathLaws.{within_through}
 use Rattle.yp_base.specs.declared.path.Seg.{Seg}
 use Rattle.yp_base.specs.Order.{path_cmp, is_within}
-use Rattle.yp_data_json.proofs.AtPlace.{front_rest}
-use Rattle.yp_data_json.proofs.Growing.{within_more, within_self}
 use Rattle.yp_edit.specs.Bases.{is_listed}
 use Rattle.yp_edit.proofs.Alike.{are_one, ties_itself}
 use Rattle.yp_base.specs.Paths.{is_above, topmost as roots_of}
+use Rattle.yp_base.specs.PathLaws.{within_rest, within_itself}
 
 -- whether a path is at or below one of these
 abbrev pub has_root : List Seg → List (List Seg) → Bool
@@ -52,12 +51,12 @@ kept_rooted : (t : List Seg → Bool) (path : List Seg) (paths : List (List Seg)
 kept_rooted t path [] listed passes = absurd (true≢false (sym listed))
 kept_rooted t path (one ∷ paths) listed passes =
     elim (is_eq (path_cmp path one)) as (λ b. is_eq (path_cmp path one) ≡ b → (b || is_listed path paths) ≡ true → has_root path (filter t (one ∷ paths)) ≡ true) [
-      | true ↦ λ e k. kept_at (t one) t path one paths refl (subst (λ (p : List Seg). is_within p path ≡ true) (are_one path one e) (within_self path)) (λ same. sym (ap t same) ∙ passes) e
+      | true ↦ λ e k. kept_at (t one) t path one paths refl (subst (λ (p : List Seg). is_within p path ≡ true) (are_one path one e) (within_itself path)) (λ same. sym (ap t same) ∙ passes) e
       | false ↦ λ e k. kept_later (t one) t path one paths (kept_rooted t path paths k passes)
     ] refl listed
 
 longer_by : (above rest path : List Seg) → path ≡ above ++ rest → is_within path above ≡ false → length above < length path
-longer_by above [] path is apart = absurd (true≢false (sym (subst (λ (p : List Seg). is_within p above ≡ true) (sym (is ∙ append-nil above)) (within_self above)) ∙ apart))
+longer_by above [] path is apart = absurd (true≢false (sym (subst (λ (p : List Seg). is_within p above ≡ true) (sym (is ∙ append-nil above)) (within_itself above)) ∙ apart))
 longer_by above (seg ∷ rest) path is apart =
     let long : length path ≡ length above + suc (length rest) = ap (λ (p : List Seg). length p) is ∙ length-append above (seg ∷ rest) in omega (arith, long)
 
@@ -69,7 +68,7 @@ not_true false h = refl
 above_shorter : (above path : List Seg) → is_above above path ≡ true → length above < length path
 above_shorter above path h =
     let parts = and_parts (is_within above path) (not (is_within path above)) h in
-    let found = front_rest above path parts.0 in
+    let found = within_rest above path parts.0 in
     longer_by above found.0 path found.1 (not_true (is_within path above) parts.1)
 
 rooted_within : (n : ℕ) (paths : List (List Seg)) (path : List Seg) → length path < n → is_listed path paths ≡ true → has_root path (roots_of paths) ≡ true

@@ -1,9 +1,8 @@
 -- The edit of a changed row can be sent.
-use Rattle.std.proofs.Common.{◌≡◌, ℕ, true, false, not, ◌&&◌, List, [], ◌∷◌, Option, Some, None, refl, sym, ap, subst, ◌∙◌, cond}
+use Rattle.std.proofs.Common.{◌≡◌, true, false, List, [], ◌∷◌, Option, Some, None, refl, sym, ap, subst, ◌∙◌, cond}
 use Rattle.std.specs.Prelude.{is_some}
 use Rattle.std.specs.List.{AllByRecursion}
 use Rattle.std.specs.Ordering.{is_eq}
-use Rattle.std.proofs.lemmas.Bool.{and_parts}
 use Rattle.yp_base.specs.declared.path.Seg.{Seg}
 use Rattle.yp_base.specs.declared.row.Value.{Value}
 use Rattle.yp_base.specs.declared.row.Row.{Row}
@@ -13,9 +12,7 @@ use Rattle.yp_base.specs.Order.{path_cmp, is_within}
 use Rattle.yp_base.specs.Rows.{AreInOrder, value_at, rows_within}
 use Rattle.yp_base.specs.RowLaws.{some_keep_order}
 use Rattle.yp_schema.specs.declared.schema.SchemaNode.{SchemaNode}
-use Rattle.yp_schema.specs.Nodes.{node_at}
-use Rattle.yp_base.specs.Paths.{last_node}
-use Rattle.yp_schema.specs.Datastore.{is_path_of, is_place, is_key_node, is_key_at, value_of_kind, holds_value, IsRowOf, AreWritable}
+use Rattle.yp_schema.specs.Datastore.{is_path_of, IsRowOf, AreWritable}
 use Rattle.yp_schema.specs.SchemaLaws.{row_place}
 use Rattle.yp_edit.specs.declared.changed.ChangedRow.{ChangedRow}
 use Rattle.yp_edit.proofs.Alike.{are_one}

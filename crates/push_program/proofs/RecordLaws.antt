@@ -16,10 +16,8 @@ use Rattle.yp_schema.specs.declared.schema.Kind.{Kind}
 use Rattle.yp_schema.specs.declared.schema.Kind.TheVariants.{Container, Presence, List as Listing, Leaf, LeafList}
 use Rattle.yp_schema.specs.Nodes.{node_at, may_hold}
 use Rattle.yp_schema.specs.WellFormed.{IsSchema}
-use Rattle.yp_schema.specs.Datastore.{goes_down, is_path_of, holds_value, value_of_kind, is_key_node, is_entry_kind, last_kind_is, has_row, IsRowOf, IsDatastore, goes_to_row}
-use Rattle.yp_schema.specs.SchemaLaws.{row_node, row_path}
-use Rattle.yp_data_json.proofs.AtPlace.{front_rest, node_after, goes_on}
-use Rattle.yp_data_json.proofs.Steps.{leaf_ends}
+use Rattle.yp_schema.specs.Datastore.{goes_down, is_path_of, value_of_kind, is_entry_kind, last_kind_is, has_row, IsRowOf, IsDatastore, goes_to_row, last_node}
+use Rattle.yp_schema.specs.SchemaLaws.{row_node, row_path, goes_on, node_after, leaf_ends}
 use Rattle.yp_edit.specs.declared.changed.ChangedRow.{ChangedRow}
 use Rattle.yp_edit.specs.Bases.{is_listed}
 use Rattle.yp_edit.specs.Changes.{are_alike, change_of, changed_rows, paths_of_both}
@@ -35,6 +33,7 @@ use Rattle.yp_base.specs.Paths.{is_above, topmost as roots_of, last_node}
 use Rattle.yp_edit.specs.Records.{changed_paths, carried_rows, change_at, change_record}
 use Rattle.push_program.proofs.Selections.{value_at_picked, all_picked, selection_is, selected_readable}
 use Rattle.push_program.proofs.Coverings.{has_root, listed_rooted, some_paths}
+use Rattle.yp_base.specs.PathLaws.{within_rest}
 
 -- ---- what is changed
 
@@ -151,7 +150,7 @@ module _ (nodes : List SchemaNode) (schema : IsSchema nodes) (old new : List Row
       elim (value_at path new) as (λ (v : Option Value). value_at path new ≡ v → v ≡ None) [
         | None ↦ λ e. refl
         | Some value ↦ λ e.
-            let found = front_rest root path within in
+            let found = within_rest root path within in
             let there : has_row path new ≡ true = ap is_some e in
             let ends = holds_at (EndsAsRow nodes) new path (rows_end nodes new after.of_schema) there in
             absurd (none_below root found.0 was gone (subst (λ (p : List Seg). is_path_of nodes p ≡ true) found.1 (row_path nodes (record { path = path; value = ends.0 }) (record { goes = ends.1 }))) (subst (λ (p : List Seg). has_row p new ≡ true) found.1 there))

@@ -11,11 +11,11 @@ use Rattle.yp_base.specs.Rows.{value_at, rows_within}
 use Rattle.yp_base.specs.RowLaws.{picked, some_keep_order}
 use Rattle.yp_schema.specs.declared.schema.SchemaNode.{SchemaNode}
 use Rattle.yp_schema.specs.Datastore.{has_row, IsRowOf, IsDatastore}
-use Rattle.yp_data_json.proofs.Growing.{within_more, within_self}
 use Rattle.yp_edit.proofs.Alike.{are_one}
 use Rattle.push_program.specs.Access.{is_readable, visible_rows}
 use Rattle.push_program.specs.Concealed.{AllReadable}
 use Rattle.push_program.proofs.Picks.{readable_above}
+use Rattle.yp_base.specs.PathLaws.{within_longer, within_itself}
 
 module _ (p : List Seg → Bool) where
   value_picked_at : (e b : Bool) (path : List Seg) (row : Row) (rows : List Row) → is_eq (path_cmp path row.path) ≡ e → p row.path ≡ b → value_at path (picked p rows) ≡ cond (p path) (value_at path rows) None
@@ -75,7 +75,7 @@ selection_is nodes rows datastore = record {
   of_schema = all_picked (is_readable nodes) (IsRowOf nodes) rows datastore.of_schema;
   entries = λ above rest within entry there.
       let was = was_picked (is_readable nodes) (above ++ rest) rows there in
-      is_picked (is_readable nodes) above rows (readable_above nodes above (above ++ rest) (within_more above above rest (within_self above)) was.0) (datastore.entries above rest within entry was.1);
+      is_picked (is_readable nodes) above rows (readable_above nodes above (above ++ rest) (within_longer above above rest (within_itself above)) was.0) (datastore.entries above rest within entry was.1);
 }
 
 -- what is selected may be read

@@ -9,8 +9,6 @@ use Rattle.yp_base.specs.declared.path.Seg.{Seg}
 use Rattle.yp_base.specs.Order.{segment_cmp, path_cmp, is_within}
 use Rattle.yp_base.specs.OrderLaws.{segments_total, paths_total}
 use Rattle.yp_base.specs.Prefixes.{fronts_together, front_not_after}
-use Rattle.yp_data_json.proofs.AtPlace.{front_rest}
-use Rattle.yp_data_json.proofs.Growing.{within_more}
 use Rattle.yp_tree.proofs.Nexts.{less_not_greater}
 use Rattle.yp_edit.proofs.Alike.{IsBefore}
 use Rattle.yp_base.specs.PathLaws.{within_itself, within_through}

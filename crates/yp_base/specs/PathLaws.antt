@@ -1,16 +1,18 @@
 -- What holds of paths, and of the texts and numbers in them.
-use Rattle.std.proofs.Common.{◌≡◌, ℕ, List, [], ◌∷◌, true, false, Option, Some, None, refl, ap, ◌∙◌}
+use Rattle.std.proofs.Common.{◌≡◌, ℕ, List, [], ◌∷◌, ◌++◌, true, false, true≢false, Option, Some, None, refl, sym, ap, ◌∙◌}
 use Rattle.std.proofs.lemmas.Bool.{and_parts, and_from, eqb-true}
 use Rattle.std.proofs.lemmas.Cmp.{tied_itself}
 use Rattle.std.proofs.lemmas.Slice.Eq.{bytes_eq-Decides}
 use Rattle.std.specs.Cmp.Lexicographic.{nat_list_eq_equiv}
-use Rattle.std.specs.Ordering.{is_eq, is_gt, ordering_reverse}
+use Rattle.std.specs.Ordering.{is_eq, is_gt, ordering_reverse, is_lt}
+use Rattle.std.specs.declared.cmp.Ordering.{Ordering}
 use Rattle.std.specs.declared.cmp.Ordering.TheVariants.{Less, Equal, Greater}
 use Rattle.yp_base.specs.declared.path.Seg.{Seg}
 use Rattle.yp_base.specs.Order.{is_within, segment_cmp, path_cmp}
 use Rattle.yp_base.specs.OrderLaws.{segments_total, paths_total}
 use Rattle.yp_base.specs.Types.{same_text}
 use Rattle.yp_base.specs.Paths.{same_number}
+use Rattle.yp_base.specs.Exact.{segments_decide}
 use Rattle.yp_base.specs.Prefixes.{front_not_after, fronts_together}
 
 pub less_turned : (one two : List Seg) → path_cmp one two ≡ Less → path_cmp two one ≡ Greater
@@ -18,6 +20,12 @@ less_turned one two h = paths_total.antisymm two one ∙ ap ordering_reverse h
 
 pub greater_turned : (one two : List Seg) → path_cmp one two ≡ Greater → path_cmp two one ≡ Less
 greater_turned one two h = paths_total.antisymm two one ∙ ap ordering_reverse h
+
+-- an order that is told as less is less
+pub less_told : (o : Ordering) → is_lt o ≡ true → o ≡ Less
+less_told Less h = refl
+less_told Equal h = absurd (true≢false (sym h))
+less_told Greater h = absurd (true≢false (sym h))
 
 pub within_itself : (path : List Seg) → is_within path path ≡ true
 within_itself [] = refl
@@ -35,6 +43,24 @@ within_through (a ∷ one) (b ∷ two) (c ∷ three) h k =
       | Equal ↦ λ e m. and_from _ _ (ap is_eq (segments_total.congr a b c e) ∙ lower.0) (within_through one two three upper.1 lower.1)
       | Greater ↦ λ e m. cc
     ] refl upper.0
+
+-- what follows a path in one at or below it
+pub within_rest : (above path : List Seg) → is_within above path ≡ true → (rest : List Seg) × (path ≡ above ++ rest)
+within_rest [] path h = (path, refl)
+within_rest (s ∷ above) [] h = absurd (true≢false (sym h))
+within_rest (s ∷ above) (t ∷ path) h =
+    let parts = and_parts (is_eq (segment_cmp s t)) (is_within above path) h in
+    let later = within_rest above path parts.1 in
+    let same : s ≡ t = (segments_decide s t).0 parts.0 in
+    (later.0, ap (λ xs. t ∷ xs) later.1 ∙ ap (λ (x : Seg). x ∷ (above ++ later.0)) (sym same))
+
+-- a path that goes on from one at or below another is so too
+pub within_longer : (above path more : List Seg) → is_within above path ≡ true → is_within above (path ++ more) ≡ true
+within_longer [] path more h = refl
+within_longer (s ∷ above) [] more h = absurd (true≢false (sym h))
+within_longer (s ∷ above) (t ∷ path) more h =
+    let parts = and_parts (is_eq (segment_cmp s t)) (is_within above path) h in
+    and_from _ _ parts.0 (within_longer above path more parts.1)
 
 pub within_not_after : (above path : List Seg) → is_within above path ≡ true → is_gt (path_cmp above path) ≡ false
 within_not_after above path h = front_not_after segment_cmp above path h

@@ -88,6 +88,16 @@ put_keeps_order new (row ∷ rows) h =
       | Greater ↦ λ e. (put_above row.path new rows (greater_turned new.path row.path e) h.0, put_keeps_order new rows h.1)
     ] refl
 
+-- what holds of the new row and of all rows holds of all after
+pub all_put : (P : Row → Type 0) (new : Row) (rows : List Row) → P new → AllByRecursion P rows → AllByRecursion P (put_row new rows)
+all_put P new [] h all = (h, tt)
+all_put P new (row ∷ rows) h all =
+    elim (path_cmp new.path row.path) as (λ o. path_cmp new.path row.path ≡ o → AllByRecursion P (match_ordering o (new ∷ row ∷ rows) (record row { value = new.value } ∷ rows) (row ∷ put_row new rows))) [
+      | Less ↦ λ e. (h, all)
+      | Equal ↦ λ e. (subst (λ (path : List Seg). P (record { path = path; value = new.value })) (paths_exact new.path row.path e) h, all.1)
+      | Greater ↦ λ e. (all.0, all_put P new rows h all.1)
+    ] refl
+
 -- and with more
 pub puts_order : (news rows : List Row) → AreInOrder rows → AreInOrder (put_rows news rows)
 puts_order [] rows h = h

@@ -1,6 +1,6 @@
 -- Rows at or below a place.
 use Rattle.std.proofs.Common.{◌≡◌, ℕ, List, [], ◌∷◌, ◌++◌, length, drop, map, true, true≢false, Option, Some, None, Result, Ok, Err, refl, sym, ap, subst, ◌∙◌, append-nil, cond, Less}
-use Rattle.std.specs.Ordering.{eq_by_cmp, is_eq, ordering_then}
+use Rattle.std.specs.Ordering.{is_eq, ordering_then}
 use Rattle.std.specs.List.{AllByRecursion}
 use Rattle.std.specs.List.Sorted.{IsStrictlySortedBy}
 use Rattle.std.proofs.Math.Seq.{drop-append_seam}
@@ -9,16 +9,15 @@ use Rattle.std.proofs.lemmas.Bool.{and_parts}
 use Rattle.yp_base.specs.declared.path.Seg.{Seg}
 use Rattle.yp_base.specs.declared.row.Value.{Value}
 use Rattle.yp_base.specs.declared.row.Row.{Row}
-use Rattle.yp_base.specs.Order.{segment_cmp, path_cmp, is_front, is_within}
+use Rattle.yp_base.specs.Order.{path_cmp, is_within}
 use Rattle.yp_base.specs.OrderLaws.{segments_total, paths_total}
 use Rattle.yp_base.specs.Rows.{path_of, AreInOrder, value_at}
-use Rattle.yp_base.specs.Exact.{segments_decide}
 use Rattle.yp_schema.specs.declared.schema.SchemaNode.{SchemaNode}
 use Rattle.yp_schema.specs.declared.schema.Kind.TheVariants.{Leaf}
 use Rattle.yp_schema.specs.Nodes.{node_at, may_hold}
 use Rattle.yp_schema.specs.WellFormed.{IsSchema}
 use Rattle.yp_schema.specs.Datastore.{goes_down, is_segment, is_place, value_of_kind, typed_fits, IsRowOf, is_leaf_kind, last_kind_is, ends_in_leaf, has_row, AreWritable, goes_to_row}
-use Rattle.yp_schema.specs.SchemaLaws.{row_goes_down, row_ends, end_kind}
+use Rattle.yp_schema.specs.SchemaLaws.{row_goes_down, row_ends, end_kind, leaf_ends, last_node_append, node_after_append, goes_on, node_after, last_is_segment}
 use Rattle.yp_data_json.specs.Forest.{forest_at}
 use Rattle.yp_base.specs.Paths.{last_segment}
 use Rattle.yp_data_json.specs.Writing.{leaf_data, members_in, place_data, data_at, named_member, rows_json}
@@ -28,31 +27,7 @@ use Rattle.serde_json.specs.View.{view}
 use Rattle.serde_json.specs.declared.value.Value.{Value as Json}
 use Rattle.yp_base.specs.declared.memory.NoMemory.{NoMemory}
 use Rattle.yp_data_json.specs.Runs.{GoesOn, IsRest, rest_of, AreBelow}
-use Rattle.yp_data_json.proofs.Growing.{last_of}
-use Rattle.yp_data_json.proofs.Steps.{leaf_ends}
-
--- what is left of a path behind its front
-pub front_rest : (at path : List Seg) → is_front (eq_by_cmp segment_cmp) at path ≡ true → (rest : List Seg) × (path ≡ at ++ rest)
-front_rest [] path h = (path, refl)
-front_rest (s ∷ at) [] h = absurd (true≢false (sym h))
-front_rest (s ∷ at) (t ∷ path) h =
-    let parts = and_parts (eq_by_cmp segment_cmp s t) (is_front (eq_by_cmp segment_cmp) at path) h in
-    let later = front_rest at path parts.1 in
-    let same : s ≡ t = (segments_decide s t).0 parts.0 in
-    (later.0, ap (λ xs. t ∷ xs) later.1 ∙ ap (λ (x : Seg). x ∷ (at ++ later.0)) (sym same))
-
--- the node of the last segment, or another where there is none
-abbrev pub node_after : Option ℕ → List Seg → Option ℕ
-node_after parent [] = parent
-node_after parent (seg ∷ segs) = node_after (Some seg.node) segs
-
-pub goes_on : (nodes : List SchemaNode) (parent : Option ℕ) (at rest : List Seg) → goes_down nodes parent (at ++ rest) ≡ true → goes_down nodes (node_after parent at) rest ≡ true
-goes_on nodes parent [] rest h = h
-goes_on nodes parent (s ∷ at) rest h = goes_on nodes (Some s.node) at rest (and_parts _ _ h).1
-
-pub after_last : (parent : Option ℕ) (above : List Seg) (seg : Seg) → node_after parent (above ++ seg ∷ []) ≡ Some seg.node
-after_last parent [] seg = refl
-after_last parent (s ∷ above) seg = after_last (Some s.node) above seg
+use Rattle.yp_base.specs.PathLaws.{within_rest}
 
 row_goes_on : (nodes : List SchemaNode) (parent : Option ℕ) (at rest : List Seg) (v : Value) → goes_to_row nodes parent (at ++ rest) v ≡ true → GoesOn nodes (node_after parent at) rest v
 row_goes_on nodes parent at [] v h = tt
@@ -65,7 +40,7 @@ left_over at path rest is = ap (drop (length at)) is ∙ drop-append_seam at res
 
 is_rest : (nodes : List SchemaNode) (at : List Seg) (row : Row) → is_within at row.path ≡ true → IsRowOf nodes row → IsRest nodes (node_after None at) (length at) row
 is_rest nodes at row within of_schema =
-    let found = front_rest at row.path within in
+    let found = within_rest at row.path within in
     let goes = row_goes_on nodes None at found.0 row.value (subst (λ path. goes_to_row nodes None path row.value ≡ true) found.1 of_schema.goes) in
     subst (λ path. GoesOn nodes (node_after None at) path row.value) (sym (left_over at row.path found.0 found.1)) goes
 
@@ -79,8 +54,8 @@ same_front (s ∷ at) xs ys = ap (λ o. ordering_then o (path_cmp (at ++ xs) (at
 
 rest_less : (at : List Seg) (one other : Row) → is_within at one.path ≡ true → is_within at other.path ≡ true → path_cmp one.path other.path ≡ Less → path_cmp (rest_of (length at) one) (rest_of (length at) other) ≡ Less
 rest_less at one other h k less =
-    let a = front_rest at one.path h in
-    let b = front_rest at other.path k in
+    let a = within_rest at one.path h in
+    let b = within_rest at other.path k in
     ap (λ p. path_cmp p (rest_of (length at) other)) (left_over at one.path a.0 a.1) ∙ ap (path_cmp a.0) (left_over at other.path b.0 b.1) ∙ sym (same_front at a.0 b.0)
     ∙ sym (ap (λ p. path_cmp p (at ++ b.0)) a.1) ∙ sym (ap (path_cmp one.path) b.1) ∙ less
 
@@ -98,28 +73,24 @@ rest_order at (row ∷ rows) within order = (all_less at row rows within.0 withi
 pub writable_below : (nodes : List SchemaNode) (at : List Seg) (rows : List Row) → AreWritable nodes at rows → AreBelow nodes (node_after None at) (length at) rows
 writable_below nodes at rows h = record { each = all_rest nodes at rows h.within h.of_schema; in_order = rest_order at rows h.within h.in_order }
 
-pub down_last : (nodes : List SchemaNode) (parent : Option ℕ) (above : List Seg) (seg : Seg) → goes_down nodes parent (above ++ seg ∷ []) ≡ true → is_segment nodes seg ≡ true
-down_last nodes parent [] seg h = (and_parts _ _ (and_parts _ _ h).0).1
-down_last nodes parent (s ∷ above) seg h = down_last nodes (Some s.node) above seg (and_parts _ _ h).1
-
 place_down : (nodes : List SchemaNode) (path : List Seg) → is_place nodes path ≡ true → goes_down nodes None path ≡ true
 place_down nodes [] h = refl
 place_down nodes (seg ∷ path) h = (and_parts _ _ h).0
 
 pub place_segment : (nodes : List SchemaNode) (at above : List Seg) (seg : Seg) → at ≡ above ++ seg ∷ [] → is_place nodes at ≡ true → is_segment nodes seg ≡ true
-place_segment nodes at above seg is h = down_last nodes None above seg (subst (λ path. goes_down nodes None path ≡ true) is (place_down nodes at h))
+place_segment nodes at above seg is h = last_is_segment nodes None above seg (subst (λ path. goes_down nodes None path ≡ true) is (place_down nodes at h))
 
 -- ---- leaves
 
 pub place_leaf : (nodes : List SchemaNode) (at above : List Seg) (seg : Seg) → at ≡ above ++ seg ∷ [] → (node_at seg.node nodes).kind ≡ Leaf → ends_in_leaf nodes at ≡ true
-place_leaf nodes at above seg is kind = ap (ends_in_leaf nodes) is ∙ ap (last_kind_is is_leaf_kind nodes) (last_of above seg) ∙ ap is_leaf_kind kind
+place_leaf nodes at above seg is kind = ap (ends_in_leaf nodes) is ∙ ap (last_kind_is is_leaf_kind nodes) (last_node_append above seg) ∙ ap is_leaf_kind kind
 
 -- a row at or below a leaf is the leaf's
 leaf_path : (nodes : List SchemaNode) → IsSchema nodes → (at above : List Seg) (seg : Seg) (row : Row) → at ≡ above ++ seg ∷ [] → (node_at seg.node nodes).kind ≡ Leaf → is_within at row.path ≡ true → IsRowOf nodes row → row.path ≡ at
 leaf_path nodes schema at above seg row is kind within of_schema =
-    let found = front_rest at row.path within in
+    let found = within_rest at row.path within in
     let down = goes_on nodes None at found.0 (subst (λ path. goes_down nodes None path ≡ true) found.1 (row_goes_down nodes None row.path row.value of_schema.goes)) in
-    let parent : node_after None at ≡ Some seg.node = ap (node_after None) is ∙ after_last None above seg in
+    let parent : node_after None at ≡ Some seg.node = ap (node_after None) is ∙ node_after_append None above seg in
     let none = leaf_ends nodes schema seg.node found.0 (ap may_hold kind) (subst (λ n. goes_down nodes n found.0 ≡ true) parent down) in
     found.1 ∙ ap (λ xs. at ++ xs) none ∙ append-nil at
 

@@ -1,5 +1,5 @@
 -- Rows below one node.
-use Rattle.std.proofs.Common.{◌≡◌, ◌≢◌, ℕ, ◌+◌, ◌-◌, ◌<◌, ◌≤◌, List, [], ◌∷◌, ◌++◌, length, drop, map, Bool, true, false, true≢false, Option, Some, None, refl, sym, ap, subst, ◌∙◌, arith, Ordering, Less, Equal, Greater, nat_cmp, ◌&&◌}
+use Rattle.std.proofs.Common.{◌≡◌, ◌≢◌, ℕ, ◌+◌, ◌-◌, ◌<◌, ◌≤◌, List, [], ◌∷◌, ◌++◌, length, drop, map, Bool, true, false, true≢false, Option, Some, None, refl, sym, ap, subst, ◌∙◌, arith, Ordering, Less, Equal, Greater, nat_cmp}
 use Rattle.std.specs.Cmp.Lexicographic.{slice_cmp}
 use Rattle.std.specs.Ordering.{ordering_then}
 use Rattle.std.specs.List.{AllByRecursion}
@@ -17,21 +17,11 @@ use Rattle.yp_schema.specs.declared.schema.SchemaNode.{SchemaNode}
 use Rattle.yp_base.specs.Paths.{same_number}
 use Rattle.yp_schema.specs.Nodes.{node_at}
 use Rattle.yp_schema.specs.WellFormed.{IsSchema}
-use Rattle.yp_schema.specs.Datastore.{goes_down, is_segment}
+use Rattle.yp_schema.specs.Datastore.{goes_down}
 use Rattle.serde_json.specs.Data.{Data, Members, member}
-use Rattle.yp_schema.specs.SchemaLaws.{segment_within, row_goes_down}
+use Rattle.yp_schema.specs.SchemaLaws.{segment_within, row_goes_down, first_parent, first_segment}
 use Rattle.yp_data_json.specs.Runs.{GoesOn, IsRest, rest_of, AreBelow, begins_with, goes_through, ends_through, HasSegment, StandsBefore}
 use Rattle.yp_data_json.proofs.Parts.{all_front, all_back, sorted_front, sorted_back, less_middle}
-
--- ---- parts of a test
-
-pub both_left : (a b : Bool) → (a && b) ≡ true → a ≡ true
-both_left true b h = refl
-both_left false b h = h
-
-pub both_right : (a b : Bool) → (a && b) ≡ true → b ≡ true
-both_right true b h = h
-both_right false b h = absurd (true≢false (sym h))
 
 -- ---- parts of rows
 
@@ -148,31 +138,20 @@ same_parent (Some a) None (Some p) h k = absurd (true≢false (sym k))
 same_parent (Some a) (Some b) None h k = absurd (true≢false (sym h))
 same_parent (Some a) (Some b) (Some p) h k = eq-eqb a b (eqb-true a p h ∙ sym (eqb-true b p k))
 
--- what is known of the next segment
-pub next_parent : (nodes : List SchemaNode) (parent : Option ℕ) (seg : Seg) (rest : List Seg) → goes_down nodes parent (seg ∷ rest) ≡ true → same_number (node_at seg.node nodes).parent parent ≡ true
-next_parent nodes parent seg rest h =
-    both_left (same_number (node_at seg.node nodes).parent parent) (is_segment nodes seg)
-    (both_left (same_number (node_at seg.node nodes).parent parent && is_segment nodes seg) (goes_down nodes (Some seg.node) rest) h)
-
-pub next_segment : (nodes : List SchemaNode) (parent : Option ℕ) (seg : Seg) (rest : List Seg) → goes_down nodes parent (seg ∷ rest) ≡ true → is_segment nodes seg ≡ true
-next_segment nodes parent seg rest h =
-    both_right (same_number (node_at seg.node nodes).parent parent) (is_segment nodes seg)
-    (both_left (same_number (node_at seg.node nodes).parent parent && is_segment nodes seg) (goes_down nodes (Some seg.node) rest) h)
-
 -- a node that a row goes through, as a child of the parent
 through_parent : (nodes : List SchemaNode) (parent : Option ℕ) (n : ℕ) (path : List Seg) → goes_down nodes parent path ≡ true → begins_with n path ≡ true
     → (same_number (node_at n nodes).parent parent ≡ true) × (n < length nodes)
 through_parent nodes parent n [] down is = absurd (true≢false (sym is))
 through_parent nodes parent n (seg ∷ rest) down is =
     let same = eqb-true seg.node n is in
-    subst (λ k. (same_number (node_at k nodes).parent parent ≡ true) × (k < length nodes)) same (next_parent nodes parent seg rest down, segment_within nodes seg (next_segment nodes parent seg rest down))
+    subst (λ k. (same_number (node_at k nodes).parent parent ≡ true) × (k < length nodes)) same (first_parent nodes parent seg rest down, segment_within nodes seg (first_segment nodes parent seg rest down))
 
 before_at : (nodes : List SchemaNode) → IsSchema nodes → (parent : Option ℕ) (n : ℕ) (d : Data) (ms : Members) (path : List Seg)
     → goes_down nodes parent path ≡ true → IsEarlier n path → same_number (node_at n nodes).parent parent ≡ true → n < length nodes
     → NextBefore nodes path (member (node_at n nodes).member d ms)
 before_at nodes schema parent n d ms [] down less of_parent within = tt
 before_at nodes schema parent n d ms (seg ∷ rest) down less of_parent within =
-    schema.siblings seg.node n less within (same_parent (node_at seg.node nodes).parent (node_at n nodes).parent parent (next_parent nodes parent seg rest down) of_parent)
+    schema.siblings seg.node n less within (same_parent (node_at seg.node nodes).parent (node_at n nodes).parent parent (first_parent nodes parent seg rest down) of_parent)
 
 all_before_at : (nodes : List SchemaNode) → IsSchema nodes → (parent : Option ℕ) (depth n : ℕ) (d : Data) (ms : Members) (rows : List Row)
     → AllByRecursion (IsRest nodes parent depth) rows → AllByRecursion (λ x. IsEarlier n (rest_of depth x)) rows → same_number (node_at n nodes).parent parent ≡ true → n < length nodes

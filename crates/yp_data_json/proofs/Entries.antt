@@ -9,9 +9,8 @@ use Rattle.yp_base.specs.declared.path.Seg.{Seg}
 use Rattle.yp_base.specs.declared.row.Row.{Row}
 use Rattle.yp_base.specs.Order.{path_cmp, is_within}
 use Rattle.yp_base.specs.OrderLaws.{segments_total, paths_total}
-use Rattle.yp_base.specs.PathLaws.{within_together}
+use Rattle.yp_base.specs.PathLaws.{within_together, within_rest}
 use Rattle.yp_data_json.specs.Runs.{rest_of, HasSegment, StartsWith, StartsApart, AreRising}
-use Rattle.yp_data_json.proofs.AtPlace.{front_rest}
 use Rattle.yp_data_json.proofs.Below.{drop_next}
 
 begins : (seg : Seg) (rest : List Seg) → is_within (seg ∷ []) (seg ∷ rest) ≡ true
@@ -34,7 +33,7 @@ between seg a path c one two =
 
 row_between : (depth : ℕ) (seg : Seg) (one row two : Row) → HasSegment depth seg one → path_cmp (rest_of depth one) (rest_of depth row) ≡ Less → path_cmp (rest_of depth row) (rest_of depth two) ≡ Less → HasSegment depth seg two → HasSegment depth seg row
 row_between depth seg one row two has after before too =
-    let found = front_rest (seg ∷ []) (rest_of depth row)
+    let found = within_rest (seg ∷ []) (rest_of depth row)
     (between seg (drop (depth + 1) one.path) (rest_of depth row) (drop (depth + 1) two.path) (sym (ap (λ p. path_cmp p (rest_of depth row)) has) ∙ after) (sym (ap (path_cmp (rest_of depth row)) too) ∙ before)) in
     found.1 ∙ ap (λ rest. seg ∷ rest) (sym (drop_next depth row.path seg found.0 found.1))
 

@@ -1,7 +1,7 @@
 -- Forests of a schema in which each entry and presence container has its row.
 use Rattle.std.proofs.Common.{◌≡◌, ℕ, ◌<◌, List, [], ◌∷◌, length, Bool, true, false, true≢false, Option, Some, None, refl, sym, ap, subst, ◌∙◌, ◌||◌, not, nat_eq}
 use Rattle.std.specs.List.{AllByRecursion}
-use Rattle.std.proofs.lemmas.Bool.{and_parts, eqb-true, eq-eqb, ltb-true}
+use Rattle.std.proofs.lemmas.Bool.{and_parts, eq-eqb, ltb-true}
 use Rattle.yp_base.specs.declared.atom.Atom.{Atom}
 use Rattle.yp_base.specs.declared.path.Seg.{Seg}
 use Rattle.yp_base.specs.declared.row.Value.{Value}
@@ -9,12 +9,12 @@ use Rattle.yp_base.specs.declared.row.Value.TheVariants.{Member, Present}
 use Rattle.yp_schema.specs.declared.schema.SchemaNode.{SchemaNode}
 use Rattle.yp_schema.specs.declared.schema.Kind.{Kind}
 use Rattle.yp_schema.specs.declared.schema.Kind.TheVariants.{Container, Presence, List as Listing, Leaf, LeafList}
-use Rattle.yp_base.specs.Paths.{same_number}
 use Rattle.yp_schema.specs.Nodes.{node_at, child_of, is_key, is_in}
 use Rattle.yp_schema.specs.WellFormed.{IsSchema, is_key_leaf, are_key_leaves}
 use Rattle.yp_schema.specs.Datastore.{atom_fits, keys_fit, typed_fits}
 use Rattle.yp_data_json.specs.Forest.{Forest, bare, branch}
 use Rattle.yp_data_json.proofs.Steps.{key_leaves}
+use Rattle.yp_base.specs.PathLaws.{numbers_same}
 
 -- what a node of a kind may hold
 abbrev pub BranchFits : List SchemaNode → Kind → SchemaNode → Seg → Option Value → Forest → Type 0
@@ -47,16 +47,12 @@ KeysStand nodes n (k ∷ ks) =
 
 -- ---- of a schema
 
-same_is : (o : Option ℕ) (n : ℕ) → same_number o (Some n) ≡ true → o ≡ Some n
-same_is None n h = absurd (true≢false (sym h))
-same_is (Some m) n h = ap (λ k. Some k) (eqb-true m n h)
-
 leaf_within : (nodes : List SchemaNode) (n k : ℕ) → is_key_leaf n nodes k ≡ true → k < length nodes
 leaf_within nodes n k h = ltb-true k (length nodes) (and_parts _ _ (and_parts _ _ (and_parts _ _ (and_parts _ _ h).0).0).0).0
 
 leaf_found : (nodes : List SchemaNode) → IsSchema nodes → (n k : ℕ) → is_key_leaf n nodes k ≡ true → child_of (Some n) (node_at k nodes).member nodes ≡ Some k
 leaf_found nodes schema n k h =
-    let parent = same_is (node_at k nodes).parent n (and_parts _ _ (and_parts _ _ (and_parts _ _ (and_parts _ _ h).0).0).0).1 in
+    let parent = numbers_same (node_at k nodes).parent (Some n) (and_parts _ _ (and_parts _ _ (and_parts _ _ (and_parts _ _ h).0).0).0).1 in
     subst (λ p. child_of p (node_at k nodes).member nodes ≡ Some k) parent (schema.each k (leaf_within nodes n k h)).found
 
 one_child : (nodes : List SchemaNode) (n j k : ℕ) → child_of (Some n) (node_at j nodes).member nodes ≡ Some j → child_of (Some n) (node_at k nodes).member nodes ≡ Some k → (node_at j nodes).member ≡ (node_at k nodes).member → k ≡ j

@@ -2,21 +2,20 @@
 use Rattle.std.proofs.Common.{◌≡◌, ℕ, List, [], ◌∷◌, ◌++◌, true, refl, sym, ap, subst, ◌∙◌}
 use Rattle.std.specs.Prelude.{Option, Some, None, is_some}
 use Rattle.std.specs.List.{AllByRecursion}
-use Rattle.std.specs.Ordering.{eq_by_cmp}
 use Rattle.std.proofs.lemmas.Bool.{and_parts, and_from}
 use Rattle.yp_base.specs.declared.atom.Atom.{Atom}
 use Rattle.yp_base.specs.declared.path.Seg.{Seg}
 use Rattle.yp_base.specs.declared.row.Value.{Value}
 use Rattle.yp_base.specs.declared.row.Row.{Row}
-use Rattle.yp_base.specs.Order.{is_front, is_within, segment_cmp}
+use Rattle.yp_base.specs.Order.{is_within}
 use Rattle.yp_base.specs.Rows.{AreInOrder, put_row}
-pub use Rattle.yp_base.specs.PathLaws.{within_itself as within_self}
 use Rattle.yp_schema.specs.declared.schema.SchemaNode.{SchemaNode}
-use Rattle.yp_base.specs.Paths.{same_number, last_node}
+use Rattle.yp_base.specs.Paths.{same_number}
 use Rattle.yp_schema.specs.Nodes.{node_at}
 use Rattle.yp_schema.specs.Datastore.{is_segment, goes_down, is_path_of, IsRowOf, ends_in_entry, has_row, HaveEntries}
 use Rattle.yp_data_json.specs.Reading.{below, row_at}
-use Rattle.yp_data_json.proofs.PutRows.{all_put, put_in_order, put_there, put_elsewhere, same_or_apart, put_keeps}
+use Rattle.yp_data_json.proofs.PutRows.{put_there, put_elsewhere, same_or_apart, put_keeps}
+use Rattle.yp_base.specs.RowLaws.{all_put, put_keeps_order}
 
 -- rows of a schema at or below a place, with those of the entries above each
 pub record Stand (nodes : List SchemaNode) (at : List Seg) (rows : List Row) : Type 0 where
@@ -58,7 +57,7 @@ pub put_grown : (nodes : List SchemaNode) (at path : List Seg) (n : ℕ) (keys :
     is_within at (below path n keys) ≡ true → Entered nodes at path rows → Grown nodes at rows (put_row (row_at (below path n keys) value) rows)
 put_grown nodes at path n keys value rows stand row within entered = record {
   stand = record {
-    in_order = put_in_order (row_at (below path n keys) value) rows stand.in_order;
+    in_order = put_keeps_order (row_at (below path n keys) value) rows stand.in_order;
     of_schema = all_put (IsRowOf nodes) (row_at (below path n keys) value) rows row stand.of_schema;
     within = all_put (λ row. is_within at row.path ≡ true) (row_at (below path n keys) value) rows within stand.within;
     entries = λ above rest inside entry h.
@@ -73,11 +72,6 @@ put_grown nodes at path n keys value rows stand row within entered = record {
 
 -- ---- paths
 
-pub last_of : (path : List Seg) (seg : Seg) → last_node (path ++ seg ∷ []) ≡ Some seg.node
-last_of [] seg = refl
-last_of (s ∷ []) seg = refl
-last_of (s ∷ t ∷ path) seg = last_of (t ∷ path) seg
-
 down_more : (nodes : List SchemaNode) (parent : Option ℕ) (path : List Seg) (last seg : Seg) → goes_down nodes parent (path ++ last ∷ []) ≡ true → same_number (node_at seg.node nodes).parent (Some last.node) ≡ true → is_segment nodes seg ≡ true →
     goes_down nodes parent ((path ++ last ∷ []) ++ seg ∷ []) ≡ true
 down_more nodes parent [] last seg h child segment = and_from _ _ (and_parts _ _ h).0 (and_from _ _ (and_from _ _ child segment) refl)
@@ -88,11 +82,3 @@ pub path_more : (nodes : List SchemaNode) (path : List Seg) (last seg : Seg) →
     is_path_of nodes ((path ++ last ∷ []) ++ seg ∷ []) ≡ true
 path_more nodes [] last seg h child segment = down_more nodes None [] last seg h child segment
 path_more nodes (s ∷ path) last seg h child segment = down_more nodes None (s ∷ path) last seg h child segment
-
-front_more : (a b more : List Seg) → is_front (eq_by_cmp segment_cmp) a b ≡ true → is_front (eq_by_cmp segment_cmp) a (b ++ more) ≡ true
-front_more [] b more h = refl
-front_more (x ∷ a) [] more h = cc
-front_more (x ∷ a) (y ∷ b) more h = and_from _ _ (and_parts _ _ h).0 (front_more a b more (and_parts _ _ h).1)
-
-pub within_more : (at path more : List Seg) → is_within at path ≡ true → is_within at (path ++ more) ≡ true
-within_more at path more h = front_more at path more h

@@ -24,9 +24,9 @@ use Rattle.yp_base.specs.Results.{◌>>=◌}
 use Rattle.yp_data_json.specs.Reading.{valid, row_at, below, leaf_read, in_plain, in_array, in_object, entries_read, values_read, members_read, node_read}
 use Rattle.yp_data_json.specs.AtPath.{leaf_row, by_kind, array_of_one, named_entry, named_value, named_read, rows_read}
 use Rattle.yp_data_json.proofs.Steps.{empty_keys}
-use Rattle.yp_data_json.proofs.AtPlace.{down_last}
 use Rattle.yp_data_json.proofs.Again.{path_is}
 use Rattle.yp_data_json.proofs.Places.{rows_last}
+use Rattle.yp_schema.specs.SchemaLaws.{last_is_segment}
 
 -- ---- names
 
@@ -92,8 +92,8 @@ node_leaf nodes n path (object ms) rows leaf =
     ∙ sym (ap (λ (r : Result Value DataFault). r >>= λ value. Ok (put_row (row_at (below path n []) value) rows)) (no_object (node_at n nodes).ty ms))
 
 place_segment : (nodes : List SchemaNode) (above : List Seg) (seg : Seg) → is_place nodes (above ++ seg ∷ []) ≡ true → is_segment nodes seg ≡ true
-place_segment nodes [] seg h = down_last nodes None [] seg (and_parts _ _ h).0
-place_segment nodes (s ∷ above) seg h = down_last nodes None (s ∷ above) seg (and_parts _ _ h).0
+place_segment nodes [] seg h = last_is_segment nodes None [] seg (and_parts _ _ h).0
+place_segment nodes (s ∷ above) seg h = last_is_segment nodes None (s ∷ above) seg (and_parts _ _ h).0
 
 leaf_keys : (nodes : List SchemaNode) (above : List Seg) (seg : Seg) → is_place nodes (above ++ seg ∷ []) ≡ true → (node_at seg.node nodes).kind ≡ Leaf → seg.keys ≡ []
 leaf_keys nodes above seg place leaf =

@@ -2,7 +2,7 @@
 use Rattle.std.proofs.Common.{◌≡◌, ℕ, ◌<◌, length, List, [], ◌∷◌, ◌++◌, Bool, true, false, refl, sym, ap, subst, ◌∙◌, cond}
 use Rattle.std.specs.Prelude.{Option, Some, None, is_some, Ok, Err, not, if◌then◌else◌}
 use Rattle.std.proofs.lemmas.Bool.{and_from, lt-ltb}
-use Rattle.yp_base.specs.PathLaws.{numbers_same}
+use Rattle.yp_base.specs.PathLaws.{numbers_same, within_longer}
 use Rattle.yp_base.specs.declared.atom.Atom.{Atom}
 use Rattle.yp_base.specs.declared.path.Seg.{Seg}
 use Rattle.yp_base.specs.declared.row.Value.{Value}
@@ -21,11 +21,11 @@ use Rattle.yp_data_json.specs.declared.fault.DataFault.TheVariants.{UnknownEleme
 use Rattle.yp_schema.specs.Values.{typed_value, typed_atom}
 use Rattle.yp_base.specs.Results.{◌>>=◌}
 use Rattle.yp_data_json.specs.Reading.{valid, keys_in, below, row_at, leaf_read, entered, value_read, values_read, in_object, in_array, in_plain, plain_read, for_child, members_read, node_read, entries_read, entry_read}
-use Rattle.yp_schema.specs.SchemaLaws.{path_down, row_led}
-use Rattle.yp_data_json.proofs.AtPlace.{down_last}
+use Rattle.yp_schema.specs.SchemaLaws.{path_down, row_led, last_is_segment, last_node_append}
 use Rattle.yp_data_json.proofs.PutRows.{put_there}
-use Rattle.yp_data_json.proofs.Growing.{Stand, Grown, Entered, grown_still, grown_on, cut, put_grown, last_of, path_more, within_more}
+use Rattle.yp_data_json.proofs.Growing.{Stand, Grown, Entered, grown_still, grown_on, cut, put_grown, path_more}
 use Rattle.yp_data_json.proofs.Readings.{bound, ok_rows, given, value_typed, atom_typed, keys_typed, child_is}
+use Rattle.yp_base.specs.PathLaws.{within_longer}
 
 -- a node with keys below a path, where rows may stand
 pub record Spot (nodes : List SchemaNode) (at : List Seg) (n : ℕ) (path : List Seg) (keys : List Atom) (rows : List Row) : Type 0 where
@@ -53,7 +53,7 @@ under_on under grown = record { down = under.down; inside = under.inside; above 
 module _ (nodes : List SchemaNode) (at : List Seg) where
   spot_end : (n : ℕ) (path : List Seg) (keys : List Atom) (value : Value) (rows : List Row) → Spot nodes at n path keys rows → value_of_kind (node_at n nodes).kind (node_at n nodes).ty value ≡ true → may_end nodes (record { node = n; keys = keys }) value ≡ true
   spot_end n path keys value rows spot fit =
-      and_from _ _ (down_last nodes None path (record { node = n; keys = keys }) (path_down nodes (below path n keys) spot.place)) (and_from (not (is_key_node nodes n)) _ (ap not spot.free) fit)
+      and_from _ _ (last_is_segment nodes None path (record { node = n; keys = keys }) (path_down nodes (below path n keys) spot.place)) (and_from (not (is_key_node nodes n)) _ (ap not spot.free) fit)
 
   -- a value of the node's kind may be put there
   pub put_spot : (n : ℕ) (path : List Seg) (keys : List Atom) (value : Value) (rows : List Row) → Spot nodes at n path keys rows → Stand nodes at rows → value_of_kind (node_at n nodes).kind (node_at n nodes).ty value ≡ true →
@@ -64,7 +64,7 @@ module _ (nodes : List SchemaNode) (at : List Seg) where
       spot.inside spot.above
 
   ends : (n : ℕ) (path : List Seg) (keys : List Atom) (kind : Kind) → (node_at n nodes).kind ≡ kind → ends_in_entry nodes (below path n keys) ≡ is_entry_kind kind
-  ends n path keys kind e = ap (last_kind_is is_entry_kind nodes) (last_of path (record { node = n; keys = keys })) ∙ ap is_entry_kind e
+  ends n path keys kind e = ap (last_kind_is is_entry_kind nodes) (last_node_append path (record { node = n; keys = keys })) ∙ ap is_entry_kind e
 
   -- below a spot whose own row is there, where it has one
   pub under_spot : (n : ℕ) (path : List Seg) (keys : List Atom) (rows : List Row) → Spot nodes at n path keys rows → (ends_in_entry nodes (below path n keys) ≡ true → has_row (below path n keys) rows ≡ true) →
@@ -83,7 +83,7 @@ module _ (nodes : List SchemaNode) (at : List Seg) where
   here_under parent path rows n under low same free = λ keys fit. record {
     free = subst (λ (p : Option ℕ). is_key n p nodes ≡ false) (sym (numbers_same _ _ same)) free;
     place = under.down (record { node = n; keys = keys }) same (and_from _ _ (lt-ltb n (length nodes) low) fit);
-    inside = within_more at path (record { node = n; keys = keys } ∷ []) under.inside;
+    inside = within_longer at path (record { node = n; keys = keys } ∷ []) under.inside;
     above = under.above;
   }
 

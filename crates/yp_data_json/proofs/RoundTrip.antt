@@ -29,15 +29,14 @@ use Rattle.yp_data_json.specs.AtPath.{are_keys, named_entry, named_value, array_
 use Rattle.yp_data_json.specs.Forest.{forest_at}
 use Rattle.yp_data_json.specs.Runs.{IsRest}
 use Rattle.yp_data_json.specs.Writing.{leaf_data, one_key_data, with_keys, members_in, place_data, data_at, named_member, rows_json}
-use Rattle.yp_data_json.proofs.AtPlace.{left_over, after_last, writable_below, json_at, place_segment}
+use Rattle.yp_data_json.proofs.AtPlace.{left_over, writable_below, json_at, place_segment}
 use Rattle.yp_data_json.proofs.Places.{rows_last}
-use Rattle.yp_data_json.proofs.Growing.{last_of}
 use Rattle.yp_data_json.proofs.Laying.{StandsUnder, forest_rows}
 use Rattle.yp_data_json.proofs.Fits.{keys_stand}
 use Rattle.yp_data_json.proofs.Again.{value_again, atom_again, keys_again, skip_keys, leaf_node, path_is, keys_path, read_again}
-use Rattle.yp_schema.specs.SchemaLaws.{row_ends, end_kind}
+use Rattle.yp_schema.specs.SchemaLaws.{row_ends, end_kind, node_after_append, leaf_ends, last_node_append}
 use Rattle.yp_data_json.proofs.Below.{rest_down}
-use Rattle.yp_data_json.proofs.Steps.{own_row_adds, leaf_ends, empty_keys}
+use Rattle.yp_data_json.proofs.Steps.{own_row_adds, empty_keys}
 use Rattle.yp_data_json.proofs.Under.{OwnFirst, under_or_own, none_under, own_value, entries_under, entries_rest}
 use Rattle.yp_data_json.proofs.Whole.{EntriesBelow, whole_fits, present_is, member_is, one_is}
 use Rattle.yp_data_json.proofs.Wholes.{snoc}
@@ -98,7 +97,7 @@ module _ (nodes : List SchemaNode) (schema : IsSchema nodes) where
       keys_at k e = sym (ap (λ j. keys_of_kind j nodes node seg.keys) e) ∙ keys
 
       each_rest : (rows : List Row) → AreWhole nodes at rows → AllByRecursion (IsRest nodes (Some seg.node) (length at)) rows
-      each_rest rows whole = subst (λ p. AllByRecursion (IsRest nodes p (length at)) rows) (after_last None above seg) (writable_below nodes at rows whole.writable).each
+      each_rest rows whole = subst (λ p. AllByRecursion (IsRest nodes p (length at)) rows) (node_after_append None above seg) (writable_below nodes at rows whole.writable).each
 
       -- ---- a container without presence has no row of its own
 
@@ -205,10 +204,10 @@ module _ (nodes : List SchemaNode) (schema : IsSchema nodes) where
       under_case rows whole under =
           elim kind as (λ k. kind ≡ k → named rows ≡ Ok rows) [
             | Container ↦ λ e. container_again rows e whole under
-            | Presence ↦ λ e. lost rows under (whole.own (ap (last_kind_is is_entry_kind nodes) (last_of above seg) ∙ ap is_entry_kind e))
-            | Listing ↦ λ e. lost rows under (whole.own (ap (last_kind_is is_entry_kind nodes) (last_of above seg) ∙ ap is_entry_kind e))
-            | Leaf ↦ λ e. lost rows under (whole.writable.leaf (ap (last_kind_is is_leaf_kind nodes) (last_of above seg) ∙ ap is_leaf_kind e))
-            | LeafList ↦ λ e. lost rows under (whole.writable.leaf (ap (last_kind_is is_leaf_kind nodes) (last_of above seg) ∙ ap is_leaf_kind e))
+            | Presence ↦ λ e. lost rows under (whole.own (ap (last_kind_is is_entry_kind nodes) (last_node_append above seg) ∙ ap is_entry_kind e))
+            | Listing ↦ λ e. lost rows under (whole.own (ap (last_kind_is is_entry_kind nodes) (last_node_append above seg) ∙ ap is_entry_kind e))
+            | Leaf ↦ λ e. lost rows under (whole.writable.leaf (ap (last_kind_is is_leaf_kind nodes) (last_node_append above seg) ∙ ap is_leaf_kind e))
+            | LeafList ↦ λ e. lost rows under (whole.writable.leaf (ap (last_kind_is is_leaf_kind nodes) (last_node_append above seg) ∙ ap is_leaf_kind e))
           ] refl
 
       named_again : (rows : List Row) → AreWhole nodes at rows → named rows ≡ Ok rows

@@ -13,9 +13,8 @@ use Rattle.yp_base.specs.declared.row.Row.{Row}
 use Rattle.yp_schema.specs.declared.schema.SchemaNode.{SchemaNode}
 use Rattle.yp_schema.specs.declared.schema.Kind.{Kind}
 use Rattle.yp_schema.specs.declared.schema.Kind.TheVariants.{Container, Presence, List as Listing, Leaf, LeafList}
-use Rattle.yp_base.specs.Paths.{same_number}
 use Rattle.yp_schema.specs.Nodes.{node_at, is_in, may_hold}
-use Rattle.yp_schema.specs.WellFormed.{IsSchema, is_parent_of, is_empty, is_key_leaf, are_key_leaves, has_none, kind_stands}
+use Rattle.yp_schema.specs.WellFormed.{IsSchema, is_empty, is_key_leaf, are_key_leaves, has_none, kind_stands}
 use Rattle.yp_schema.specs.Datastore.{goes_down, is_segment, keys_of_kind, goes_to_row, value_of_kind, typed_fits}
 use Rattle.serde_json.specs.Data.{Data, array, object, Members, no_members, member, put}
 use Rattle.serde_json.specs.View.{items_of}
@@ -25,8 +24,8 @@ use Rattle.yp_data_json.specs.Runs.{GoesOn, IsRest, AreBelow, AreNodes, longest,
 use Rattle.yp_data_json.proofs.Parts.{all_back, ends_last}
 use Rattle.yp_data_json.proofs.Branches.{StartsElse, own_at, one_branch, laid_append, rows_start}
 use Rattle.yp_data_json.proofs.Members.{put_first, other_first, run_is, entries_append, starts_else}
-use Rattle.yp_schema.specs.SchemaLaws.{segment_within, row_ends, end_kind}
-use Rattle.yp_data_json.proofs.Below.{both_left, both_right, rest_down, further, NextBefore, AllBefore, front_before, next_parent, next_segment, segment_of, deep_enough}
+use Rattle.yp_schema.specs.SchemaLaws.{row_ends, end_kind, first_segment, leaf_ends}
+use Rattle.yp_data_json.proofs.Below.{both_left, both_right, rest_down, further, NextBefore, AllBefore, front_before, segment_of, deep_enough}
 
 -- ---- the most segments
 
@@ -163,7 +162,7 @@ plain_at nodes parent depth n row plain through rest =
     let found = segment_of depth n row through in
     let down : goes_down nodes parent (found.0 ∷ drop (depth + 1) row.path) ≡ true = subst (λ path. goes_down nodes parent path ≡ true) found.1.0 (rest_down nodes parent depth row rest) in
     let same : found.0 ≡ plain_segment n =
-    plain_is nodes n found.0 found.1.1 (next_segment nodes parent found.0 (drop (depth + 1) row.path) down) (node_at n nodes).kind refl (plain_keys (node_at n nodes).kind nodes (node_at n nodes) found.0.keys plain) in
+    plain_is nodes n found.0 found.1.1 (first_segment nodes parent found.0 (drop (depth + 1) row.path) down) (node_at n nodes).kind refl (plain_keys (node_at n nodes).kind nodes (node_at n nodes) found.0.keys plain) in
     subst (λ (s : Seg). HasSegment depth s row) same found.1.0
 
 -- rows through a node without keys in paths have one segment
@@ -203,19 +202,6 @@ presence_member nodes parent depth n rows ms kind through below some is f before
     ap (members_in nodes) (plain_branch nodes parent depth n rows f (ap has_plain kind) through below some before)
     ∙ ap (λ k. members_of nodes (branch_in_front nodes k (node_at n nodes) (plain_segment n) (own_at depth rows) (members_in nodes (forest_at (depth + 1) rows)) (gathered nodes f))) kind
     ∙ ap (λ (x : Members). member (node_at n nodes).member (object x) (members_in nodes f)) (sym is)
-
--- nothing goes on below a leaf
-pub child_holds : (nodes : List SchemaNode) → IsSchema nodes → (n m : ℕ) → m < length nodes → same_number (node_at m nodes).parent (Some n) ≡ true → may_hold (node_at n nodes).kind ≡ true
-child_holds nodes schema n m within same = holds_at nodes n m (node_at m nodes).parent same (schema.each m within).parent
-  where
-    holds_at : (nodes : List SchemaNode) (n m : ℕ) (parent : Option ℕ) → same_number parent (Some n) ≡ true → is_parent_of parent m nodes ≡ true → may_hold (node_at n nodes).kind ≡ true
-    holds_at nodes n m None same h = absurd (true≢false (sym same))
-    holds_at nodes n m (Some p) same h = subst (λ k. may_hold (node_at k nodes).kind ≡ true) (eqb-true p n same) (both_right _ (may_hold (node_at p nodes).kind) h)
-
-pub leaf_ends : (nodes : List SchemaNode) → IsSchema nodes → (n : ℕ) (rest : List Seg) → may_hold (node_at n nodes).kind ≡ false → goes_down nodes (Some n) rest ≡ true → rest ≡ []
-leaf_ends nodes schema n [] leaf down = refl
-leaf_ends nodes schema n (seg ∷ rest) leaf down =
-    absurd (true≢false (sym (child_holds nodes schema n seg.node (segment_within nodes seg (next_segment nodes (Some n) seg rest down)) (next_parent nodes (Some n) seg rest down)) ∙ leaf))
 
 -- a row through a leaf ends there
 pub leaf_row : (nodes : List SchemaNode) → IsSchema nodes → (parent : Option ℕ) (depth n : ℕ) (row : Row) → (node_at n nodes).kind ≡ Leaf → goes_through depth n row ≡ true → IsRest nodes parent depth row

@@ -15,9 +15,7 @@ use Rattle.yp_base.specs.RowLaws.{AllPast, first_order}
 use Rattle.yp_schema.specs.declared.schema.SchemaNode.{SchemaNode}
 use Rattle.yp_schema.specs.Datastore.{HaveEntries}
 use Rattle.yp_data_json.specs.Reading.{row_at}
-use Rattle.yp_base.specs.PathLaws.{within_itself}
-use Rattle.yp_data_json.proofs.AtPlace.{front_rest}
-use Rattle.yp_data_json.proofs.Growing.{within_more}
+use Rattle.yp_base.specs.PathLaws.{within_itself, within_rest, within_longer}
 use Rattle.yp_data_json.proofs.Laying.{StandsUnder, not_before}
 use Rattle.yp_data_json.proofs.PutRows.{same_or_apart}
 use Rattle.yp_data_json.proofs.Whole.{EntriesBelow, less_front}
@@ -32,7 +30,7 @@ under_row at front row (s ∷ rest, is) less = (s, rest, is)
 -- what comes after a path at or below the place stands under it
 under_later : (at front : List Seg) (rows : List Row) → AllByRecursion (λ row. is_within at row.path ≡ true) rows → AllPast (at ++ front) rows → AllByRecursion (StandsUnder at) rows
 under_later at front [] within later = tt
-under_later at front (row ∷ rows) within later = (under_row at front row (front_rest at row.path within.0) later.0, under_later at front rows within.1 later.1)
+under_later at front (row ∷ rows) within later = (under_row at front row (within_rest at row.path within.0) later.0, under_later at front rows within.1 later.1)
 
 -- the first row is the place's own, and the others stand under it
 abbrev pub OwnFirst : List Seg → List Row → Type 0
@@ -47,7 +45,7 @@ own_or at row rows (s ∷ rest, is) past within = inl ((s, rest, is), under_late
 
 pub under_or_own : (at : List Seg) (rows : List Row) → AreInOrder rows → AllByRecursion (λ row. is_within at row.path ≡ true) rows → AllByRecursion (StandsUnder at) rows ⊎ OwnFirst at rows
 under_or_own at [] order within = inl tt
-under_or_own at (row ∷ rows) order within = own_or at row rows (front_rest at row.path within.0) (first_order row rows order) within.1
+under_or_own at (row ∷ rows) order within = own_or at row rows (within_rest at row.path within.0) (first_order row rows order) within.1
 
 -- the rows under a place have none of its own
 pub none_under : (at : List Seg) (rows : List Row) → AllByRecursion (StandsUnder at) rows → value_at at rows ≡ None
@@ -62,7 +60,7 @@ own_value at value rest = ap (λ o. cond (is_eq o) (Some value) (value_at at res
 
 -- of rows whose entries are there, those under the place have theirs
 pub entries_under : (nodes : List SchemaNode) (at : List Seg) (rows : List Row) → HaveEntries nodes at rows → EntriesBelow nodes at rows
-entries_under nodes at rows entries = λ path rest seg inside entry h. entries (path ++ seg ∷ []) rest (within_more at path (seg ∷ []) inside) entry h
+entries_under nodes at rows entries = λ path rest seg inside entry h. entries (path ++ seg ∷ []) rest (within_longer at path (seg ∷ []) inside) entry h
 
 some_more : (b : Bool) (value : Value) (o : Option Value) → is_some o ≡ true → is_some (cond b (Some value) o) ≡ true
 some_more true value o h = refl
@@ -71,11 +69,11 @@ some_more false value o h = h
 -- a path under the place isn't the place
 under_apart : (at path : List Seg) (seg : Seg) → is_within at path ≡ true → path ++ seg ∷ [] ≡ at → ⊥
 under_apart at path seg inside e =
-    let found = front_rest at path inside in
+    let found = within_rest at path inside in
     too_short at found.0 seg (subst (λ (p : List Seg). is_within (p ++ seg ∷ []) at ≡ true) found.1 (subst (λ (p : List Seg). is_within p at ≡ true) (sym e) (within_itself at)))
 
 pub entries_rest : (nodes : List SchemaNode) (at : List Seg) (value : Value) (rest : List Row) → HaveEntries nodes at (row_at at value ∷ rest) → EntriesBelow nodes at rest
 entries_rest nodes at value rest entries = λ path more seg inside entry h.
-    let there = entries (path ++ seg ∷ []) more (within_more at path (seg ∷ []) inside) entry (some_more (is_eq (path_cmp ((path ++ seg ∷ []) ++ more) at)) value (value_at ((path ++ seg ∷ []) ++ more) rest) h) in
+    let there = entries (path ++ seg ∷ []) more (within_longer at path (seg ∷ []) inside) entry (some_more (is_eq (path_cmp ((path ++ seg ∷ []) ++ more) at)) value (value_at ((path ++ seg ∷ []) ++ more) rest) h) in
     same_or_apart (path ++ seg ∷ []) at (λ e. absurd (under_apart at path seg inside e))
     (λ apart. sym (ap (λ b. is_some (cond b (Some value) (value_at (path ++ seg ∷ []) rest))) apart) ∙ there)

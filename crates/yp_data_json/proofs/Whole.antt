@@ -24,16 +24,13 @@ use Rattle.yp_schema.specs.Datastore.{atom_fits, keys_fit, one_fits, typed_fits,
 use Rattle.yp_data_json.specs.Forest.{Forest, bare, branch, own_of, in_front, laid, forest_at}
 use Rattle.std.proofs.Math.Seq.{drop-append_seam}
 use Rattle.yp_base.specs.Order.{is_within}
-use Rattle.yp_data_json.specs.Runs.{IsRest, GoesOn}
-use Rattle.yp_base.specs.PathLaws.{less_turned, within_itself, numbers_same}
-
-use Rattle.yp_data_json.proofs.Growing.{last_of, within_more}
+use Rattle.yp_data_json.specs.Runs.{GoesOn, IsRest}
+use Rattle.yp_base.specs.PathLaws.{less_turned, within_itself, within_longer, numbers_same}
 use Rattle.yp_data_json.proofs.Laying.{StandsUnder}
 use Rattle.yp_data_json.proofs.Parts.{less_middle}
 use Rattle.yp_data_json.proofs.AtPlace.{same_front}
-use Rattle.yp_schema.specs.SchemaLaws.{segment_within, row_goes_down, row_ends, end_kind, end_open}
-use Rattle.yp_data_json.proofs.Below.{next_parent, next_segment}
-use Rattle.yp_data_json.proofs.Steps.{empty_keys, child_holds}
+use Rattle.yp_schema.specs.SchemaLaws.{segment_within, row_goes_down, row_ends, end_kind, end_open, first_parent, first_segment, child_holds, last_node_append}
+use Rattle.yp_data_json.proofs.Steps.{empty_keys}
 use Rattle.yp_data_json.proofs.Fits.{BranchFits, Fits}
 
 -- ---- paths
@@ -200,13 +197,13 @@ EntriesBelow nodes at rows =
 module _ (nodes : List SchemaNode) (schema : IsSchema nodes) where
   kind_holds : (seg next : Seg) (rest : List Seg) → goes_down nodes (Some seg.node) (next ∷ rest) ≡ true → may_hold (node_at seg.node nodes).kind ≡ true
   kind_holds seg next rest down =
-      child_holds nodes schema seg.node next.node (segment_within nodes next (next_segment nodes (Some seg.node) next rest down)) (next_parent nodes (Some seg.node) next rest down)
+      child_holds nodes schema seg.node next.node (segment_within nodes next (first_segment nodes (Some seg.node) next rest down)) (first_parent nodes (Some seg.node) next rest down)
 
   parent_of : (parent : Option ℕ) (seg : Seg) (rest : List Seg) → goes_down nodes parent (seg ∷ rest) ≡ true → (node_at seg.node nodes).parent ≡ parent
-  parent_of parent seg rest down = numbers_same (node_at seg.node nodes).parent parent (next_parent nodes parent seg rest down)
+  parent_of parent seg rest down = numbers_same (node_at seg.node nodes).parent parent (first_parent nodes parent seg rest down)
 
   within_of : (parent : Option ℕ) (seg : Seg) (rest : List Seg) → goes_down nodes parent (seg ∷ rest) ≡ true → seg.node < length nodes
-  within_of parent seg rest down = segment_within nodes seg (next_segment nodes parent seg rest down)
+  within_of parent seg rest down = segment_within nodes seg (first_segment nodes parent seg rest down)
 
   found_of : (parent : Option ℕ) (seg : Seg) (rest : List Seg) → goes_down nodes parent (seg ∷ rest) ≡ true → child_of parent (node_at seg.node nodes).member nodes ≡ Some seg.node
   found_of parent seg rest down = subst (λ p. child_of p (node_at seg.node nodes).member nodes ≡ Some seg.node) (parent_of parent seg rest down) (schema.each seg.node (within_of parent seg rest down)).found
@@ -215,7 +212,7 @@ module _ (nodes : List SchemaNode) (schema : IsSchema nodes) where
   further parent seg rest down = (and_parts _ _ down).1
 
   keys_right : (parent : Option ℕ) (seg : Seg) (rest : List Seg) → goes_down nodes parent (seg ∷ rest) ≡ true → keys_of_kind (node_at seg.node nodes).kind nodes (node_at seg.node nodes) seg.keys ≡ true
-  keys_right parent seg rest down = (and_parts _ _ (next_segment nodes parent seg rest down)).1
+  keys_right parent seg rest down = (and_parts _ _ (first_segment nodes parent seg rest down)).1
 
   no_key_of : (parent : Option ℕ) (seg : Seg) (rest : List Seg) (v : Value) → goes_to_row nodes parent (seg ∷ rest) v ≡ true → is_key seg.node parent nodes ≡ false
   no_key_of parent seg [] v goes = subst (λ p. is_key seg.node p nodes ≡ false) (parent_of parent seg [] (row_goes_down nodes parent (seg ∷ []) v goes)) (end_open nodes seg v (row_ends nodes parent [] seg v goes))
@@ -282,12 +279,12 @@ module _ (nodes : List SchemaNode) (schema : IsSchema nodes) where
         let front = first_front p kids in
         let before : path_cmp p k ≡ Less = ap (path_cmp p) (first tt) ∙ first_beyond p kids sp.4 in
         let never : is_entry_kind (node_at seg.node nodes).kind ≡ true → ⊥ = λ entry.
-        true≢false (sym (entries path front.0 seg inside (ap (last_kind_is is_entry_kind nodes) (last_of path seg) ∙ entry) (sym (ap (λ q. has_row q full) (first tt ∙ front.1)) ∙ there)) ∙ gap p lo before) in (
+        true≢false (sym (entries path front.0 seg inside (ap (last_kind_is is_entry_kind nodes) (last_node_append path seg) ∙ entry) (sym (ap (λ q. has_row q full) (first tt ∙ front.1)) ∙ there)) ∙ gap p lo before) in (
           sp.0,
           sp.1,
           sp.2,
           may_none nodes (node_at seg.node nodes).kind (node_at seg.node nodes) seg kids never sp.3,
-          close low up k there gap (Some seg.node) p kids (within_more at path (seg ∷ []) inside) (λ b. first tt) (low_below low up p kids lo) sp.5,
+          close low up k there gap (Some seg.node) p kids (within_longer at path (seg ∷ []) inside) (λ b. first tt) (low_below low up p kids lo) sp.5,
           sp.6,
         )
 
@@ -345,7 +342,7 @@ module _ (nodes : List SchemaNode) (schema : IsSchema nodes) where
             sp.1,
             sp.2,
             end_old nodes (node_at first.node nodes).kind (node_at first.node nodes) first v kids (value_right parent first v (subst (λ (s : Seg). goes_to_row nodes parent (s ∷ []) v ≡ true) same goes)) sp.3,
-            close (λ q. path_cmp r q ≡ Less) (rises r) k behind.2 behind.3 (Some first.node) (path ++ first ∷ []) kids (within_more at path (first ∷ []) inside) (λ b. behind.0) (low_kids (path ++ first ∷ []) r kids here) sp.5,
+            close (λ q. path_cmp r q ≡ Less) (rises r) k behind.2 behind.3 (Some first.node) (path ++ first ∷ []) kids (within_longer at path (first ∷ []) inside) (λ b. behind.0) (low_kids (path ++ first ∷ []) r kids here) sp.5,
             sp.6,
           ),
           sym here,
@@ -379,7 +376,7 @@ module _ (nodes : List SchemaNode) (schema : IsSchema nodes) where
         lay_on (eq_by_cmp segment_cmp seg first) parent path seg s rest v first (Some w) kids next r k inside refl is goes (behind tt) sp (λ none same. absurd (some_none w none))
     lay parent path seg (s ∷ rest) v (branch first None kids next) r k inside is goes behind sp =
         lay_on (eq_by_cmp segment_cmp seg first) parent path seg s rest v first None kids next r k inside refl is goes (behind tt) sp
-        (λ none same. lay (Some first.node) (path ++ first ∷ []) s rest v kids r k (within_more at path (first ∷ []) inside)
+        (λ none same. lay (Some first.node) (path ++ first ∷ []) s rest v kids r k (within_longer at path (first ∷ []) inside)
         (is ∙ ap (λ (x : Seg). path ++ x ∷ s ∷ rest) same ∙ sym (append_assoc path (first ∷ []) (s ∷ rest)))
         (subst (λ (x : Seg). goes_to_row nodes (Some x.node) (s ∷ rest) v ≡ true) same (goes_further parent seg s rest v goes)) (λ b. behind tt) sp.5)
 

@@ -29,9 +29,10 @@ use Rattle.yp_base.specs.PathLaws.{within_itself}
 use Rattle.yp_data_json.proofs.Steps.{empty_keys}
 use Rattle.yp_data_json.proofs.Places.{rows_last}
 use Rattle.yp_data_json.proofs.PutRows.{put_there}
-use Rattle.yp_data_json.proofs.Growing.{Stand, Grown, grown_still, grown_on, last_of}
+use Rattle.yp_data_json.proofs.Growing.{Stand, Grown, grown_still, grown_on}
 use Rattle.yp_data_json.proofs.Readings.{bound, ok_rows, given}
 use Rattle.yp_data_json.proofs.ReadStands.{Spot, Here, Under, spot_on, put_spot, under_spot, entered_grown, entered_there, members_grown, node_grown}
+use Rattle.yp_schema.specs.SchemaLaws.{last_node_append}
 
 -- a path isn't at or below a longer one
 pub too_short : (front rest : List Seg) (seg : Seg) → is_within ((front ++ rest) ++ seg ∷ []) front ≡ true → ⊥
@@ -91,7 +92,7 @@ module _ (nodes : List SchemaNode) (above : List Seg) (seg : Seg) where
   module _ (place : is_place nodes at ≡ true) where
     top_spot : (rows : List Row) → Spot nodes at seg.node above seg.keys rows
     top_spot rows = record {
-      free = sym (ap (is_key_at nodes) (last_of above seg)) ∙ (place_parts above place).1;
+      free = sym (ap (is_key_at nodes) (last_node_append above seg)) ∙ (place_parts above place).1;
       place = (place_parts above place).0;
       inside = within_itself at;
       above = λ front rest e within entry. absurd (too_short front rest seg (subst (λ (p : List Seg). is_within (p ++ seg ∷ []) front ≡ true) (sym e) within));
@@ -259,9 +260,9 @@ module _ (nodes : List SchemaNode) (above : List Seg) (seg : Seg) where
             in_order = stand.in_order;
             of_schema = stand.of_schema;
             within = stand.within;
-            leaf = λ l. outer_own ms [] after (stand_none nodes at) some e (leaf_is_own kind (sym (ap (last_kind_is is_leaf_kind nodes) (last_of above seg)) ∙ l));
+            leaf = λ l. outer_own ms [] after (stand_none nodes at) some e (leaf_is_own kind (sym (ap (last_kind_is is_leaf_kind nodes) (last_node_append above seg)) ∙ l));
           };
-          own = λ l. outer_own ms [] after (stand_none nodes at) some e (entry_is_own kind (sym (ap (last_kind_is is_entry_kind nodes) (last_of above seg)) ∙ l));
+          own = λ l. outer_own ms [] after (stand_none nodes at) some e (entry_is_own kind (sym (ap (last_kind_is is_entry_kind nodes) (last_node_append above seg)) ∙ l));
           entries = stand.entries;
         })
 

@@ -11,7 +11,7 @@ use Rattle.yp_base.specs.declared.row.Row.{Row}
 use Rattle.yp_base.specs.Order.{segment_cmp, path_cmp, is_within}
 use Rattle.yp_base.specs.Rows.{value_at, put_row, put_rows, has_within, rows_without}
 use Rattle.yp_base.specs.Exact.{segments_decide}
-use Rattle.yp_base.specs.RowLaws.{value_at_without, puts_order, without_keeps_order}
+use Rattle.yp_base.specs.RowLaws.{value_at_without, puts_order, without_keeps_order, all_put}
 use Rattle.yp_base.specs.TextLaws.{read_fits}
 use Rattle.yp_schema.specs.declared.schema.SchemaNode.{SchemaNode}
 use Rattle.yp_schema.specs.Datastore.{is_path_of, is_place, ends_in_key, ends_in_entry, IsRowOf, has_row, IsDatastore, AreWhole}
@@ -22,8 +22,6 @@ use Rattle.yp_path.specs.Targets.{segments_in}
 use Rattle.yp_path.proofs.Reading.{path_of_cut}
 use Rattle.yp_data_json.specs.declared.fault.DataFault.{DataFault}
 use Rattle.yp_data_json.specs.AtPath.{rows_read}
-use Rattle.yp_data_json.proofs.Growing.{within_more}
-use Rattle.yp_data_json.proofs.PutRows.{all_put}
 use Rattle.yp_data_json.proofs.Wholes.{read_whole}
 use Rattle.serde_json.specs.Data.{Data}
 use Rattle.yp_edit.specs.declared.fault.Tag.TheVariants.{DataMissing}
@@ -39,6 +37,7 @@ use Rattle.yp_edit.proofs.Applied.{then_ok, choice_ok, numbered_ok}
 use Rattle.yp_edit.proofs.Committing.{puts_stay}
 use Rattle.yp_edit.proofs.Drafts.{there_first, there_of_puts}
 use Rattle.yp_edit.proofs.Ends.{may_stand}
+use Rattle.yp_base.specs.PathLaws.{within_longer}
 
 -- ---- paths
 
@@ -127,7 +126,7 @@ module _ (nodes : List SchemaNode) (target : List Seg) (rows : List Row) (datast
   apart_above : (above rest : List Seg) → is_within target (above ++ rest) ≡ false → is_within target above ≡ false
   apart_above above rest apart =
       elim (is_within target above) as (λ b. is_within target above ≡ b → b ≡ false) [
-        | true ↦ λ e. absurd (true≢false (sym (within_more target above rest e) ∙ apart))
+        | true ↦ λ e. absurd (true≢false (sym (within_longer target above rest e) ∙ apart))
         | false ↦ λ e. refl
       ] refl
 

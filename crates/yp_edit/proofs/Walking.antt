@@ -2,18 +2,18 @@
 use Rattle.std.proofs.Common.{◌≡◌, ◌<◌, List, [], ◌∷◌, length, map, refl, sym, ap, subst, ◌∙◌, cond, Bool, true, false, not, ◌&&◌, Option, Some, None, arith}
 use Rattle.std.specs.Prelude.{filter, is_some, option_map}
 use Rattle.std.specs.List.Sorted.{IsStrictlySortedBy}
-use Rattle.std.specs.Ordering.{is_eq, is_lt, ordering_reverse}
+use Rattle.std.specs.Ordering.{is_lt, ordering_reverse}
 use Rattle.std.proofs.lemmas.Cmp.{tied_itself}
 use Rattle.std.specs.declared.cmp.Ordering.{Ordering}
 use Rattle.std.specs.declared.cmp.Ordering.TheVariants.{Less, Equal, Greater}
 use Rattle.yp_base.specs.declared.path.Seg.{Seg}
 use Rattle.yp_base.specs.declared.row.Row.{Row}
 use Rattle.yp_base.specs.Order.{path_cmp, is_within}
-use Rattle.yp_base.specs.OrderLaws.{segments_total, paths_total}
+use Rattle.yp_base.specs.OrderLaws.{paths_total}
 use Rattle.yp_base.specs.Rows.{path_of, next_row, AreInOrder}
-use Rattle.std.proofs.lemmas.Bool.{and_parts, and_from}
-use Rattle.yp_tree.proofs.Nexts.{is_less}
+use Rattle.std.proofs.lemmas.Bool.{and_parts}
 use Rattle.yp_edit.proofs.Alike.{IsBefore}
+use Rattle.yp_base.specs.PathLaws.{less_told}
 
 -- the rows past a path that are at or below a target
 abbrev pub later : List Seg → List Seg → List Row → List Row
@@ -51,7 +51,7 @@ next_first after target (first ∷ rows) row order next =
       | true ↦ λ past h.
           let same : first ≡ row = cc in
           let whole : first ∷ later after target rows ≡ first ∷ later first.path target (first ∷ rows) =
-          ap (λ (more : List Row). first ∷ more) (later_all after first.path target rows (is_less _ (and_parts _ _ past).0) order.0 ∙ sym (not_later first.path target first rows Equal (tied_itself paths_total first.path) refl)) in
+          ap (λ (more : List Row). first ∷ more) (later_all after first.path target rows (less_told _ (and_parts _ _ past).0) order.0 ∙ sym (not_later first.path target first rows Equal (tied_itself paths_total first.path) refl)) in
           subst (λ (r : Row). first ∷ later after target rows ≡ r ∷ later r.path target (first ∷ rows)) same whole
       | false ↦ λ past h.
           next_first after target rows row order.1 h
@@ -116,7 +116,7 @@ module _ (p : List Seg → Bool) where
             let out : p first.path ≡ false = ap (λ (r : Row). p r.path) same ∙ isnt in
             ap (λ b. next_row row.path under (cond b (first ∷ picked rows) (picked rows))) out
             ∙ ap (λ (r : Row). next_row r.path under (picked rows)) (sym same)
-            ∙ sym (past_same after first.path under (picked rows) (is_less _ (and_parts _ _ past).0) (before_picked first.path rows order.0))
+            ∙ sym (past_same after first.path under (picked rows) (less_told _ (and_parts _ _ past).0) (before_picked first.path rows order.0))
             ∙ ap (λ b. next_row after under (cond b (first ∷ picked rows) (picked rows))) (sym out)
         | false ↦ λ past h.
             let behind : path_cmp row.path first.path ≡ Greater = paths_total.antisymm row.path first.path ∙ ap ordering_reverse (found_behind after under first.path rows row h order.0) in

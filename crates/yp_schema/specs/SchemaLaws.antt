@@ -1,7 +1,7 @@
 -- What follows of a compiled schema, and of its paths.
 use Rattle.std.proofs.Common.{◌≡◌, ℕ, ◌<◌, List, [], ◌∷◌, ◌++◌, length, Bool, true, false, true≢false, refl, sym, ap, ◌∙◌, Option, Some, None, IfSome}
 use Rattle.std.specs.Prelude.{not, All}
-use Rattle.std.proofs.lemmas.Bool.{and_parts, and_from, ltb-true}
+use Rattle.std.proofs.lemmas.Bool.{and_parts, and_from, eqb-true, ltb-true}
 use Rattle.std.proofs.lemmas.List.Elements.{All-nil, All-cons, All-weaker}
 use Rattle.yp_base.specs.declared.leaf_type.LeafType.{LeafType}
 use Rattle.yp_base.specs.declared.path.Seg.{Seg}
@@ -12,7 +12,7 @@ use Rattle.yp_schema.specs.declared.schema.SchemaNode.{SchemaNode}
 use Rattle.yp_schema.specs.declared.schema.Kind.{Kind}
 use Rattle.yp_schema.specs.declared.schema.Kind.TheVariants.{Container, Presence, List as Listing, Leaf, LeafList}
 use Rattle.yp_base.specs.Paths.{same_number}
-use Rattle.yp_schema.specs.Nodes.{node_at}
+use Rattle.yp_schema.specs.Nodes.{node_at, may_hold}
 use Rattle.yp_schema.specs.WellFormed.{IsSchema, is_parent_of, kind_stands, has_none, has_type, has_atom_type, is_empty, is_key_leaf, are_key_leaves}
 use Rattle.yp_base.specs.Paths.{last_node}
 use Rattle.yp_schema.specs.Datastore.{is_segment, goes_down, is_path_of, is_key_node, is_key_at, ends_in_key, is_place, IsRowOf, value_of_kind, may_end, goes_to_row}
@@ -102,6 +102,47 @@ pub last_node_append : (above : List Seg) (seg : Seg) → last_node (above ++ se
 last_node_append [] seg = refl
 last_node_append (first ∷ []) seg = refl
 last_node_append (first ∷ next ∷ above) seg = last_node_append (next ∷ above) seg
+
+-- the node of the last segment, or another where there is none
+abbrev pub node_after : Option ℕ → List Seg → Option ℕ
+node_after parent [] = parent
+node_after parent (seg ∷ segs) = node_after (Some seg.node) segs
+
+pub node_after_append : (parent : Option ℕ) (above : List Seg) (seg : Seg) → node_after parent (above ++ seg ∷ []) ≡ Some seg.node
+node_after_append parent [] seg = refl
+node_after_append parent (first ∷ above) seg = node_after_append (Some first.node) above seg
+
+-- a way down goes on from each of its nodes
+pub goes_on : (nodes : List SchemaNode) (parent : Option ℕ) (above rest : List Seg) → goes_down nodes parent (above ++ rest) ≡ true → goes_down nodes (node_after parent above) rest ≡ true
+goes_on nodes parent [] rest h = h
+goes_on nodes parent (seg ∷ above) rest h = goes_on nodes (Some seg.node) above rest (and_parts _ _ h).1
+
+-- its first node is a child of the parent
+pub first_parent : (nodes : List SchemaNode) (parent : Option ℕ) (seg : Seg) (rest : List Seg) → goes_down nodes parent (seg ∷ rest) ≡ true → same_number (node_at seg.node nodes).parent parent ≡ true
+first_parent nodes parent seg rest h = (and_parts _ _ (and_parts _ _ h).0).0
+
+-- and its first segment is one
+pub first_segment : (nodes : List SchemaNode) (parent : Option ℕ) (seg : Seg) (rest : List Seg) → goes_down nodes parent (seg ∷ rest) ≡ true → is_segment nodes seg ≡ true
+first_segment nodes parent seg rest h = (and_parts _ _ (and_parts _ _ h).0).1
+
+-- as is its last
+pub last_is_segment : (nodes : List SchemaNode) (parent : Option ℕ) (above : List Seg) (seg : Seg) → goes_down nodes parent (above ++ seg ∷ []) ≡ true → is_segment nodes seg ≡ true
+last_is_segment nodes parent [] seg h = first_segment nodes parent seg [] h
+last_is_segment nodes parent (first ∷ above) seg h = last_is_segment nodes (Some first.node) above seg (and_parts _ _ h).1
+
+holds_at : (nodes : List SchemaNode) (n m : ℕ) (parent : Option ℕ) → same_number parent (Some n) ≡ true → is_parent_of parent m nodes ≡ true → may_hold (node_at n nodes).kind ≡ true
+holds_at nodes n m None same h = absurd (true≢false (sym same))
+holds_at nodes n m (Some p) same h = ap (λ k. may_hold (node_at k nodes).kind) (sym (eqb-true p n same)) ∙ (and_parts _ (may_hold (node_at p nodes).kind) h).1
+
+-- a node that has a child is of a kind that holds some
+pub child_holds : (nodes : List SchemaNode) → IsSchema nodes → (n m : ℕ) → m < length nodes → same_number (node_at m nodes).parent (Some n) ≡ true → may_hold (node_at n nodes).kind ≡ true
+child_holds nodes schema n m within same = holds_at nodes n m (node_at m nodes).parent same (schema.each m within).parent
+
+-- so nothing goes on below a leaf
+pub leaf_ends : (nodes : List SchemaNode) → IsSchema nodes → (n : ℕ) (rest : List Seg) → may_hold (node_at n nodes).kind ≡ false → goes_down nodes (Some n) rest ≡ true → rest ≡ []
+leaf_ends nodes schema n [] leaf down = refl
+leaf_ends nodes schema n (seg ∷ rest) leaf down =
+    absurd (true≢false (sym (child_holds nodes schema n seg.node (segment_within nodes seg (first_segment nodes (Some n) seg rest down)) (first_parent nodes (Some n) seg rest down)) ∙ leaf))
 
 -- data may stand at a path that ends in no key leaf
 pub open_place : (nodes : List SchemaNode) (path : List Seg) → is_path_of nodes path ≡ true → ends_in_key nodes path ≡ false → is_place nodes path ≡ true

@@ -15,8 +15,8 @@ use Rattle.yp_data_json.specs.Forest.{laid_all}
 use Rattle.yp_data_json.specs.Writing.{leaf_data, gathered, members_in}
 use Rattle.yp_data_json.specs.Runs.{longest, IsRest, AreBelow, AreNodes, goes_through, AllGoThrough, entry_of, all_in_front, AreOneMember}
 use Rattle.yp_data_json.proofs.Parts.{all_front, all_back}
-use Rattle.yp_schema.specs.SchemaLaws.{segment_within}
-use Rattle.yp_data_json.proofs.Below.{front_below, back_below, next_segment, further, AllBefore, NextBefore}
+use Rattle.yp_schema.specs.SchemaLaws.{segment_within, first_segment}
+use Rattle.yp_data_json.proofs.Below.{front_below, back_below, further, AllBefore, NextBefore}
 use Rattle.yp_data_json.proofs.Steps.{longest_front, longest_back, deep_rows, deep_left, first_next, first_node, all_before_none, own_row_adds, run_some, some_rows, last_next, last_before, one_more, regrouped, rest_before, has_plain, plain_below, container_member, presence_member, leaf_fits, leaf_member, entry_some, entry_step, entries_member, keys_within}
 use Rattle.yp_data_json.proofs.writing.+write.Goals as goal
 
@@ -45,7 +45,7 @@ write_entries-write_item-requires t c =
       (
         c.requires.schema,
         (
-          next_segment nodes below.0 seg (drop (depth + 1) c.in-Some.first.now.path) down,
+          first_segment nodes below.0 seg (drop (depth + 1) c.in-Some.first.now.path) down,
           (Some seg.node, further nodes below.0 depth seg entry c.split_entry.ensures.entry (front_below nodes below.0 depth entry others (subst (λ rows. AreBelow nodes below.0 depth rows) parts below.1))),
         ),
       ),
@@ -128,7 +128,7 @@ write_members-write_node-requires t c =
           (
             c.split_run.ensures.run,
             (
-              segment_within nodes seg (next_segment nodes below.0 seg (drop (depth + 1) last.path) (last_next nodes below.0 depth seg left c.in-Some.before.now last is c.segment.ensures.is left_below)),
+              segment_within nodes seg (first_segment nodes below.0 seg (drop (depth + 1) last.path) (last_next nodes below.0 depth seg left c.in-Some.before.now last is c.segment.ensures.is left_below)),
               (some_rows run some.0 some.1.0 some.1.1, c.segment.ensures.room),
             ),
           ),
@@ -146,7 +146,7 @@ write_members-member_text-requires t c =
     let below = c.requires.below in
     let left_below = front_below nodes below.0 depth left c.loop-last.invariant.0 (subst (λ rows. AreBelow nodes below.0 depth rows) c.loop-last.invariant.1 below.1) in
     segment_within nodes seg
-    (next_segment nodes below.0 seg (drop (depth + 1) last.path) (last_next nodes below.0 depth seg left c.in-Some.before.now last c.in-Some.ensures.cases.0 c.segment.ensures.is left_below))
+    (first_segment nodes below.0 seg (drop (depth + 1) last.path) (last_next nodes below.0 depth seg left c.in-Some.before.now last c.in-Some.ensures.cases.0 c.segment.ensures.is left_below))
 
 pub write_members-loop-last-smaller : goal.write_members-loop-last-smaller
 write_members-loop-last-smaller t c =

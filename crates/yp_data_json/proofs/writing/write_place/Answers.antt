@@ -3,8 +3,8 @@ use Rattle.yp_schema.specs.Nodes.{node_at}
 use Rattle.yp_data_json.specs.Writing.{leaf_data, data_at}
 use Rattle.yp_data_json.specs.Runs.{AreBelow}
 use Rattle.yp_data_json.proofs.Parts.{none_left}
-use Rattle.yp_schema.specs.SchemaLaws.{segment_within}
-use Rattle.yp_data_json.proofs.AtPlace.{node_after, writable_below, place_segment, place_fits, place_some, place_written, if_same}
+use Rattle.yp_schema.specs.SchemaLaws.{segment_within, node_after}
+use Rattle.yp_data_json.proofs.AtPlace.{writable_below, place_segment, place_fits, place_some, place_written, if_same}
 use Rattle.yp_data_json.proofs.writing.write_place.Goals as goal
 
 pub kind-requires : goal.kind-requires
