@@ -9,7 +9,6 @@ use Rattle.yp_base.specs.declared.path.Seg.{Seg}
 use Rattle.yp_base.specs.Order.{segment_cmp, path_cmp, is_within}
 use Rattle.yp_base.specs.OrderLaws.{segments_total, paths_total}
 use Rattle.yp_base.specs.Prefixes.{fronts_together, front_not_after}
-use Rattle.yp_tree.proofs.Nexts.{less_not_greater}
 use Rattle.yp_edit.proofs.Alike.{IsBefore}
 use Rattle.yp_base.specs.PathLaws.{within_itself, within_through}
 use Rattle.yp_base.specs.Paths.{is_above, topmost as roots_of}
@@ -62,7 +61,7 @@ covered_below (Some root) path below covered within = within_through root path b
 -- what comes past a path that isn't at or below the root isn't either
 never_again : (root : Option (List Seg)) (path later : List Seg) (paths : List (List Seg)) → IsPast root (path ∷ paths) → is_covered root path ≡ false → path_cmp path later ≡ Less → is_covered root later ≡ false
 never_again None path later paths past free less = refl
-never_again (Some root) path later paths past free less = fronts_together segments_total root path later (less_not_greater _ past.0) free (less_not_greater _ less)
+never_again (Some root) path later paths past free less = fronts_together segments_total root path later (ap is_gt past.0) free (ap is_gt less)
 
 -- the topmost of what follows a root
 abbrev pub tops : Option (List Seg) → List (List Seg) → List (List Seg)

@@ -1,6 +1,6 @@
 -- What putting, keeping and leaving out do to rows in order.
-use Rattle.std.proofs.Common.{◌≡◌, List, [], ◌∷◌, ◌++◌, map, refl, sym, ap, subst, ◌∙◌, cond, Bool, true, false, not, Some, None, Less, Equal, Greater, append-nil, append_assoc}
-use Rattle.std.specs.Prelude.{filter}
+use Rattle.std.proofs.Common.{◌≡◌, List, [], ◌∷◌, ◌++◌, map, refl, sym, ap, subst, ◌∙◌, cond, Bool, true, false, not, Some, None, Less, Equal, Greater, append-nil, append_assoc, Option}
+use Rattle.std.specs.Prelude.{filter, is_some}
 use Rattle.std.specs.Ordering.{is_eq, match_ordering}
 use Rattle.std.specs.declared.cmp.Ordering.{Ordering}
 use Rattle.std.specs.List.{AllByRecursion}
@@ -16,6 +16,7 @@ use Rattle.yp_base.specs.Exact.{paths_exact}
 pub use Rattle.yp_base.specs.PathLaws.{greater_turned as below}
 use Rattle.yp_base.specs.PathLaws.{less_turned, greater_turned}
 use Rattle.yp_base.specs.Rows.{put_row, put_rows, value_at, path_of, rows_within, rows_without, AreInOrder}
+use Rattle.yp_base.specs.declared.row.Value.{Value}
 
 -- a path is before each of these rows
 abbrev pub AllPast : List Seg → List Row → Type 0
@@ -188,6 +189,11 @@ within_keeps_order path rows h = some_keep_order (is_within path) rows h
 
 pub without_keeps_order : (path : List Seg) (rows : List Row) → AreInOrder rows → AreInOrder (rows_without path rows)
 without_keeps_order path rows h = some_keep_order (λ x. not (is_within path x)) rows h
+
+-- what has a value has one with a row more
+pub still_some : (here : Bool) (value : Value) (later : Option Value) → is_some later ≡ true → is_some (cond here (Some value) later) ≡ true
+still_some true value later h = refl
+still_some false value later h = h
 
 -- the value at a path after a row is put
 pub value_at_put : (path : List Seg) (new : Row) (rows : List Row) → value_at path (put_row new rows) ≡ cond (is_eq (path_cmp path new.path)) (Some new.value) (value_at path rows)

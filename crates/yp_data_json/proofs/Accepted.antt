@@ -17,7 +17,7 @@ use Rattle.serde_json.specs.Find.{get_member}
 use Rattle.yp_data_json.specs.declared.fault.DataFault.TheVariants.{UnknownElement, InvalidValue, RepeatedKey}
 use Rattle.yp_schema.specs.Values.{typed_value, typed_atom}
 use Rattle.yp_base.specs.Results.{◌>>=◌}
-use Rattle.yp_data_json.specs.Reading.{valid, keys_in, below, row_at, leaf_read, entered, value_read, values_read, in_object, in_array, in_plain, plain_read, for_child, members_read, node_read, entries_read, entry_read}
+use Rattle.yp_data_json.specs.Reading.{valid, keys_in, below, row_at, leaf_read, entered, value_read, leaf_list_read, in_object, in_array, in_plain, plain_read, for_child, members_read, node_read, entries_read, entry_read}
 use Rattle.yp_data_json.specs.Holding.{HasNamesOnce, ItemsHaveNamesOnce, MembersHaveNamesOnce, IsValue, IsEntryWith, IsAtomOf, NoneIs, AreApart, OfKind, AreAtomsOf, AreMembersOf, IsDataOf, AreEntriesOf, IsEntryOf, IsLeafRow, ValuesHold, MembersHold, DataHolds, EntriesHold, EntryHolds}
 use Rattle.yp_data_json.proofs.Readings.{bound, ok_rows, given, child_is}
 use Rattle.yp_data_json.proofs.ReadStands.{entered_is}
@@ -102,7 +102,7 @@ module _ (nodes : List SchemaNode) where
     adds : Adds (ValuesHold nodes n path ds) rows after
     new : (atom : Atom) → is_some (value_at (below path n (atom ∷ [])) rows) ≡ true → NoneIs (IsAtomOf nodes n) atom ds
 
-  values_accepted : (n : ℕ) (path : List Seg) (ds : Items) (rows after : List Row) → values_read nodes n path ds rows ≡ Ok after → ValuesRead n path ds rows after
+  values_accepted : (n : ℕ) (path : List Seg) (ds : Items) (rows after : List Row) → leaf_list_read nodes n path ds rows ≡ Ok after → ValuesRead n path ds rows after
   values_accepted n path no_items rows after h = record {
     each = tt;
     apart = tt;
@@ -110,7 +110,7 @@ module _ (nodes : List SchemaNode) where
     new = λ atom k. tt;
   }
   values_accepted n path (item d ds) rows after h =
-      bound (value_read nodes n path d rows) (λ mid. values_read nodes n path ds mid) after h
+      bound (value_read nodes n path d rows) (λ mid. leaf_list_read nodes n path ds mid) after h
       (λ mid e g.
       let one = value_accepted n path d rows mid e in
       let rest = values_accepted n path ds mid after g in
@@ -248,7 +248,7 @@ module _ (nodes : List SchemaNode) where
       node_accepted (number x) once n low path rows after free h = plain_accepted n path (number x) rows after free h
       node_accepted (string s) once n low path rows after free h = plain_accepted n path (string s) rows after free h
       node_accepted (array ds) once n low path rows after free h =
-          elim (node_at n nodes).kind as (λ k. (node_at n nodes).kind ≡ k → in_array k (entries_read nodes n path ds rows) (leaf_read nodes n path (array ds) rows) (values_read nodes n path ds rows) (Err InvalidValue) ≡ Ok after
+          elim (node_at n nodes).kind as (λ k. (node_at n nodes).kind ≡ k → in_array k (entries_read nodes n path ds rows) (leaf_read nodes n path (array ds) rows) (leaf_list_read nodes n path ds rows) (Err InvalidValue) ≡ Ok after
           → OfKind k ⊥ (AreEntriesOf nodes n ds × AreApart (IsEntryWith nodes n) ds) (IsValue nodes n (array ds)) (AreAtomsOf nodes n ds × AreApart (IsAtomOf nodes n) ds)
           × Adds (λ row. OfKind k ⊥ (EntriesHold nodes n path ds row) (IsLeafRow nodes n path (array ds) row) (ValuesHold nodes n path ds row)) rows after) [
             | Container ↦ λ k e. let no : ⊥ = cc in absurd no

@@ -20,7 +20,7 @@ use Rattle.yp_data_json.specs.declared.fault.DataFault.{DataFault}
 use Rattle.yp_data_json.specs.declared.fault.DataFault.TheVariants.{UnknownElement, InvalidValue}
 use Rattle.yp_schema.specs.Values.{typed_value, typed_atom}
 use Rattle.yp_base.specs.Results.{◌>>=◌}
-use Rattle.yp_data_json.specs.Reading.{valid, keys_in, below, row_at, leaf_read, entered, value_read, values_read, in_object, in_array, in_plain, plain_read, for_child, members_read, node_read, entries_read, entry_read}
+use Rattle.yp_data_json.specs.Reading.{valid, keys_in, below, row_at, leaf_read, entered, value_read, leaf_list_read, in_object, in_array, in_plain, plain_read, for_child, members_read, node_read, entries_read, entry_read}
 use Rattle.yp_data_json.specs.Holding.{HasNamesOnce, ItemsHaveNamesOnce, MembersHaveNamesOnce, IsOfType, IsValue, IsEntryWith, IsAtomOf, NoneIs, AreApart, OfKind, AreAtomsOf, AreMembersOf, IsDataOf, AreEntriesOf, IsEntryOf, EntryHolds}
 use Rattle.yp_data_json.proofs.Readings.{child_is}
 use Rattle.yp_data_json.proofs.Adding.{Adds, Free, still_none, same_keys, none_here}
@@ -103,7 +103,7 @@ module _ (nodes : List SchemaNode) where
       next (valid (typed_atom (node_at n nodes).ty d)) a (λ atom. entered (below path n (atom ∷ [])) Member rows) (atom_of (node_at n nodes).ty d a is)
       (put_row (row_at (below path n (a ∷ [])) Member) rows, entered_free (below path n (a ∷ [])) Member rows none)
 
-  values_gives : (n : ℕ) (path : List Seg) (ds : Items) (rows : List Row) → AreAtomsOf nodes n ds → AreApart (IsAtomOf nodes n) ds → Absent (IsAtomOf nodes n) (λ atom. below path n (atom ∷ [])) ds rows → Gives (values_read nodes n path ds rows)
+  values_gives : (n : ℕ) (path : List Seg) (ds : Items) (rows : List Row) → AreAtomsOf nodes n ds → AreApart (IsAtomOf nodes n) ds → Absent (IsAtomOf nodes n) (λ atom. below path n (atom ∷ [])) ds rows → Gives (leaf_list_read nodes n path ds rows)
   values_gives n path no_items rows are apart absent = (rows, refl)
   values_gives n path (item d ds) rows are apart absent =
       let a = are.0.0 in
@@ -115,7 +115,7 @@ module _ (nodes : List SchemaNode) where
       one_key other h.0 (path_keys path n (other ∷ []) (h.0 ∷ []) [] (sym e ∙ ap (λ (r : Row). r.path) h.2 ∙ sym (append-nil (below path n (h.0 ∷ [])))))
       ∙ one_atom (node_at n nodes).ty d h.0 a h.1 are.0.1)
       (apart.0 a are.0.1) absent.1) in
-      next (value_read nodes n path d rows) one.0 (λ mid. values_read nodes n path ds mid) one.1 rest
+      next (value_read nodes n path d rows) one.0 (λ mid. leaf_list_read nodes n path ds mid) one.1 rest
 
   child_gives : (parent : Option ℕ) (path : List Seg) (name : List ℕ) (d : Data) (rows : List Row) (n : ℕ) → child_of parent name nodes ≡ Some n → Gives (node_read nodes n path d rows)
       → Gives (for_child (child_of parent name nodes) (Err UnknownElement) (λ m. if is_key m parent nodes then Ok rows else node_read nodes m path d rows))
@@ -148,7 +148,7 @@ module _ (nodes : List SchemaNode) where
       node_gives (array ds) once n low path rows free is =
           elim (node_at n nodes).kind as (λ k. (node_at n nodes).kind ≡ k
           → OfKind k ⊥ (AreEntriesOf nodes n ds × AreApart (IsEntryWith nodes n) ds) (IsValue nodes n (array ds)) (AreAtomsOf nodes n ds × AreApart (IsAtomOf nodes n) ds)
-          → Gives (in_array k (entries_read nodes n path ds rows) (leaf_read nodes n path (array ds) rows) (values_read nodes n path ds rows) (Err InvalidValue))) [
+          → Gives (in_array k (entries_read nodes n path ds rows) (leaf_read nodes n path (array ds) rows) (leaf_list_read nodes n path ds rows) (Err InvalidValue))) [
             | Container ↦ λ k i. absurd i
             | Presence ↦ λ k i. absurd i
             | Listing ↦ λ k i.

@@ -33,7 +33,7 @@ use Rattle.yp_data_json.specs.declared.fault.DataFault.TheVariants.{UnknownEleme
 use Rattle.yp_schema.specs.Values.{typed_value, typed_atom}
 use Rattle.yp_schema.specs.SchemaLaws.{type_is}
 use Rattle.yp_base.specs.Results.{◌>>=◌}
-use Rattle.yp_data_json.specs.Reading.{valid, key_in, at_key, both, keys_found, fault_alone, keys_in, below, row_at, leaf_read, entered, value_read, values_read, for_child, members_read, node_read, entries_read, entry_read}
+use Rattle.yp_data_json.specs.Reading.{valid, key_in, at_key, with_key, keys_found, fault_alone, keys_in, below, row_at, leaf_read, entered, value_read, leaf_list_read, for_child, members_read, node_read, entries_read, entry_read}
 use Rattle.yp_data_json.specs.Forest.{Forest, bare, branch}
 use Rattle.serde_json.specs.View.{items_of}
 use Rattle.yp_data_json.specs.Writing.{leaf_data, key_data, one_key_data, with_keys, Entry, Gathered, no_nodes, single, entries, entry_in_front, branch_in_front, members_of, gathered, members_in}
@@ -93,8 +93,8 @@ found_again nodes schema n (k ∷ ks) (a ∷ keys) ms s h =
     let fits = and_parts (atom_fits (node_at k nodes).ty a) (keys_fit nodes ks keys) h in
     let here : get_member name (with_keys nodes ks keys (put name d ms)) ≡ Some d = get_past nodes name ks keys (put name d ms) s.3 ∙ get_member-put name d ms in
     let first : key_in (node_at k nodes).ty (get_member name (with_keys nodes ks keys (put name d ms))) ≡ Ok a = ap (key_in (node_at k nodes).ty) here ∙ atom_again nodes schema k a s.2 fits.0 in
-    ap (λ (r : Result Atom DataFault). both nodes (at_key k r) (keys_found nodes ks (with_keys nodes ks keys (put name d ms)))) first
-    ∙ ap (both nodes (Ok a)) (found_again nodes schema n ks keys (put name d ms) s.4 fits.1)
+    ap (λ (r : Result Atom DataFault). with_key nodes (at_key k r) (keys_found nodes ks (with_keys nodes ks keys (put name d ms)))) first
+    ∙ ap (with_key nodes (Ok a)) (found_again nodes schema n ks keys (put name d ms) s.4 fits.1)
 
 pub keys_again : (nodes : List SchemaNode) → IsSchema nodes → (n : ℕ) (ks : List ℕ) (keys : List Atom) (ms : Members) → KeysStand nodes n ks → keys_fit nodes ks keys ≡ true → keys_in nodes ks (with_keys nodes ks keys ms) ≡ Ok keys
 keys_again nodes schema n ks keys ms s h = ap fault_alone (found_again nodes schema n ks keys ms s h)
@@ -184,7 +184,7 @@ value_first : (nodes : List SchemaNode) (parent : Option ℕ) (n : ℕ) (path : 
     → child_of parent (node_at n nodes).member nodes ≡ Some n → is_key n parent nodes ≡ false → (node_at n nodes).kind ≡ LeafList
     → members_read nodes parent path (members_of nodes (entry_in_front n e g)) acc ≡ (value_read nodes n path e.json acc >>= λ a. members_read nodes parent path (members_of nodes g) a)
 value_first nodes parent n path e g acc found key kind =
-    item_first nodes parent n path (value_read nodes n path) (values_read nodes n path) (λ ds rows. rw kind refl) (λ rows. refl) (λ d ds rows. refl) e g acc found key
+    item_first nodes parent n path (value_read nodes n path) (leaf_list_read nodes n path) (λ ds rows. rw kind refl) (λ rows. refl) (λ d ds rows. refl) e g acc found key
 
 -- ---- leaves
 

@@ -20,13 +20,13 @@ use Rattle.yp_schema.specs.Datastore.{goes_down, is_segment, is_place, value_of_
 use Rattle.yp_schema.specs.SchemaLaws.{row_goes_down, row_ends, end_kind, leaf_ends, last_node_append, node_after_append, goes_on, node_after, last_is_segment}
 use Rattle.yp_data_json.specs.Forest.{forest_at}
 use Rattle.yp_base.specs.Paths.{last_segment}
-use Rattle.yp_data_json.specs.Writing.{leaf_data, members_in, place_data, data_at, named_member, rows_json}
+use Rattle.yp_data_json.specs.Writing.{leaf_data, members_in, place_data, place_json, named_member, rows_json}
 use Rattle.std.specs.Prelude.{IfOk}
 use Rattle.serde_json.specs.Data.{Data, object}
 use Rattle.serde_json.specs.View.{view}
 use Rattle.serde_json.specs.declared.value.Value.{Value as Json}
 use Rattle.yp_base.specs.declared.memory.NoMemory.{NoMemory}
-use Rattle.yp_data_json.specs.Runs.{GoesOn, IsRest, rest_of, AreBelow}
+use Rattle.yp_data_json.specs.Runs.{GoesOn, IsRest, rest_at, AreBelow}
 use Rattle.yp_base.specs.PathLaws.{within_rest}
 
 row_goes_on : (nodes : List SchemaNode) (parent : Option ℕ) (at rest : List Seg) (v : Value) → goes_to_row nodes parent (at ++ rest) v ≡ true → GoesOn nodes (node_after parent at) rest v
@@ -52,19 +52,19 @@ pub same_front : (at xs ys : List Seg) → path_cmp (at ++ xs) (at ++ ys) ≡ pa
 same_front [] xs ys = refl
 same_front (s ∷ at) xs ys = ap (λ o. ordering_then o (path_cmp (at ++ xs) (at ++ ys))) (tied_itself segments_total s) ∙ same_front at xs ys
 
-rest_less : (at : List Seg) (one other : Row) → is_within at one.path ≡ true → is_within at other.path ≡ true → path_cmp one.path other.path ≡ Less → path_cmp (rest_of (length at) one) (rest_of (length at) other) ≡ Less
+rest_less : (at : List Seg) (one other : Row) → is_within at one.path ≡ true → is_within at other.path ≡ true → path_cmp one.path other.path ≡ Less → path_cmp (rest_at (length at) one) (rest_at (length at) other) ≡ Less
 rest_less at one other h k less =
     let a = within_rest at one.path h in
     let b = within_rest at other.path k in
-    ap (λ p. path_cmp p (rest_of (length at) other)) (left_over at one.path a.0 a.1) ∙ ap (path_cmp a.0) (left_over at other.path b.0 b.1) ∙ sym (same_front at a.0 b.0)
+    ap (λ p. path_cmp p (rest_at (length at) other)) (left_over at one.path a.0 a.1) ∙ ap (path_cmp a.0) (left_over at other.path b.0 b.1) ∙ sym (same_front at a.0 b.0)
     ∙ sym (ap (λ p. path_cmp p (at ++ b.0)) a.1) ∙ sym (ap (path_cmp one.path) b.1) ∙ less
 
 all_less : (at : List Seg) (row : Row) (rows : List Row) → is_within at row.path ≡ true → AllByRecursion (λ x. is_within at x.path ≡ true) rows → AllByRecursion (λ p. path_cmp row.path p ≡ Less) (map path_of rows)
-    → AllByRecursion (λ p. path_cmp (rest_of (length at) row) p ≡ Less) (map (rest_of (length at)) rows)
+    → AllByRecursion (λ p. path_cmp (rest_at (length at) row) p ≡ Less) (map (rest_at (length at)) rows)
 all_less at row [] h k less = tt
 all_less at row (next ∷ rows) h k less = (rest_less at row next h k.0 less.0, all_less at row rows h k.1 less.1)
 
-rest_order : (at : List Seg) (rows : List Row) → AllByRecursion (λ x. is_within at x.path ≡ true) rows → AreInOrder rows → IsStrictlySortedBy path_cmp (map (rest_of (length at)) rows)
+rest_order : (at : List Seg) (rows : List Row) → AllByRecursion (λ x. is_within at x.path ≡ true) rows → AreInOrder rows → IsStrictlySortedBy path_cmp (map (rest_at (length at)) rows)
 unfolding IsStrictlySortedBy
 rest_order at [] within order = tt
 rest_order at (row ∷ rows) within order = (all_less at row rows within.0 within.1 order.0, rest_order at rows within.1 order.1)
@@ -116,7 +116,7 @@ place_some nodes at above seg rows is kind h none = true≢false (sym (h.leaf (p
 
 -- the JSON of a leaf's row is that of the leaf
 pub place_written : (nodes : List SchemaNode) → IsSchema nodes → (at above : List Seg) (seg : Seg) (rows : List Row) (row : Row) (more : List Row) → at ≡ above ++ seg ∷ [] → (node_at seg.node nodes).kind ≡ Leaf → rows ≡ row ∷ more → AreWritable nodes at rows
-    → leaf_data (node_at seg.node nodes).ty (Some row.value) ≡ data_at nodes seg at rows
+    → leaf_data (node_at seg.node nodes).ty (Some row.value) ≡ place_json nodes seg at rows
 place_written nodes schema at above seg rows row more is kind first h =
     ap (leaf_data (node_at seg.node nodes).ty) (sym (place_first nodes schema at above seg rows row more is kind first h))
     ∙ sym (ap (λ k. place_data nodes k (node_at seg.node nodes) seg (value_at at rows) (members_in nodes (forest_at (length at) rows))) kind)
@@ -131,13 +131,13 @@ last_is : (s : Seg) (above : List Seg) (seg : Seg) → last_segment s (above ++ 
 last_is s [] seg = refl
 last_is s (t ∷ above) seg = last_is t above seg
 
-json_split : (nodes : List SchemaNode) (above : List Seg) (seg : Seg) (rows : List Row) → rows_json nodes (above ++ seg ∷ []) rows ≡ named_member nodes seg (data_at nodes seg (above ++ seg ∷ []) rows)
+json_split : (nodes : List SchemaNode) (above : List Seg) (seg : Seg) (rows : List Row) → rows_json nodes (above ++ seg ∷ []) rows ≡ named_member nodes seg (place_json nodes seg (above ++ seg ∷ []) rows)
 json_split nodes [] seg rows = refl
-json_split nodes (s ∷ above) seg rows = ap (λ (x : Seg). named_member nodes x (data_at nodes x (s ∷ above ++ seg ∷ []) rows)) (last_is s above seg)
+json_split nodes (s ∷ above) seg rows = ap (λ (x : Seg). named_member nodes x (place_json nodes x (s ∷ above ++ seg ∷ []) rows)) (last_is s above seg)
 
 -- the JSON of rows at a path, by its last segment
-pub json_at : (nodes : List SchemaNode) (at above : List Seg) (seg : Seg) (rows : List Row) → at ≡ above ++ seg ∷ [] → rows_json nodes at rows ≡ named_member nodes seg (data_at nodes seg at rows)
-json_at nodes at above seg rows is = subst (λ path. rows_json nodes path rows ≡ named_member nodes seg (data_at nodes seg path rows)) (sym is) (json_split nodes above seg rows)
+pub json_at : (nodes : List SchemaNode) (at above : List Seg) (seg : Seg) (rows : List Row) → at ≡ above ++ seg ∷ [] → rows_json nodes at rows ≡ named_member nodes seg (place_json nodes seg at rows)
+json_at nodes at above seg rows is = subst (λ path. rows_json nodes path rows ≡ named_member nodes seg (place_json nodes seg path rows)) (sym is) (json_split nodes above seg rows)
 
 pub json_top : (nodes : List SchemaNode) (at : List Seg) (rows : List Row) → at ≡ [] → rows_json nodes at rows ≡ object (members_in nodes (forest_at 0 rows))
 json_top nodes at rows none = ap (λ path. rows_json nodes path rows) none

@@ -20,16 +20,16 @@ use Rattle.yp_schema.specs.WellFormed.{IsSchema}
 use Rattle.yp_schema.specs.Datastore.{goes_down}
 use Rattle.serde_json.specs.Data.{Data, Members, member}
 use Rattle.yp_schema.specs.SchemaLaws.{segment_within, row_goes_down, first_parent, first_segment}
-use Rattle.yp_data_json.specs.Runs.{GoesOn, IsRest, rest_of, AreBelow, begins_with, goes_through, ends_through, HasSegment, StandsBefore}
+use Rattle.yp_data_json.specs.Runs.{GoesOn, IsRest, rest_at, AreBelow, begins_with, goes_through, ends_through, HasSegment, StandsBefore}
 use Rattle.yp_data_json.proofs.Parts.{all_front, all_back, sorted_front, sorted_back, less_middle}
 
 -- ---- parts of rows
 
 pub front_below : (nodes : List SchemaNode) (parent : Option ℕ) (depth : ℕ) (xs ys : List Row) → AreBelow nodes parent depth (xs ++ ys) → AreBelow nodes parent depth xs
-front_below nodes parent depth xs ys h = record { each = all_front (IsRest nodes parent depth) xs ys h.each; in_order = sorted_front path_cmp (rest_of depth) xs ys h.in_order }
+front_below nodes parent depth xs ys h = record { each = all_front (IsRest nodes parent depth) xs ys h.each; in_order = sorted_front path_cmp (rest_at depth) xs ys h.in_order }
 
 pub back_below : (nodes : List SchemaNode) (parent : Option ℕ) (depth : ℕ) (xs ys : List Row) → AreBelow nodes parent depth (xs ++ ys) → AreBelow nodes parent depth ys
-back_below nodes parent depth xs ys h = record { each = all_back (IsRest nodes parent depth) xs ys h.each; in_order = sorted_back path_cmp (rest_of depth) xs ys h.in_order }
+back_below nodes parent depth xs ys h = record { each = all_back (IsRest nodes parent depth) xs ys h.each; in_order = sorted_back path_cmp (rest_at depth) xs ys h.in_order }
 
 -- ---- one segment further down
 
@@ -57,15 +57,15 @@ same_start : (seg : Seg) (xs ys : List Seg) → path_cmp (seg ∷ xs) (seg ∷ y
 same_start seg xs ys = ap (λ o. ordering_then o (path_cmp xs ys)) (tied_itself segments_total seg)
 
 less_further : (depth : ℕ) (seg : Seg) (row : Row) (rows : List Row) → HasSegment depth seg row → AllByRecursion (HasSegment depth seg) rows
-    → AllByRecursion (λ path. path_cmp (rest_of depth row) path ≡ Less) (map (rest_of depth) rows)
-    → AllByRecursion (λ path. path_cmp (rest_of (depth + 1) row) path ≡ Less) (map (rest_of (depth + 1)) rows)
+    → AllByRecursion (λ path. path_cmp (rest_at depth row) path ≡ Less) (map (rest_at depth) rows)
+    → AllByRecursion (λ path. path_cmp (rest_at (depth + 1) row) path ≡ Less) (map (rest_at (depth + 1)) rows)
 less_further depth seg row [] here all h = tt
 less_further depth seg row (next ∷ rows) here all h = (
   sym (same_start seg (drop (depth + 1) row.path) (drop (depth + 1) next.path)) ∙ sym (ap (λ p. path_cmp p (seg ∷ drop (depth + 1) next.path)) here) ∙ sym (ap (λ p. path_cmp (drop depth row.path) p) all.0) ∙ h.0,
   less_further depth seg row rows here all.1 h.1,
 )
 
-sorted_further : (depth : ℕ) (seg : Seg) (rows : List Row) → AllByRecursion (HasSegment depth seg) rows → IsStrictlySortedBy path_cmp (map (rest_of depth) rows) → IsStrictlySortedBy path_cmp (map (rest_of (depth + 1)) rows)
+sorted_further : (depth : ℕ) (seg : Seg) (rows : List Row) → AllByRecursion (HasSegment depth seg) rows → IsStrictlySortedBy path_cmp (map (rest_at depth) rows) → IsStrictlySortedBy path_cmp (map (rest_at (depth + 1)) rows)
 unfolding IsStrictlySortedBy
 sorted_further depth seg [] here h = tt
 sorted_further depth seg (row ∷ rows) here h = (less_further depth seg row rows here.0 here.1 h.0, sorted_further depth seg rows here.1 h.1)
@@ -112,22 +112,22 @@ earlier_chain n [] ys h later = tt
 earlier_chain n (s ∷ xs) [] h later = cc
 earlier_chain n (s ∷ xs) (t ∷ ys) h later = let rise = nodes_rise s t xs ys h in omega arith
 
-less_next : (depth : ℕ) (row : Row) (rows : List Row) (next : Row) (more : List Row) → IsStrictlySortedBy path_cmp (map (rest_of depth) (row ∷ (rows ++ next ∷ more))) → path_cmp (rest_of depth row) (rest_of depth next) ≡ Less
+less_next : (depth : ℕ) (row : Row) (rows : List Row) (next : Row) (more : List Row) → IsStrictlySortedBy path_cmp (map (rest_at depth) (row ∷ (rows ++ next ∷ more))) → path_cmp (rest_at depth row) (rest_at depth next) ≡ Less
 unfolding IsStrictlySortedBy
-less_next depth row rows next more h = less_middle path_cmp (rest_of depth) row rows next more h.0
+less_next depth row rows next more h = less_middle path_cmp (rest_at depth) row rows next more h.0
 
-sorted_tail : (depth : ℕ) (row : Row) (rows : List Row) → IsStrictlySortedBy path_cmp (map (rest_of depth) (row ∷ rows)) → IsStrictlySortedBy path_cmp (map (rest_of depth) rows)
+sorted_tail : (depth : ℕ) (row : Row) (rows : List Row) → IsStrictlySortedBy path_cmp (map (rest_at depth) (row ∷ rows)) → IsStrictlySortedBy path_cmp (map (rest_at depth) rows)
 unfolding IsStrictlySortedBy
 sorted_tail depth row rows h = h.1
 
 -- rows before a run of one node that don't end in it are of earlier nodes
-front_earlier : (depth n : ℕ) (front : List Row) (row : Row) (more : List Row) → IsStrictlySortedBy path_cmp (map (rest_of depth) (front ++ row ∷ more))
-    → goes_through depth n row ≡ true → ends_through depth n front ≡ false → AllByRecursion (λ x. IsEarlier n (rest_of depth x)) front
+front_earlier : (depth n : ℕ) (front : List Row) (row : Row) (more : List Row) → IsStrictlySortedBy path_cmp (map (rest_at depth) (front ++ row ∷ more))
+    → goes_through depth n row ≡ true → ends_through depth n front ≡ false → AllByRecursion (λ x. IsEarlier n (rest_at depth x)) front
 front_earlier depth n [] row more order is apart = tt
-front_earlier depth n (x ∷ []) row more order is apart = (earlier_last n (rest_of depth x) (rest_of depth row) (less_next depth x [] row more order) is apart, tt)
+front_earlier depth n (x ∷ []) row more order is apart = (earlier_last n (rest_at depth x) (rest_at depth row) (less_next depth x [] row more order) is apart, tt)
 front_earlier depth n (x ∷ next ∷ front) row more order is apart =
     let later = front_earlier depth n (next ∷ front) row more (sorted_tail depth x ((next ∷ front) ++ row ∷ more) order) is apart in
-    (earlier_chain n (rest_of depth x) (rest_of depth next) (less_next depth x [] next (front ++ row ∷ more) order) later.0, later)
+    (earlier_chain n (rest_at depth x) (rest_at depth next) (less_next depth x [] next (front ++ row ∷ more) order) later.0, later)
 
 same_parent : (a b p : Option ℕ) → same_number a p ≡ true → same_number b p ≡ true → same_number a b ≡ true
 same_parent None None p h k = refl
@@ -154,7 +154,7 @@ before_at nodes schema parent n d ms (seg ∷ rest) down less of_parent within =
     schema.siblings seg.node n less within (same_parent (node_at seg.node nodes).parent (node_at n nodes).parent parent (first_parent nodes parent seg rest down) of_parent)
 
 all_before_at : (nodes : List SchemaNode) → IsSchema nodes → (parent : Option ℕ) (depth n : ℕ) (d : Data) (ms : Members) (rows : List Row)
-    → AllByRecursion (IsRest nodes parent depth) rows → AllByRecursion (λ x. IsEarlier n (rest_of depth x)) rows → same_number (node_at n nodes).parent parent ≡ true → n < length nodes
+    → AllByRecursion (IsRest nodes parent depth) rows → AllByRecursion (λ x. IsEarlier n (rest_at depth x)) rows → same_number (node_at n nodes).parent parent ≡ true → n < length nodes
     → AllBefore nodes depth (member (node_at n nodes).member d ms) rows
 all_before_at nodes schema parent depth n d ms [] rest less of_parent within = tt
 all_before_at nodes schema parent depth n d ms (row ∷ rows) rest less of_parent within =

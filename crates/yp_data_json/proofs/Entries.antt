@@ -10,7 +10,7 @@ use Rattle.yp_base.specs.declared.row.Row.{Row}
 use Rattle.yp_base.specs.Order.{path_cmp, is_within}
 use Rattle.yp_base.specs.OrderLaws.{segments_total, paths_total}
 use Rattle.yp_base.specs.PathLaws.{within_together, within_rest}
-use Rattle.yp_data_json.specs.Runs.{rest_of, HasSegment, StartsWith, StartsApart, AreRising}
+use Rattle.yp_data_json.specs.Runs.{rest_at, HasSegment, StartsWith, StartsApart, AreRising}
 use Rattle.yp_data_json.proofs.Below.{drop_next}
 
 begins : (seg : Seg) (rest : List Seg) → is_within (seg ∷ []) (seg ∷ rest) ≡ true
@@ -31,22 +31,22 @@ between seg a path c one two =
       | false ↦ λ e. absurd (true≢false (sym (begins seg c) ∙ within_together (seg ∷ []) path (seg ∷ c) (not_past seg a path one) e (ap is_gt two)))
     ] refl
 
-row_between : (depth : ℕ) (seg : Seg) (one row two : Row) → HasSegment depth seg one → path_cmp (rest_of depth one) (rest_of depth row) ≡ Less → path_cmp (rest_of depth row) (rest_of depth two) ≡ Less → HasSegment depth seg two → HasSegment depth seg row
+row_between : (depth : ℕ) (seg : Seg) (one row two : Row) → HasSegment depth seg one → path_cmp (rest_at depth one) (rest_at depth row) ≡ Less → path_cmp (rest_at depth row) (rest_at depth two) ≡ Less → HasSegment depth seg two → HasSegment depth seg row
 row_between depth seg one row two has after before too =
-    let found = within_rest (seg ∷ []) (rest_of depth row)
-    (between seg (drop (depth + 1) one.path) (rest_of depth row) (drop (depth + 1) two.path) (sym (ap (λ p. path_cmp p (rest_of depth row)) has) ∙ after) (sym (ap (path_cmp (rest_of depth row)) too) ∙ before)) in
+    let found = within_rest (seg ∷ []) (rest_at depth row)
+    (between seg (drop (depth + 1) one.path) (rest_at depth row) (drop (depth + 1) two.path) (sym (ap (λ p. path_cmp p (rest_at depth row)) has) ∙ after) (sym (ap (path_cmp (rest_at depth row)) too) ∙ before)) in
     found.1 ∙ ap (λ rest. seg ∷ rest) (sym (drop_next depth row.path seg found.0 found.1))
 
-less_later : (depth : ℕ) (q : List Seg) (rows : List Row) (k : ℕ) (row : Row) (more : List Row) → AllByRecursion (λ p. path_cmp q p ≡ Less) (map (rest_of depth) rows) → drop k rows ≡ row ∷ more → path_cmp q (rest_of depth row) ≡ Less
+less_later : (depth : ℕ) (q : List Seg) (rows : List Row) (k : ℕ) (row : Row) (more : List Row) → AllByRecursion (λ p. path_cmp q p ≡ Less) (map (rest_at depth) rows) → drop k rows ≡ row ∷ more → path_cmp q (rest_at depth row) ≡ Less
 less_later depth q [] zero row more all is = cc
 less_later depth q [] (suc k) row more all is = cc
-less_later depth q (x ∷ rows) zero row more all is = let same : x ≡ row = cc in subst (λ (r : Row). path_cmp q (rest_of depth r) ≡ Less) same all.0
+less_later depth q (x ∷ rows) zero row more all is = let same : x ≡ row = cc in subst (λ (r : Row). path_cmp q (rest_at depth r) ≡ Less) same all.0
 less_later depth q (x ∷ rows) (suc k) row more all is = less_later depth q rows k row more all.1 is
 
 next_has : (depth : ℕ) (seg : Seg) (first next : Row) (rows : List Row) (k : ℕ) (row : Row) (more : List Row) → AreRising depth (first ∷ next ∷ rows) → HasSegment depth seg first → drop k (next ∷ rows) ≡ row ∷ more → HasSegment depth seg row → HasSegment depth seg next
 unfolding IsStrictlySortedBy
 next_has depth seg first next rows zero row more order has is too = let same : next ≡ row = cc in subst (λ (r : Row). HasSegment depth seg r) (sym same) too
-next_has depth seg first next rows (suc k) row more order has is too = row_between depth seg first next row has order.0.0 (less_later depth (rest_of depth next) rows k row more order.1.0 is) too
+next_has depth seg first next rows (suc k) row more order has is too = row_between depth seg first next row has order.0.0 (less_later depth (rest_at depth next) rows k row more order.1.0 is) too
 
 rising_tail : (depth : ℕ) (row : Row) (rows : List Row) → AreRising depth (row ∷ rows) → AreRising depth rows
 unfolding IsStrictlySortedBy

@@ -24,8 +24,8 @@ use Rattle.serde_json.specs.Data.{Data, null, boolean, number, string, array, ob
 use Rattle.serde_json.specs.Find.{get_member}
 use Rattle.yp_data_json.specs.declared.fault.DataFault.{DataFault}
 use Rattle.yp_schema.specs.Values.{typed_value, typed_atom}
-use Rattle.yp_data_json.specs.Reading.{valid, key_in, at_key, both, keys_found, fault_alone, keys_in, below, row_at}
-use Rattle.yp_data_json.specs.Holding.{IsOfType, IsValue, HasKey, HasKeys, IsEntryWith, OfKind, IsDataOf, IsLeafRow, ValuesHold, MembersHold, DataHolds, EntriesHold, EntryHolds}
+use Rattle.yp_data_json.specs.Reading.{valid, key_in, at_key, with_key, keys_found, fault_alone, keys_in, below, row_at}
+use Rattle.yp_data_json.specs.Holding.{IsOfType, IsValue, HasKey, HasKeyAtoms, IsEntryWith, OfKind, IsDataOf, IsLeafRow, ValuesHold, MembersHold, DataHolds, EntriesHold, EntryHolds}
 use Rattle.yp_data_json.proofs.Readings.{valid_some, valid_atom, atom_some, at_key_ok, both_ok, alone_ok, found_place}
 use Rattle.yp_data_json.proofs.Steps.{key_leaves}
 use Rattle.yp_data_json.proofs.Whole.{key_among}
@@ -62,26 +62,26 @@ key_is : (ty : Option LeafType) (o : Option Data) (a : Atom) → key_in ty o ≡
 key_is ty None a h = let no : ⊥ = cc in absurd no
 key_is ty (Some d) a h = (d, refl, atom_is ty d a h)
 
-found_are : (nodes : List SchemaNode) (ks : List ℕ) (ms : Members) (keys : List Atom) → keys_found nodes ks ms ≡ Ok keys → HasKeys nodes ks ms keys
-found_are nodes [] ms keys h = let same : [] ≡ keys = cc in subst (λ (atoms : List Atom). HasKeys nodes [] ms atoms) same tt
+found_are : (nodes : List SchemaNode) (ks : List ℕ) (ms : Members) (keys : List Atom) → keys_found nodes ks ms ≡ Ok keys → HasKeyAtoms nodes ks ms keys
+found_are nodes [] ms keys h = let same : [] ≡ keys = cc in subst (λ (atoms : List Atom). HasKeyAtoms nodes [] ms atoms) same tt
 found_are nodes (k ∷ ks) ms keys h =
     both_ok nodes (at_key k (key_in (node_at k nodes).ty (get_member (node_at k nodes).member ms))) (keys_found nodes ks ms) keys h
     (λ a more e f same.
-    subst (λ (atoms : List Atom). HasKeys nodes (k ∷ ks) ms atoms) (sym same)
+    subst (λ (atoms : List Atom). HasKeyAtoms nodes (k ∷ ks) ms atoms) (sym same)
     (key_is (node_at k nodes).ty (get_member (node_at k nodes).member ms) a (at_key_ok k _ a e), found_are nodes ks ms more f))
 
-pub keys_are : (nodes : List SchemaNode) (ks : List ℕ) (ms : Members) (keys : List Atom) → keys_in nodes ks ms ≡ Ok keys → HasKeys nodes ks ms keys
+pub keys_are : (nodes : List SchemaNode) (ks : List ℕ) (ms : Members) (keys : List Atom) → keys_in nodes ks ms ≡ Ok keys → HasKeyAtoms nodes ks ms keys
 keys_are nodes ks ms keys h = found_are nodes ks ms keys (alone_ok (keys_found nodes ks ms) keys h)
 
-found_give : (nodes : List SchemaNode) (ks : List ℕ) (ms : Members) (keys : List Atom) → HasKeys nodes ks ms keys → keys_found nodes ks ms ≡ Ok keys
+found_give : (nodes : List SchemaNode) (ks : List ℕ) (ms : Members) (keys : List Atom) → HasKeyAtoms nodes ks ms keys → keys_found nodes ks ms ≡ Ok keys
 found_give nodes [] ms [] h = refl
 found_give nodes [] ms (a ∷ keys) h = absurd h
 found_give nodes (k ∷ ks) ms [] h = absurd h
 found_give nodes (k ∷ ks) ms (a ∷ keys) h =
     let first : key_in (node_at k nodes).ty (get_member (node_at k nodes).member ms) ≡ Ok a = ap (key_in (node_at k nodes).ty) h.0.1 ∙ atom_of (node_at k nodes).ty h.0.0 a h.0.2 in
-    ap (λ (r : Result Atom DataFault). both nodes (at_key k r) (keys_found nodes ks ms)) first ∙ ap (both nodes (Ok a)) (found_give nodes ks ms keys h.1)
+    ap (λ (r : Result Atom DataFault). with_key nodes (at_key k r) (keys_found nodes ks ms)) first ∙ ap (with_key nodes (Ok a)) (found_give nodes ks ms keys h.1)
 
-pub keys_give : (nodes : List SchemaNode) (ks : List ℕ) (ms : Members) (keys : List Atom) → HasKeys nodes ks ms keys → keys_in nodes ks ms ≡ Ok keys
+pub keys_give : (nodes : List SchemaNode) (ks : List ℕ) (ms : Members) (keys : List Atom) → HasKeyAtoms nodes ks ms keys → keys_in nodes ks ms ≡ Ok keys
 keys_give nodes ks ms keys h = ap fault_alone (found_give nodes ks ms keys h)
 
 abbrev ok_atoms : List Atom → Result (List Atom) DataFault
@@ -90,7 +90,7 @@ ok_atoms atoms = Ok atoms
 same_ok : (a b : List Atom) → ok_atoms a ≡ ok_atoms b → a ≡ b
 same_ok a b e = cc
 
-pub one_keys : (nodes : List SchemaNode) (ks : List ℕ) (ms : Members) (a b : List Atom) → HasKeys nodes ks ms a → HasKeys nodes ks ms b → a ≡ b
+pub one_keys : (nodes : List SchemaNode) (ks : List ℕ) (ms : Members) (a b : List Atom) → HasKeyAtoms nodes ks ms a → HasKeyAtoms nodes ks ms b → a ≡ b
 one_keys nodes ks ms a b h k = same_ok a b (sym (keys_give nodes ks ms a h) ∙ keys_give nodes ks ms b k)
 
 pub one_entry : (nodes : List SchemaNode) (n : ℕ) (d : Data) (a b : List Atom) → IsEntryWith nodes n d a → IsEntryWith nodes n d b → a ≡ b
@@ -164,7 +164,7 @@ key_at nodes k j ms d a same has h =
     let here : has.0 ≡ d = some_data has.0 d (sym got ∙ h) in
     (Plain a, subst (λ (m : ℕ). IsOfType (node_at m nodes).ty d (Plain a)) (sym same) (subst (λ (x : Data). IsOfType (node_at j nodes).ty x (Plain a)) here has.2))
 
-key_value : (nodes : List SchemaNode) (k : ℕ) (ks : List ℕ) (ms : Members) (keys : List Atom) (d : Data) → HasKeys nodes ks ms keys → is_in k ks ≡ true → get_member (node_at k nodes).member ms ≡ Some d → IsValue nodes k d
+key_value : (nodes : List SchemaNode) (k : ℕ) (ks : List ℕ) (ms : Members) (keys : List Atom) (d : Data) → HasKeyAtoms nodes ks ms keys → is_in k ks ≡ true → get_member (node_at k nodes).member ms ≡ Some d → IsValue nodes k d
 key_value nodes k [] ms keys d has among h = absurd (true≢false (sym among))
 key_value nodes k (j ∷ ks) ms [] d has among h = absurd has
 key_value nodes k (j ∷ ks) ms (a ∷ keys) d has among h =
@@ -174,7 +174,7 @@ key_value nodes k (j ∷ ks) ms (a ∷ keys) d has among h =
     ] refl among
 
 -- a member of an entry that is a key is data of the key leaf
-pub key_of : (nodes : List SchemaNode) → IsSchema nodes → (n : ℕ) → n < length nodes → (node_at n nodes).kind ≡ Listing → (ms : Members) (keys : List Atom) → HasKeys nodes (node_at n nodes).keys ms keys
+pub key_of : (nodes : List SchemaNode) → IsSchema nodes → (n : ℕ) → n < length nodes → (node_at n nodes).kind ≡ Listing → (ms : Members) (keys : List Atom) → HasKeyAtoms nodes (node_at n nodes).keys ms keys
     → (name : List ℕ) (k : ℕ) (d : Data) → child_of (Some n) name nodes ≡ Some k → is_key k (Some n) nodes ≡ true → get_member name ms ≡ Some d → IsDataOf nodes k d
 key_of nodes schema n within kind ms keys has name k d child key h =
     leaf_of nodes k d (key_kind nodes schema n k within kind key)

@@ -21,7 +21,7 @@ use Rattle.yp_data_json.specs.declared.fault.DataFault.TheVariants.{UnknownEleme
 use Rattle.yp_schema.specs.Values.{typed_atom}
 use Rattle.yp_base.specs.Results.{◌>>=◌}
 use Rattle.yp_data_json.specs.Reading.{valid, keys_in, below, row_at, entered, value_read, members_read, node_read, entry_read}
-use Rattle.yp_data_json.specs.AtPath.{are_keys, named_entry, named_value, array_of_one, by_kind, named_read, outer_read, is_bare, object_read, rows_read}
+use Rattle.yp_data_json.specs.AtPath.{are_keys, named_entry, named_value, array_of_one, by_kind, named_read, outer_read, has_no_members, object_read, rows_read}
 use Rattle.yp_base.specs.Paths.{last_segment, above_last}
 use Rattle.yp_data_json.specs.Holding.{HasNamesOnce, MembersHaveNamesOnce, IsEntryWith, IsAtomOf, OfKind, IsDataOf, IsEntryOf, DataHolds, EntryHolds, IsOneItem, IsNamed, IsOneMember, SomeHolds, IsDataAt, HoldsAt, IsObject}
 use Rattle.yp_data_json.proofs.Places.{rows_last, place_within}
@@ -182,7 +182,7 @@ module _ (nodes : List SchemaNode) (schema : IsSchema nodes) where
         tested (pointwise nat_eq name (qualified_name (node_at seg.node nodes))) UnknownElement (named_read nodes seg.node above seg.keys d rows) after h
         (λ t i. go ((bytes_eq-Decides name (qualified_name (node_at seg.node nodes))).0 t) i)
 
-    outer_accepted : (ms : Members) → MembersHaveNamesOnce ms → (after : List Row) → is_bare ms ≡ false → outer_read nodes seg.node above seg.keys ms [] ≡ Ok after → IsOneMember nodes seg ms × Adds (SomeHolds nodes seg.node above ms) [] after
+    outer_accepted : (ms : Members) → MembersHaveNamesOnce ms → (after : List Row) → has_no_members ms ≡ false → outer_read nodes seg.node above seg.keys ms [] ≡ Ok after → IsOneMember nodes seg ms × Adds (SomeHolds nodes seg.node above ms) [] after
     outer_accepted no_members once after some h = absurd (true≢false some)
     outer_accepted (member name d no_members) once after some h =
         bound (if pointwise nat_eq name (qualified_name (node_at seg.node nodes)) then named_read nodes seg.node above seg.keys d [] else Err UnknownElement) (λ mid. ok_rows mid) after h
@@ -203,7 +203,7 @@ module _ (nodes : List SchemaNode) (schema : IsSchema nodes) where
         let clash : None ≡ Some x = sym once.0 ∙ ap (λ (l : List ℕ). get_member l (member other x ms)) (same ∙ sym alike) ∙ get_here other x ms in
         absurd (true≢false (sym (ap is_some clash)))))))
 
-    outer_gives : (ms : Members) → MembersHaveNamesOnce ms → IsOneMember nodes seg ms → Gives (if is_bare ms then Err InvalidValue else outer_read nodes seg.node above seg.keys ms [])
+    outer_gives : (ms : Members) → MembersHaveNamesOnce ms → IsOneMember nodes seg ms → Gives (if has_no_members ms then Err InvalidValue else outer_read nodes seg.node above seg.keys ms [])
     outer_gives no_members once is = absurd is
     outer_gives (member name d no_members) once is =
         let inner = named_gives d once.1 is.1 in
@@ -225,7 +225,7 @@ module _ (nodes : List SchemaNode) (schema : IsSchema nodes) where
     object_accepted (string s) once after h = no_rows InvalidValue after h
     object_accepted (array ds) once after h = no_rows InvalidValue after h
     object_accepted (object ms) once after h =
-        elim (is_bare ms) as (λ t. is_bare ms ≡ t → cond t (Err InvalidValue) (outer_read nodes seg.node above seg.keys ms []) ≡ Ok after → IsThere (object ms) × Adds (HoldsThere (object ms)) [] after) [
+        elim (has_no_members ms) as (λ t. has_no_members ms ≡ t → cond t (Err InvalidValue) (outer_read nodes seg.node above seg.keys ms []) ≡ Ok after → IsThere (object ms) × Adds (HoldsThere (object ms)) [] after) [
           | true ↦ λ e f. no_rows InvalidValue after f
           | false ↦ λ e f. outer_accepted ms once after e f
         ] refl h

@@ -11,7 +11,7 @@ use Rattle.yp_schema.specs.declared.schema.SchemaNode.{SchemaNode}
 use Rattle.yp_schema.specs.Nodes.{node_at}
 use Rattle.serde_json.specs.Data.{Members}
 use Rattle.serde_json.specs.Find.{get_member}
-use Rattle.yp_data_json.specs.Reading.{KeyFault, earlier, earliest, both, at_key, key_in, keys_found}
+use Rattle.yp_data_json.specs.Reading.{KeyFault, earlier_fault, earliest, with_key, at_key, key_in, keys_found}
 
 module _ {K : Type 0} {R : K → K → Ordering} (total : IsTotalOrder R) where
   lt_is : (o : Ordering) → is_lt o ≡ true → o ≡ Less
@@ -55,7 +55,7 @@ module _ {K : Type 0} {R : K → K → Ordering} (total : IsTotalOrder R) where
             ] refl
       ] refl
 
-earlier_assoc : (nodes : List SchemaNode) (a b c : KeyFault) → earlier nodes a (earlier nodes b c) ≡ earlier nodes (earlier nodes a b) c
+earlier_assoc : (nodes : List SchemaNode) (a b c : KeyFault) → earlier_fault nodes a (earlier_fault nodes b c) ≡ earlier_fault nodes (earlier_fault nodes a b) c
 earlier_assoc nodes a b c = least_assoc nat_list_cmp_total {F = KeyFault} (λ f. (node_at f.0 nodes).member) a b c
 
 abbrev good : List Atom → Result (List Atom) KeyFault
@@ -69,17 +69,17 @@ abbrev pub after : List SchemaNode → Option KeyFault → List Atom → Result 
 after nodes None atoms (Ok rest) = Ok (atoms ++ rest)
 after nodes None atoms (Err fault) = Err fault
 after nodes (Some first) atoms (Ok rest) = Err first
-after nodes (Some first) atoms (Err fault) = Err (earlier nodes first fault)
+after nodes (Some first) atoms (Err fault) = Err (earlier_fault nodes first fault)
 
 pub after_key : (nodes : List SchemaNode) (first : Option KeyFault) (atoms : List Atom) (atom : Atom) (rest : Result (List Atom) KeyFault) →
-    after nodes first atoms (both nodes (Ok atom) rest) ≡ after nodes first (atoms ++ atom ∷ []) rest
+    after nodes first atoms (with_key nodes (Ok atom) rest) ≡ after nodes first (atoms ++ atom ∷ []) rest
 after_key nodes None atoms atom (Ok rest) = sym (ap good (append_assoc atoms (atom ∷ []) rest))
 after_key nodes None atoms atom (Err fault) = refl
 after_key nodes (Some first) atoms atom (Ok rest) = refl
 after_key nodes (Some first) atoms atom (Err fault) = refl
 
 pub after_fault : (nodes : List SchemaNode) (first : Option KeyFault) (atoms : List Atom) (fault : KeyFault) (rest : Result (List Atom) KeyFault) →
-    after nodes first atoms (both nodes (Err fault) rest) ≡ after nodes (Some (earliest nodes first fault)) atoms rest
+    after nodes first atoms (with_key nodes (Err fault) rest) ≡ after nodes (Some (earliest nodes first fault)) atoms rest
 after_fault nodes None atoms fault (Ok rest) = refl
 after_fault nodes None atoms fault (Err other) = refl
 after_fault nodes (Some first) atoms fault (Ok rest) = refl
@@ -90,14 +90,14 @@ abbrev pub found_at : List SchemaNode → ℕ → Members → Result Atom KeyFau
 found_at nodes k ms = at_key k (key_in (node_at k nodes).ty (get_member (node_at k nodes).member ms))
 
 next_keys : (nodes : List SchemaNode) (ns : List ℕ) (i : ℕ) (ms : Members) → i < length ns →
-    keys_found nodes (drop i ns) ms ≡ both nodes (found_at nodes (get_or ns i 0) ms) (keys_found nodes (drop (i + 1) ns) ms)
+    keys_found nodes (drop i ns) ms ≡ with_key nodes (found_at nodes (get_or ns i 0) ms) (keys_found nodes (drop (i + 1) ns) ms)
 next_keys nodes ns i ms h = rw (add-one, drop-cons ns i 0) refl
 
 pub step_key : (nodes : List SchemaNode) (first : Option KeyFault) (atoms : List Atom) (ns : List ℕ) (i : ℕ) (ms : Members) (atom : Atom) (all : Result (List Atom) KeyFault) → i < length ns →
     Ok atom ≡ found_at nodes (get_or ns i 0) ms → after nodes first atoms (keys_found nodes (drop i ns) ms) ≡ all → after nodes first (atoms ++ atom ∷ []) (keys_found nodes (drop (i + 1) ns) ms) ≡ all
 step_key nodes first atoms ns i ms atom all h found inv =
     sym (after_key nodes first atoms atom (keys_found nodes (drop (i + 1) ns) ms))
-    ∙ ap (λ r. after nodes first atoms (both nodes r (keys_found nodes (drop (i + 1) ns) ms))) found
+    ∙ ap (λ r. after nodes first atoms (with_key nodes r (keys_found nodes (drop (i + 1) ns) ms))) found
     ∙ sym (ap (after nodes first atoms) (next_keys nodes ns i ms h))
     ∙ inv
 
@@ -105,6 +105,6 @@ pub step_fault : (nodes : List SchemaNode) (first : Option KeyFault) (atoms : Li
     Err fault ≡ found_at nodes (get_or ns i 0) ms → after nodes first atoms (keys_found nodes (drop i ns) ms) ≡ all → after nodes (Some (earliest nodes first fault)) atoms (keys_found nodes (drop (i + 1) ns) ms) ≡ all
 step_fault nodes first atoms ns i ms fault all h found inv =
     sym (after_fault nodes first atoms fault (keys_found nodes (drop (i + 1) ns) ms))
-    ∙ ap (λ r. after nodes first atoms (both nodes r (keys_found nodes (drop (i + 1) ns) ms))) found
+    ∙ ap (λ r. after nodes first atoms (with_key nodes r (keys_found nodes (drop (i + 1) ns) ms))) found
     ∙ sym (ap (after nodes first atoms) (next_keys nodes ns i ms h))
     ∙ inv

@@ -38,9 +38,6 @@ fresh path seg [] v f = refl
 fresh path seg (s ∷ rest) v f =
     ap (λ xs. xs ++ rows_in path f) (fresh (path ++ seg ∷ []) s rest v bare) ∙ ap (λ p. row_at p v ∷ rows_in path f) (append_assoc path (seg ∷ []) (s ∷ rest))
 
-same_segment : (x y : Seg) → eq_by_cmp segment_cmp x y ≡ true → x ≡ y
-same_segment x y h = (segments_decide x y).0 h
-
 -- one more in a branch that has its segment
 inside : (path : List Seg) (seg : Seg) (rest : List Seg) (v : Value) (own : Option Value) (kids next : Forest)
     → own ≡ None
@@ -61,7 +58,7 @@ laid_at : (b : Bool) (path : List Seg) (seg : Seg) (rest : List Seg) (v : Value)
     → rows_in path (cond b (branch first (own_of rest v own) (laid rest v kids) next) (branch seg (own_of rest v None) (laid rest v bare) (branch first own kids next))) ≡ row_at (path ++ seg ∷ rest) v ∷ rows_in path (branch first own kids next)
 laid_at false path seg rest v first own kids next is inner order = fresh path seg rest v (branch first own kids next)
 laid_at true path seg rest v first own kids next is inner order =
-    let same = same_segment seg first is in
+    let same = (segments_decide seg first).0 is in
     let here : AreInOrder (row_at (path ++ first ∷ rest) v ∷ rows_in path (branch first own kids next)) = subst (λ (s : Seg). AreInOrder (row_at (path ++ s ∷ rest) v ∷ rows_in path (branch first own kids next))) same order in
     let regrouped : AreInOrder (row_at (path ++ first ∷ rest) v ∷ own_rows (path ++ first ∷ []) own ++ (rows_in (path ++ first ∷ []) kids ++ rows_in path next)) =
     subst (λ (xs : List Row). AreInOrder (row_at (path ++ first ∷ rest) v ∷ xs)) (append_assoc (own_rows (path ++ first ∷ []) own) (rows_in (path ++ first ∷ []) kids) (rows_in path next)) here in

@@ -21,7 +21,7 @@ use Rattle.yp_data_json.specs.declared.fault.DataFault.{DataFault}
 use Rattle.yp_data_json.specs.declared.fault.DataFault.TheVariants.{UnknownElement, InvalidValue}
 use Rattle.yp_schema.specs.Values.{typed_value}
 use Rattle.yp_base.specs.Results.{◌>>=◌}
-use Rattle.yp_data_json.specs.Reading.{valid, row_at, below, leaf_read, in_plain, in_array, in_object, entries_read, values_read, members_read, node_read}
+use Rattle.yp_data_json.specs.Reading.{valid, row_at, below, leaf_read, in_plain, in_array, in_object, entries_read, leaf_list_read, members_read, node_read}
 use Rattle.yp_data_json.specs.AtPath.{leaf_row, by_kind, array_of_one, named_entry, named_value, named_read, rows_read}
 use Rattle.yp_data_json.proofs.Steps.{empty_keys}
 use Rattle.yp_data_json.proofs.Again.{path_is}
@@ -86,7 +86,7 @@ node_leaf nodes n path null rows leaf = ap (λ k. in_plain k (leaf_read nodes n 
 node_leaf nodes n path (boolean b) rows leaf = ap (λ k. in_plain k (leaf_read nodes n path (boolean b) rows) (Err InvalidValue)) leaf
 node_leaf nodes n path (number x) rows leaf = ap (λ k. in_plain k (leaf_read nodes n path (number x) rows) (Err InvalidValue)) leaf
 node_leaf nodes n path (string s) rows leaf = ap (λ k. in_plain k (leaf_read nodes n path (string s) rows) (Err InvalidValue)) leaf
-node_leaf nodes n path (array ds) rows leaf = ap (λ k. in_array k (entries_read nodes n path ds rows) (leaf_read nodes n path (array ds) rows) (values_read nodes n path ds rows) (Err InvalidValue)) leaf
+node_leaf nodes n path (array ds) rows leaf = ap (λ k. in_array k (entries_read nodes n path ds rows) (leaf_read nodes n path (array ds) rows) (leaf_list_read nodes n path ds rows) (Err InvalidValue)) leaf
 node_leaf nodes n path (object ms) rows leaf =
     ap (λ k. in_object k (members_read nodes (Some n) (below path n []) ms rows) (members_read nodes (Some n) (below path n []) ms (put_row (row_at (below path n []) Present) rows)) (Err InvalidValue)) leaf
     ∙ sym (ap (λ (r : Result Value DataFault). r >>= λ value. Ok (put_row (row_at (below path n []) value) rows)) (no_object (node_at n nodes).ty ms))

@@ -20,7 +20,7 @@ use Rattle.serde_json.specs.Data.{Data, null, boolean, number, string, array, ob
 use Rattle.yp_data_json.specs.declared.fault.DataFault.TheVariants.{UnknownElement, InvalidValue, RepeatedKey}
 use Rattle.yp_schema.specs.Values.{typed_value, typed_atom}
 use Rattle.yp_base.specs.Results.{◌>>=◌}
-use Rattle.yp_data_json.specs.Reading.{valid, keys_in, below, row_at, leaf_read, entered, value_read, values_read, in_object, in_array, in_plain, plain_read, for_child, members_read, node_read, entries_read, entry_read}
+use Rattle.yp_data_json.specs.Reading.{valid, keys_in, below, row_at, leaf_read, entered, value_read, leaf_list_read, in_object, in_array, in_plain, plain_read, for_child, members_read, node_read, entries_read, entry_read}
 use Rattle.yp_schema.specs.SchemaLaws.{path_down, row_led, last_is_segment, last_node_append}
 use Rattle.yp_data_json.proofs.PutRows.{put_there}
 use Rattle.yp_data_json.proofs.Growing.{Stand, Grown, Entered, grown_still, grown_on, cut, put_grown, path_more}
@@ -120,10 +120,10 @@ module _ (nodes : List SchemaNode) (at : List Seg) where
       (here (atom ∷ []) (ap (λ k. keys_of_kind k nodes (node_at n nodes) (atom ∷ [])) kind ∙ atom_typed (node_at n nodes).ty d atom e))
       stand (held n LeafList Member kind refl) g)
 
-  values_grown : (n : ℕ) (path : List Seg) (ds : Items) (rows after : List Row) → Here nodes at n path rows → (node_at n nodes).kind ≡ LeafList → Stand nodes at rows → values_read nodes n path ds rows ≡ Ok after → Grown nodes at rows after
+  values_grown : (n : ℕ) (path : List Seg) (ds : Items) (rows after : List Row) → Here nodes at n path rows → (node_at n nodes).kind ≡ LeafList → Stand nodes at rows → leaf_list_read nodes n path ds rows ≡ Ok after → Grown nodes at rows after
   values_grown n path no_items rows after here kind stand h = subst (λ (rs : List Row). Grown nodes at rows rs) (given rows after h) (grown_still stand)
   values_grown n path (item d ds) rows after here kind stand h =
-      bound (value_read nodes n path d rows) (λ mid. values_read nodes n path ds mid) after h
+      bound (value_read nodes n path d rows) (λ mid. leaf_list_read nodes n path ds mid) after h
       (λ mid e g.
       let one = value_grown n path d rows mid here kind stand e in
       grown_on one (values_grown n path ds mid after (λ keys fit. spot_on (here keys fit) one) kind one.stand g))
@@ -161,7 +161,7 @@ module _ (nodes : List SchemaNode) (at : List Seg) where
     node_grown (number x) n path rows after here stand h = plain_grown n path (number x) rows after here stand h
     node_grown (string s) n path rows after here stand h = plain_grown n path (string s) rows after here stand h
     node_grown (array ds) n path rows after here stand h =
-        elim (node_at n nodes).kind as (λ k. (node_at n nodes).kind ≡ k → in_array k (entries_read nodes n path ds rows) (leaf_read nodes n path (array ds) rows) (values_read nodes n path ds rows) (Err InvalidValue) ≡ Ok after → Grown nodes at rows after) [
+        elim (node_at n nodes).kind as (λ k. (node_at n nodes).kind ≡ k → in_array k (entries_read nodes n path ds rows) (leaf_read nodes n path (array ds) rows) (leaf_list_read nodes n path ds rows) (Err InvalidValue) ≡ Ok after → Grown nodes at rows after) [
           | Container ↦ λ k e. let no : ⊥ = cc in absurd no
           | Presence ↦ λ k e. let no : ⊥ = cc in absurd no
           | Listing ↦ λ k e. entries_grown ds n path rows after here k stand e

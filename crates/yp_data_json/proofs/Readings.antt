@@ -18,7 +18,7 @@ use Rattle.serde_json.specs.Find.{get_member}
 use Rattle.yp_data_json.specs.declared.fault.DataFault.{DataFault}
 use Rattle.yp_schema.specs.Values.{typed_value, only_atom, typed_atom}
 use Rattle.yp_base.specs.Results.{◌>>=◌}
-use Rattle.yp_data_json.specs.Reading.{valid, KeyFault, at_key, key_in, both, keys_found, fault_alone, keys_in}
+use Rattle.yp_data_json.specs.Reading.{valid, KeyFault, at_key, key_in, with_key, keys_found, fault_alone, keys_in}
 
 -- ---- steps
 
@@ -78,7 +78,7 @@ pub at_key_ok : (k : ℕ) (r : Result Atom DataFault) (a : Atom) → at_key k r 
 at_key_ok k (Ok b) a h = let same : b ≡ a = cc in ap (λ (x : Atom). Ok x) same
 at_key_ok k (Err e) a h = let no : ⊥ = cc in absurd no
 
-pub both_ok : {C : Type 0} (nodes : List SchemaNode) (r : Result Atom KeyFault) (rest : Result (List Atom) KeyFault) (keys : List Atom) → both nodes r rest ≡ Ok keys →
+pub both_ok : {C : Type 0} (nodes : List SchemaNode) (r : Result Atom KeyFault) (rest : Result (List Atom) KeyFault) (keys : List Atom) → with_key nodes r rest ≡ Ok keys →
     ((a : Atom) (more : List Atom) → r ≡ Ok a → rest ≡ Ok more → keys ≡ a ∷ more → C) → C
 both_ok nodes (Ok a) (Ok more) keys h go = let same : a ∷ more ≡ keys = cc in go a more refl refl (sym same)
 both_ok nodes (Ok a) (Err f) keys h go = let no : ⊥ = cc in absurd no

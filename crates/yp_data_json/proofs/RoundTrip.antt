@@ -28,7 +28,7 @@ use Rattle.yp_data_json.specs.Reading.{keys_in, below, row_at, entered, in_objec
 use Rattle.yp_data_json.specs.AtPath.{are_keys, named_entry, named_value, array_of_one, by_kind, named_read, rows_read}
 use Rattle.yp_data_json.specs.Forest.{forest_at}
 use Rattle.yp_data_json.specs.Runs.{IsRest}
-use Rattle.yp_data_json.specs.Writing.{leaf_data, one_key_data, with_keys, members_in, place_data, data_at, named_member, rows_json}
+use Rattle.yp_data_json.specs.Writing.{leaf_data, one_key_data, with_keys, members_in, place_data, place_json, named_member, rows_json}
 use Rattle.yp_data_json.proofs.AtPlace.{left_over, writable_below, json_at, place_segment}
 use Rattle.yp_data_json.proofs.Places.{rows_last}
 use Rattle.yp_data_json.proofs.Laying.{StandsUnder, forest_rows}
@@ -77,7 +77,7 @@ module _ (nodes : List SchemaNode) (schema : IsSchema nodes) where
 
     -- what the place's node is read as of these rows' JSON
     abbrev named : List Row → Reading
-    named rows = named_read nodes seg.node above seg.keys (data_at nodes seg at rows) []
+    named rows = named_read nodes seg.node above seg.keys (place_json nodes seg at rows) []
 
     named_at : (k : Kind) (rows : List Row) → kind ≡ k → named rows ≡ by_kind k
         (array_of_one (place_data nodes k node seg (value_at at rows) (forest rows)) (λ e. named_entry nodes seg.node above seg.keys e []))
@@ -218,7 +218,7 @@ module _ (nodes : List SchemaNode) (schema : IsSchema nodes) where
         let segment = place_segment nodes at above seg refl whole.writable.place in
         let parts = and_parts _ _ segment in
         ap (rows_read nodes at) (json_at nodes at above seg rows refl)
-        ∙ rows_last nodes above seg (named_member nodes seg (data_at nodes seg at rows))
+        ∙ rows_last nodes above seg (named_member nodes seg (place_json nodes seg at rows))
         ∙ ap (λ b. (cond b (named rows) (Err UnknownElement)) >>= λ after. ok after) (name_ties (qualified_name node))
         ∙ ap (λ (r : Reading). r >>= λ after. ok after) (named_again (ltb-true seg.node (length nodes) parts.0) parts.1 rows whole)
 

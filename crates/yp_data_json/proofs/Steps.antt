@@ -4,8 +4,7 @@ use Rattle.std.specs.Prelude.{nat_eq}
 use Rattle.std.specs.Ordering.{eq_by_cmp}
 use Rattle.yp_base.specs.Order.{segment_cmp}
 use Rattle.std.specs.List.{AllByRecursion}
-use Rattle.std.proofs.lemmas.Bool.{eq-eqb, eqb-true}
-use borrow.Author.Tests.{ltb-true}
+use Rattle.std.proofs.lemmas.Bool.{eq-eqb, eqb-true, and_parts, ltb-true}
 use Rattle.yp_base.specs.declared.path.Seg.{Seg}
 use Rattle.yp_base.specs.declared.atom.Atom.{Atom}
 use Rattle.yp_base.specs.declared.row.Value.{Value}
@@ -25,7 +24,7 @@ use Rattle.yp_data_json.proofs.Parts.{all_back, ends_last}
 use Rattle.yp_data_json.proofs.Branches.{StartsElse, own_at, one_branch, laid_append, rows_start}
 use Rattle.yp_data_json.proofs.Members.{put_first, other_first, run_is, entries_append, starts_else}
 use Rattle.yp_schema.specs.SchemaLaws.{row_ends, end_kind, first_segment, leaf_ends}
-use Rattle.yp_data_json.proofs.Below.{both_left, both_right, rest_down, further, NextBefore, AllBefore, front_before, segment_of, deep_enough}
+use Rattle.yp_data_json.proofs.Below.{rest_down, further, NextBefore, AllBefore, front_before, segment_of, deep_enough}
 
 -- ---- the most segments
 
@@ -136,7 +135,7 @@ plain_segment n = record { node = n; keys = [] }
 
 plain_is : (nodes : List SchemaNode) (n : ℕ) (seg : Seg) → seg.node ≡ n → is_segment nodes seg ≡ true → (k : Kind) → (node_at n nodes).kind ≡ k → (keys_of_kind k nodes (node_at n nodes) seg.keys ≡ true → is_empty seg.keys ≡ true) → seg ≡ plain_segment n
 plain_is nodes n seg same is k kind none =
-    let asked = both_right _ (keys_of_kind (node_at seg.node nodes).kind nodes (node_at seg.node nodes) seg.keys) is in
+    let asked = (and_parts _ (keys_of_kind (node_at seg.node nodes).kind nodes (node_at seg.node nodes) seg.keys) is).1 in
     let here : keys_of_kind (node_at n nodes).kind nodes (node_at n nodes) seg.keys ≡ true = subst (λ m. keys_of_kind (node_at m nodes).kind nodes (node_at m nodes) seg.keys ≡ true) same asked in
     let by_kind : keys_of_kind k nodes (node_at n nodes) seg.keys ≡ true = subst (λ j. keys_of_kind j nodes (node_at n nodes) seg.keys ≡ true) kind here in
     let bare_keys = empty_keys seg.keys (none by_kind) in
@@ -209,7 +208,7 @@ pub leaf_row : (nodes : List SchemaNode) → IsSchema nodes → (parent : Option
 leaf_row nodes schema parent depth n row kind through rest =
     let here = plain_at nodes parent depth n row (ap has_plain kind) through rest in
     let down : goes_down nodes parent (plain_segment n ∷ drop (depth + 1) row.path) ≡ true = subst (λ path. goes_down nodes parent path ≡ true) here (rest_down nodes parent depth row rest) in
-    leaf_ends nodes schema n (drop (depth + 1) row.path) (ap may_hold kind) (both_right _ (goes_down nodes (Some n) (drop (depth + 1) row.path)) down)
+    leaf_ends nodes schema n (drop (depth + 1) row.path) (ap may_hold kind) (and_parts _ (goes_down nodes (Some n) (drop (depth + 1) row.path)) down).1
 
 pub leaf_fits : (nodes : List SchemaNode) → IsSchema nodes → (parent : Option ℕ) (depth n : ℕ) (row : Row) → (node_at n nodes).kind ≡ Leaf → goes_through depth n row ≡ true → IsRest nodes parent depth row
     → typed_fits (node_at n nodes).ty row.value ≡ true
@@ -337,16 +336,16 @@ entries_member nodes depth n rows (e ∷ es) through some are f before = ap (mem
 keys_are_nodes : (nodes : List SchemaNode) (n : ℕ) (ks : List ℕ) → are_key_leaves n nodes ks ≡ true → AreNodes nodes ks
 keys_are_nodes nodes n [] h = tt
 keys_are_nodes nodes n (k ∷ ks) h =
-    let front = both_left (is_key_leaf n nodes k && not (is_in k ks)) (are_key_leaves n nodes ks) h in
-    let leaf = both_left (is_key_leaf n nodes k) (not (is_in k ks)) front in
-    (leaf_within nodes n k leaf, keys_are_nodes nodes n ks (both_right (is_key_leaf n nodes k && not (is_in k ks)) (are_key_leaves n nodes ks) h))
+    let parts = and_parts (is_key_leaf n nodes k && not (is_in k ks)) (are_key_leaves n nodes ks) h in
+    let leaf = (and_parts (is_key_leaf n nodes k) (not (is_in k ks)) parts.0).0 in
+    (leaf_within nodes n k leaf, keys_are_nodes nodes n ks parts.1)
   where
     leaf_within : (nodes : List SchemaNode) (n k : ℕ) → is_key_leaf n nodes k ≡ true → k < length nodes
-    leaf_within nodes n k h = ltb-true k (length nodes) (both_left _ _ (both_left _ _ (both_left _ _ (both_left _ _ h))))
+    leaf_within nodes n k h = ltb-true k (length nodes) (and_parts _ _ (and_parts _ _ (and_parts _ _ (and_parts _ _ h).0).0).0).0
 
 listing_keys : (nodes : List SchemaNode) (n : ℕ) (node : SchemaNode) → kind_stands Listing n nodes node ≡ true → are_key_leaves n nodes node.keys ≡ true
 listing_keys nodes n node h =
-    both_right (not (is_empty node.keys)) (are_key_leaves n nodes node.keys) (both_left (not (is_empty node.keys) && are_key_leaves n nodes node.keys) (has_none node.ty) h)
+    (and_parts (not (is_empty node.keys)) (are_key_leaves n nodes node.keys) (and_parts (not (is_empty node.keys) && are_key_leaves n nodes node.keys) (has_none node.ty) h).0).1
 
 pub key_leaves : (nodes : List SchemaNode) → IsSchema nodes → (n : ℕ) → n < length nodes → (node_at n nodes).kind ≡ Listing → are_key_leaves n nodes (node_at n nodes).keys ≡ true
 key_leaves nodes schema n within kind = listing_keys nodes n (node_at n nodes) (subst (λ k. kind_stands k n nodes (node_at n nodes) ≡ true) kind (schema.each n within).kind)

@@ -1,6 +1,6 @@
 -- Rows at or below a place: its own row, and those under it.
-use Rattle.std.proofs.Common.{◌≡◌, List, [], ◌∷◌, ◌++◌, Bool, true, false, refl, sym, ap, subst, ◌∙◌, cond, append-nil, inl, inr}
-use Rattle.std.specs.Prelude.{◌⊎◌, Option, Some, None, is_some}
+use Rattle.std.proofs.Common.{◌≡◌, List, [], ◌∷◌, ◌++◌, true, refl, sym, ap, subst, ◌∙◌, cond, append-nil, inl, inr}
+use Rattle.std.specs.Prelude.{◌⊎◌, Some, None, is_some}
 use Rattle.std.specs.List.{AllByRecursion}
 use Rattle.std.specs.Ordering.{is_eq}
 use Rattle.std.specs.declared.cmp.Ordering.TheVariants.{Less}
@@ -11,7 +11,7 @@ use Rattle.yp_base.specs.declared.row.Row.{Row}
 use Rattle.yp_base.specs.Order.{path_cmp, is_within}
 use Rattle.yp_base.specs.OrderLaws.{paths_total}
 use Rattle.yp_base.specs.Rows.{value_at, AreInOrder}
-use Rattle.yp_base.specs.RowLaws.{AllPast, first_order}
+use Rattle.yp_base.specs.RowLaws.{AllPast, first_order, still_some}
 use Rattle.yp_schema.specs.declared.schema.SchemaNode.{SchemaNode}
 use Rattle.yp_schema.specs.Datastore.{HaveEntries}
 use Rattle.yp_data_json.specs.Reading.{row_at}
@@ -62,10 +62,6 @@ own_value at value rest = ap (λ o. cond (is_eq o) (Some value) (value_at at res
 pub entries_under : (nodes : List SchemaNode) (at : List Seg) (rows : List Row) → HaveEntries nodes at rows → EntriesBelow nodes at rows
 entries_under nodes at rows entries = λ path rest seg inside entry h. entries (path ++ seg ∷ []) rest (within_longer at path (seg ∷ []) inside) entry h
 
-some_more : (b : Bool) (value : Value) (o : Option Value) → is_some o ≡ true → is_some (cond b (Some value) o) ≡ true
-some_more true value o h = refl
-some_more false value o h = h
-
 -- a path under the place isn't the place
 under_apart : (at path : List Seg) (seg : Seg) → is_within at path ≡ true → path ++ seg ∷ [] ≡ at → ⊥
 under_apart at path seg inside e =
@@ -74,6 +70,6 @@ under_apart at path seg inside e =
 
 pub entries_rest : (nodes : List SchemaNode) (at : List Seg) (value : Value) (rest : List Row) → HaveEntries nodes at (row_at at value ∷ rest) → EntriesBelow nodes at rest
 entries_rest nodes at value rest entries = λ path more seg inside entry h.
-    let there = entries (path ++ seg ∷ []) more (within_longer at path (seg ∷ []) inside) entry (some_more (is_eq (path_cmp ((path ++ seg ∷ []) ++ more) at)) value (value_at ((path ++ seg ∷ []) ++ more) rest) h) in
+    let there = entries (path ++ seg ∷ []) more (within_longer at path (seg ∷ []) inside) entry (still_some (is_eq (path_cmp ((path ++ seg ∷ []) ++ more) at)) value (value_at ((path ++ seg ∷ []) ++ more) rest) h) in
     same_or_apart (path ++ seg ∷ []) at (λ e. absurd (under_apart at path seg inside e))
     (λ apart. sym (ap (λ b. is_some (cond b (Some value) (value_at (path ++ seg ∷ []) rest))) apart) ∙ there)

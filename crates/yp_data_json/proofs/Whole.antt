@@ -32,6 +32,7 @@ use Rattle.yp_data_json.proofs.AtPlace.{same_front}
 use Rattle.yp_schema.specs.SchemaLaws.{segment_within, row_goes_down, row_ends, end_kind, end_open, first_parent, first_segment, child_holds, last_node_append}
 use Rattle.yp_data_json.proofs.Steps.{empty_keys}
 use Rattle.yp_data_json.proofs.Fits.{BranchFits, Fits}
+use Rattle.yp_base.specs.RowLaws.{still_some}
 
 -- ---- paths
 
@@ -398,13 +399,9 @@ module _ (nodes : List SchemaNode) (schema : IsSchema nodes) where
         let less = paths_total.trans x.path row.path q (less_middle path_cmp path_of x before row (next ∷ more) order.0) lo in
         ap (λ o. cond (is_eq o) (Some x.value) (value_at q (before ++ row ∷ next ∷ more))) (less_turned x.path q less) ∙ gap_at before row next more order.1 q lo hi
 
-    some_or : (b : Bool) (v : Value) (o : Option Value) → is_some o ≡ true → is_some (cond b (Some v) o) ≡ true
-    some_or true v o h = refl
-    some_or false v o h = h
-
     there_at : (before : List Row) (x : Row) (more : List Row) → has_row x.path (before ++ x ∷ more) ≡ true
     there_at [] x more = ap (λ o. is_some (cond (is_eq o) (Some x.value) (value_at x.path more))) (tied_itself paths_total x.path)
-    there_at (y ∷ before) x more = some_or (is_eq (path_cmp x.path y.path)) y.value (value_at x.path (before ++ x ∷ more)) (there_at before x more)
+    there_at (y ∷ before) x more = still_some (is_eq (path_cmp x.path y.path)) y.value (value_at x.path (before ++ x ∷ more)) (there_at before x more)
 
     row_less : (before : List Row) (row next : Row) (more : List Row) → AreInOrder (before ++ row ∷ next ∷ more) → path_cmp row.path next.path ≡ Less
     unfolding IsStrictlySortedBy

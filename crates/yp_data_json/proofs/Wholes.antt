@@ -23,8 +23,8 @@ use Rattle.yp_data_json.specs.declared.fault.DataFault.{DataFault}
 use Rattle.yp_data_json.specs.declared.fault.DataFault.TheVariants.{UnknownElement, InvalidValue}
 use Rattle.yp_schema.specs.Values.{typed_value, typed_atom}
 use Rattle.yp_base.specs.Results.{◌>>=◌}
-use Rattle.yp_data_json.specs.Reading.{valid, keys_in, below, row_at, leaf_read, entered, in_object, in_array, in_plain, members_read, node_read, entries_read, values_read, datastore_read}
-use Rattle.yp_data_json.specs.AtPath.{are_keys, named_entry, named_value, array_of_one, by_kind, named_read, outer_read, is_bare, object_read, rows_read}
+use Rattle.yp_data_json.specs.Reading.{valid, keys_in, below, row_at, leaf_read, entered, in_object, in_array, in_plain, members_read, node_read, entries_read, leaf_list_read, datastore_read}
+use Rattle.yp_data_json.specs.AtPath.{are_keys, named_entry, named_value, array_of_one, by_kind, named_read, outer_read, has_no_members, object_read, rows_read}
 use Rattle.yp_base.specs.PathLaws.{within_itself}
 use Rattle.yp_data_json.proofs.Steps.{empty_keys}
 use Rattle.yp_data_json.proofs.Places.{rows_last}
@@ -120,8 +120,8 @@ module _ (nodes : List SchemaNode) (above : List Seg) (seg : Seg) where
     as_plain k d rows after e h = subst (λ j. in_plain j (leaf_read nodes seg.node above d rows) (Err InvalidValue) ≡ Ok after) e h
 
     as_array : (k : Kind) (ds : Items) (rows after : List Row) → kind ≡ k → node_read nodes seg.node above (array ds) rows ≡ Ok after →
-        in_array k (entries_read nodes seg.node above ds rows) (leaf_read nodes seg.node above (array ds) rows) (values_read nodes seg.node above ds rows) (Err InvalidValue) ≡ Ok after
-    as_array k ds rows after e h = subst (λ j. in_array j (entries_read nodes seg.node above ds rows) (leaf_read nodes seg.node above (array ds) rows) (values_read nodes seg.node above ds rows) (Err InvalidValue) ≡ Ok after) e h
+        in_array k (entries_read nodes seg.node above ds rows) (leaf_read nodes seg.node above (array ds) rows) (leaf_list_read nodes seg.node above ds rows) (Err InvalidValue) ≡ Ok after
+    as_array k ds rows after e h = subst (λ j. in_array j (entries_read nodes seg.node above ds rows) (leaf_read nodes seg.node above (array ds) rows) (leaf_list_read nodes seg.node above ds rows) (Err InvalidValue) ≡ Ok after) e h
 
     as_object : (k : Kind) (ms : Members) (rows after : List Row) → kind ≡ k → node_read nodes seg.node above (object ms) rows ≡ Ok after →
         in_object k (members_read nodes (Some seg.node) (below above seg.node []) ms rows) (members_read nodes (Some seg.node) (below above seg.node []) ms (put_row (row_at (below above seg.node []) Present) rows)) (Err InvalidValue) ≡ Ok after
@@ -231,15 +231,15 @@ module _ (nodes : List SchemaNode) (above : List Seg) (seg : Seg) where
         bound (if pointwise nat_eq name (qualified_name (node_at seg.node nodes)) then named_read nodes seg.node above seg.keys d rows else Err UnknownElement) (λ mid. outer_read nodes seg.node above seg.keys ms mid) after h
         (λ mid e g. let one = (member_grown name d rows mid stand e).0 in grown_on one (outer_grown ms mid after one.stand g))
 
-    outer_own : (ms : Members) (rows after : List Row) → Stand nodes at rows → is_bare ms ≡ false → outer_read nodes seg.node above seg.keys ms rows ≡ Ok after → is_own kind ≡ true → has_row at after ≡ true
+    outer_own : (ms : Members) (rows after : List Row) → Stand nodes at rows → has_no_members ms ≡ false → outer_read nodes seg.node above seg.keys ms rows ≡ Ok after → is_own kind ≡ true → has_row at after ≡ true
     outer_own no_members rows after stand some h own = let no : ⊥ = cc in absurd no
     outer_own (member name d ms) rows after stand some h own =
         bound (if pointwise nat_eq name (qualified_name (node_at seg.node nodes)) then named_read nodes seg.node above seg.keys d rows else Err UnknownElement) (λ mid. outer_read nodes seg.node above seg.keys ms mid) after h
         (λ mid e g. let one = member_grown name d rows mid stand e in (outer_grown ms mid after one.0.stand g).keep at (one.1 own))
 
-    bare_or : {C : Type 0} (ms : Members) (r : Result (List Row) DataFault) (after : List Row) → (if is_bare ms then Err InvalidValue else r) ≡ Ok after → (is_bare ms ≡ false → r ≡ Ok after → C) → C
+    bare_or : {C : Type 0} (ms : Members) (r : Result (List Row) DataFault) (after : List Row) → (if has_no_members ms then Err InvalidValue else r) ≡ Ok after → (has_no_members ms ≡ false → r ≡ Ok after → C) → C
     bare_or {C} ms r after h go =
-        elim (is_bare ms) as (λ t. is_bare ms ≡ t → cond t (Err InvalidValue) r ≡ Ok after → C) [
+        elim (has_no_members ms) as (λ t. has_no_members ms ≡ t → cond t (Err InvalidValue) r ≡ Ok after → C) [
           | true ↦ λ e f. no_rows after f
           | false ↦ λ e f. go e f
         ] refl h

@@ -80,13 +80,13 @@ outer_read nodes n above keys (member name d ms) rows =
     (if pointwise nat_eq name (qualified_name (node_at n nodes)) then named_read nodes n above keys d rows else Err UnknownElement) >>= λ after.
     outer_read nodes n above keys ms after
 
-abbrev pub is_bare : Members → Bool
-is_bare no_members = true
-is_bare (member name d ms) = false
+abbrev pub has_no_members : Members → Bool
+has_no_members no_members = true
+has_no_members (member name d ms) = false
 
 -- the rows at a path that ends in a node with these keys; an object without members has no value
 abbrev pub object_read : List SchemaNode → ℕ → List Seg → List Atom → Data → Result (List Row) DataFault
-object_read nodes n above keys (object ms) = if is_bare ms then Err InvalidValue else outer_read nodes n above keys ms []
+object_read nodes n above keys (object ms) = if has_no_members ms then Err InvalidValue else outer_read nodes n above keys ms []
 object_read nodes n above keys null = Err InvalidValue
 object_read nodes n above keys (boolean b) = Err InvalidValue
 object_read nodes n above keys (number x) = Err InvalidValue

@@ -52,11 +52,11 @@ abbrev pub HasKey : List SchemaNode → ℕ → Members → Atom → Type 0
 HasKey nodes k ms atom = (d : Data) × (get_member (node_at k nodes).member ms ≡ Some d) × IsOfType (node_at k nodes).ty d (Plain atom)
 
 -- an object has a member for each key leaf, and these are the atoms, one for each
-abbrev pub HasKeys : List SchemaNode → List ℕ → Members → List Atom → Type 0
-HasKeys nodes [] ms [] = Unit {0}
-HasKeys nodes [] ms (atom ∷ atoms) = ⊥
-HasKeys nodes (k ∷ ks) ms [] = ⊥
-HasKeys nodes (k ∷ ks) ms (atom ∷ atoms) = HasKey nodes k ms atom × HasKeys nodes ks ms atoms
+abbrev pub HasKeyAtoms : List SchemaNode → List ℕ → Members → List Atom → Type 0
+HasKeyAtoms nodes [] ms [] = Unit {0}
+HasKeyAtoms nodes [] ms (atom ∷ atoms) = ⊥
+HasKeyAtoms nodes (k ∷ ks) ms [] = ⊥
+HasKeyAtoms nodes (k ∷ ks) ms (atom ∷ atoms) = HasKey nodes k ms atom × HasKeyAtoms nodes ks ms atoms
 
 -- what is so of an object's members
 abbrev pub IsObject : (Members → Type 0) → Data → Type 0
@@ -69,7 +69,7 @@ IsObject is (array ds) = ⊥
 
 -- an entry of a list is told from the others by its keys (RFC 7950 section 7.8.2)
 abbrev pub IsEntryWith : List SchemaNode → ℕ → Data → List Atom → Type 0
-IsEntryWith nodes n d keys = IsObject (λ ms. HasKeys nodes (node_at n nodes).keys ms keys) d
+IsEntryWith nodes n d keys = IsObject (λ ms. HasKeyAtoms nodes (node_at n nodes).keys ms keys) d
 
 -- and one of a leaf-list by its value (section 7.7)
 abbrev pub IsAtomOf : List SchemaNode → ℕ → Data → Atom → Type 0
@@ -125,7 +125,7 @@ abbrev mutual
 
   -- an entry is an object that has all its keys
   pub IsEntryOf : List SchemaNode → ℕ → Data → Type 0
-  IsEntryOf nodes n (object ms) = ((keys : List Atom) × HasKeys nodes (node_at n nodes).keys ms keys) × AreMembersOf nodes (Some n) ms
+  IsEntryOf nodes n (object ms) = ((keys : List Atom) × HasKeyAtoms nodes (node_at n nodes).keys ms keys) × AreMembersOf nodes (Some n) ms
   IsEntryOf nodes n null = ⊥
   IsEntryOf nodes n (boolean b) = ⊥
   IsEntryOf nodes n (number x) = ⊥
@@ -167,7 +167,7 @@ abbrev mutual
   -- an entry has a row, at its keys, and those of its members
   pub EntryHolds : List SchemaNode → ℕ → List Seg → Data → Row → Type 0
   EntryHolds nodes n path (object ms) row =
-      (keys : List Atom) × HasKeys nodes (node_at n nodes).keys ms keys × ((row ≡ row_at (below path n keys) Present) ⊎ MembersHold nodes (Some n) (below path n keys) ms row)
+      (keys : List Atom) × HasKeyAtoms nodes (node_at n nodes).keys ms keys × ((row ≡ row_at (below path n keys) Present) ⊎ MembersHold nodes (Some n) (below path n keys) ms row)
   EntryHolds nodes n path null row = ⊥
   EntryHolds nodes n path (boolean b) row = ⊥
   EntryHolds nodes n path (number x) row = ⊥

@@ -63,25 +63,25 @@ at_key k (Ok x) = Ok x
 at_key k (Err e) = Err (k, e)
 
 -- of two faults that at the key whose name comes first in byte order
-abbrev pub earlier : List SchemaNode → KeyFault → KeyFault → KeyFault
-earlier nodes one other = if is_lt (slice_cmp nat_cmp (node_at other.0 nodes).member (node_at one.0 nodes).member) then other else one
+abbrev pub earlier_fault : List SchemaNode → KeyFault → KeyFault → KeyFault
+earlier_fault nodes one other = if is_lt (slice_cmp nat_cmp (node_at other.0 nodes).member (node_at one.0 nodes).member) then other else one
 
 -- that among a first one, where there is one, and another
 abbrev pub earliest : List SchemaNode → Option KeyFault → KeyFault → KeyFault
 earliest nodes None other = other
-earliest nodes (Some one) other = earlier nodes one other
+earliest nodes (Some one) other = earlier_fault nodes one other
 
 -- one key and the others
-abbrev pub both : List SchemaNode → Result Atom KeyFault → Result (List Atom) KeyFault → Result (List Atom) KeyFault
-both nodes (Ok atom) (Ok atoms) = Ok (atom ∷ atoms)
-both nodes (Ok atom) (Err fault) = Err fault
-both nodes (Err fault) (Ok atoms) = Err fault
-both nodes (Err one) (Err other) = Err (earlier nodes one other)
+abbrev pub with_key : List SchemaNode → Result Atom KeyFault → Result (List Atom) KeyFault → Result (List Atom) KeyFault
+with_key nodes (Ok atom) (Ok atoms) = Ok (atom ∷ atoms)
+with_key nodes (Ok atom) (Err fault) = Err fault
+with_key nodes (Err fault) (Ok atoms) = Err fault
+with_key nodes (Err one) (Err other) = Err (earlier_fault nodes one other)
 
 -- the keys of an entry in the order of the schema, or the fault that is the first in byte order of the keys' names
 abbrev pub keys_found : List SchemaNode → List ℕ → Members → Result (List Atom) KeyFault
 keys_found nodes [] ms = Ok []
-keys_found nodes (k ∷ ks) ms = both nodes (at_key k (key_in (node_at k nodes).ty (get_member (node_at k nodes).member ms))) (keys_found nodes ks ms)
+keys_found nodes (k ∷ ks) ms = with_key nodes (at_key k (key_in (node_at k nodes).ty (get_member (node_at k nodes).member ms))) (keys_found nodes ks ms)
 
 abbrev pub fault_alone : {X : Type 0} → Result X KeyFault → Result X DataFault
 fault_alone (Ok x) = Ok x
@@ -112,9 +112,9 @@ abbrev pub value_read : List SchemaNode → ℕ → List Seg → Data → List R
 value_read nodes n path d rows = valid (typed_atom (node_at n nodes).ty d) >>= λ atom. entered (below path n (atom ∷ [])) Member rows
 
 -- with those of a leaf-list
-abbrev pub values_read : List SchemaNode → ℕ → List Seg → Items → List Row → Result (List Row) DataFault
-values_read nodes n path no_items rows = Ok rows
-values_read nodes n path (item d ds) rows = value_read nodes n path d rows >>= λ after. values_read nodes n path ds after
+abbrev pub leaf_list_read : List SchemaNode → ℕ → List Seg → Items → List Row → Result (List Row) DataFault
+leaf_list_read nodes n path no_items rows = Ok rows
+leaf_list_read nodes n path (item d ds) rows = value_read nodes n path d rows >>= λ after. leaf_list_read nodes n path ds after
 
 -- which of these stands for an object at a node of a kind
 abbrev pub in_object : {A : Type 0} → Kind → A → A → A → A
@@ -165,7 +165,7 @@ abbrev mutual
   node_read nodes n path (array ds) rows = in_array (node_at n nodes).kind
       (entries_read nodes n path ds rows)
       (leaf_read nodes n path (array ds) rows)
-      (values_read nodes n path ds rows)
+      (leaf_list_read nodes n path ds rows)
       (Err InvalidValue)
   node_read nodes n path (object ms) rows = in_object (node_at n nodes).kind
       (members_read nodes (Some n) (below path n []) ms rows)

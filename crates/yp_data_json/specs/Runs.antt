@@ -34,12 +34,12 @@ GoesOn nodes parent (seg ∷ segs) value = goes_to_row nodes parent (seg ∷ seg
 abbrev pub IsRest : List SchemaNode → Option ℕ → ℕ → Row → Type 0
 IsRest nodes parent depth row = GoesOn nodes parent (drop depth row.path) row.value
 
-abbrev pub rest_of : ℕ → Row → List Seg
-rest_of depth row = drop depth row.path
+abbrev pub rest_at : ℕ → Row → List Seg
+rest_at depth row = drop depth row.path
 
 -- rows in the order of what is left of their paths
 abbrev pub AreRising : ℕ → List Row → Type 0
-AreRising depth rows = IsStrictlySortedBy path_cmp (map (rest_of depth) rows)
+AreRising depth rows = IsStrictlySortedBy path_cmp (map (rest_at depth) rows)
 
 -- rows that go on below one node, or from the top, in such order
 pub record AreBelow (nodes : List SchemaNode) (parent : Option ℕ) (depth : ℕ) (rows : List Row) : Type 0 where

@@ -98,8 +98,8 @@ place_data nodes Leaf node seg own kids = leaf_data node.ty own
 place_data nodes LeafList node seg own kids = array (item (item_data nodes LeafList node seg kids) no_items)
 
 -- the same with the path's own row, and what is below it
-abbrev pub data_at : List SchemaNode → Seg → List Seg → List Row → Data
-data_at nodes seg at rows = place_data nodes (node_at seg.node nodes).kind (node_at seg.node nodes) seg (value_at at rows) (members_in nodes (forest_at (length at) rows))
+abbrev pub place_json : List SchemaNode → Seg → List Seg → List Row → Data
+place_json nodes seg at rows = place_data nodes (node_at seg.node nodes).kind (node_at seg.node nodes) seg (value_at at rows) (members_in nodes (forest_at (length at) rows))
 
 -- one member, under the qualified name of a segment's node
 abbrev pub named_member : List SchemaNode → Seg → Data → Data
@@ -108,4 +108,4 @@ named_member nodes seg d = object (member (qualified_name (node_at seg.node node
 -- the JSON of rows: at the empty path the top members, at a path the one member of that path
 abbrev pub rows_json : List SchemaNode → List Seg → List Row → Data
 rows_json nodes [] rows = object (members_in nodes (forest_at 0 rows))
-rows_json nodes (seg ∷ rest) rows = named_member nodes (last_segment seg rest) (data_at nodes (last_segment seg rest) (seg ∷ rest) rows)
+rows_json nodes (seg ∷ rest) rows = named_member nodes (last_segment seg rest) (place_json nodes (last_segment seg rest) (seg ∷ rest) rows)

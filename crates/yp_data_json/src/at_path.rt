@@ -8,7 +8,7 @@ ghost use Rattle.yp_base.specs.Payloads.{content_data};
 ghost use Rattle.yp_schema.specs.Datastore.{is_place, AreWhole};
 ghost use Rattle.yp_schema.specs.Nodes.{node_at, qualified_name};
 ghost use Rattle.yp_data_json.specs.Reading.{Gives, Leaves};
-ghost use Rattle.yp_data_json.specs.AtPath.{leaf_row, named_entry, named_value, one_of, named_read, outer_read, is_bare, object_read, rows_read};
+ghost use Rattle.yp_data_json.specs.AtPath.{leaf_row, named_entry, named_value, one_of, named_read, outer_read, has_no_members, object_read, rows_read};
 
 use crate::fault::DataFault;
 use crate::keys::{atom_of, read_keys, value_of};
@@ -180,7 +180,7 @@ fn qualified(alloc: Global, schema: &Schema, node: u32) -> Result<String, NoMemo
 
 /// Whether an object has no members.
 fn has_none(members: &Map<String, Json>) -> bool
-    ensures { result ≡ is_bare (members_view members.now.entries) }
+    ensures { result ≡ has_no_members (members_view members.now.entries) }
 {
     members.is_empty()
 }

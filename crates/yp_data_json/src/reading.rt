@@ -1,7 +1,7 @@
 //! The rows of a datastore's data.
 ghost use Rattle.std.specs.Prelude.{◌≡◌, ◌<◌, ◌∷◌, [], length, IfSome, IfOk};
 ghost use Rattle.serde_json.specs.View.{view, members_view, items_view};
-ghost use Rattle.yp_data_json.specs.Reading.{Gives, Leaves, below, entered, leaf_read, value_read, values_read, members_read, node_read, entries_read, entry_read, datastore_read};
+ghost use Rattle.yp_data_json.specs.Reading.{Gives, Leaves, below, entered, leaf_read, value_read, leaf_list_read, members_read, node_read, entries_read, entry_read, datastore_read};
 
 use crate::fault::DataFault;
 use crate::keys::{atom_of, read_keys, value_of};
@@ -86,7 +86,7 @@ fn read_values(
     rows: &mut Rising,
 ) -> Result<(), DataFault>
     requires { node < length schema.now }
-    ensures { Leaves result rows.new (values_read schema.now node path.now (items_view items.now.items) rows.old) }
+    ensures { Leaves result rows.new (leaf_list_read schema.now node path.now (items_view items.now.items) rows.old) }
 {
     for item in items {
         read_entry_value(alloc, schema, node, path, item, rows)?;

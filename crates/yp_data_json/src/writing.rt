@@ -10,7 +10,7 @@ ghost use Rattle.yp_base.specs.declared.path.Seg.{Seg};
 ghost use Rattle.yp_base.specs.declared.row.Row.{Row};
 ghost use Rattle.yp_data_json.specs.AtPath.{rows_read};
 ghost use Rattle.yp_data_json.specs.Forest.{forest_at};
-ghost use Rattle.yp_data_json.specs.Writing.{rows_json, data_at, members_in, with_keys, item_data, key_data, leaf_data};
+ghost use Rattle.yp_data_json.specs.Writing.{rows_json, place_json, members_in, with_keys, item_data, key_data, leaf_data};
 ghost use Rattle.yp_data_json.specs.Runs.{EndsIn, AllGoThrough, GoOnBelow, AreNodes, AreOneMember, AreEntries, has_items, entry_of};
 
 use crate::runs::{segment, split_entry, split_run};
@@ -89,7 +89,7 @@ fn write_place(
     requires schema { IsSchema schema.now }
     requires writable { AreWritable schema.now at.now rows.now }
     requires last { EndsIn seg.now at.now }
-    ensures { IfOk result (λ json. view json ≡ data_at schema.now seg.now at.now rows.now) }
+    ensures { IfOk result (λ json. view json ≡ place_json schema.now seg.now at.now rows.now) }
 {
     match schema.kind(seg.node) {
         Kind::Container | Kind::Presence => Ok(Json::Object(write_members(

@@ -12,7 +12,7 @@ use Rattle.yp_base.specs.declared.row.Row.{Row}
 use Rattle.yp_base.specs.Order.{path_cmp}
 use Rattle.yp_base.specs.Rows.{path_of, value_at, put_row, put_rows, AreInOrder}
 use Rattle.yp_base.specs.Exact.{atoms_exact}
-use Rattle.yp_base.specs.RowLaws.{value_at_put, puts_order}
+use Rattle.yp_base.specs.RowLaws.{value_at_put, puts_order, still_some}
 use Rattle.std.proofs.lemmas.Map.Views.{tells_apart}
 use Rattle.yp_tree.specs.Listed.{without_row}
 use Rattle.yp_edit.specs.declared.changed.ChangedRow.{ChangedRow}
@@ -24,10 +24,6 @@ use Rattle.yp_edit.proofs.Drafts.{or_else, value_at_puts, each_there}
 use Rattle.yp_edit.proofs.Taking.{value_at_without_row, without_row_order}
 
 -- ---- rows that are put
-
-still_some : (b : Bool) (value : Value) (other : Option Value) → is_some other ≡ true → is_some (cond b (Some value) other) ≡ true
-still_some true value other h = refl
-still_some false value other h = h
 
 put_stays : (path : List Seg) (new : Row) (rows : List Row) → is_some (value_at path rows) ≡ true → is_some (value_at path (put_row new rows)) ≡ true
 put_stays path new rows h = ap is_some (value_at_put path new rows) ∙ still_some (is_eq (path_cmp path new.path)) new.value (value_at path rows) h

@@ -1,5 +1,5 @@
 -- A patch leaves a datastore a datastore.
-use Rattle.std.proofs.Common.{◌≡◌, ℕ, ◌+◌, ◌==◌, List, [], ◌∷◌, ◌++◌, refl, sym, ap, subst, ◌∙◌, cond, Bool, true, false, true≢false, not, ◌&&◌, ◌||◌, Option, Some, None, inl, inr, ⊎_elim}
+use Rattle.std.proofs.Common.{◌≡◌, ℕ, ◌+◌, List, [], ◌∷◌, ◌++◌, refl, sym, ap, subst, ◌∙◌, cond, Bool, true, false, true≢false, not, ◌&&◌, ◌||◌, Option, Some, None, inl, inr, ⊎_elim}
 use Rattle.std.specs.Prelude.{◌⊎◌, is_some, Result, Ok, Err, IfOk, nat_lt, length}
 use Rattle.std.specs.List.{list_all, AllByRecursion}
 use Rattle.std.specs.Ordering.{is_eq, eq_by_cmp}
@@ -12,17 +12,12 @@ use Rattle.yp_base.specs.Order.{segment_cmp, path_cmp, is_within}
 use Rattle.yp_base.specs.Rows.{value_at, put_row, put_rows, has_within, rows_without}
 use Rattle.yp_base.specs.Exact.{segments_decide}
 use Rattle.yp_base.specs.RowLaws.{value_at_without, puts_order, without_keeps_order, all_put}
-use Rattle.yp_base.specs.TextLaws.{read_fits}
 use Rattle.yp_schema.specs.declared.schema.SchemaNode.{SchemaNode}
 use Rattle.yp_schema.specs.Datastore.{is_path_of, is_place, ends_in_key, ends_in_entry, IsRowOf, has_row, IsDatastore, AreWhole}
 use Rattle.yp_path.specs.declared.fault.PathFault.{PathFault}
 use Rattle.yp_path.specs.Targets.{target_in}
-use Rattle.yp_base.specs.Cuts.{cut}
-use Rattle.yp_path.specs.Targets.{segments_in}
-use Rattle.yp_path.proofs.Reading.{path_of_cut}
 use Rattle.yp_data_json.specs.declared.fault.DataFault.{DataFault}
 use Rattle.yp_data_json.specs.AtPath.{rows_read}
-use Rattle.yp_data_json.proofs.Wholes.{read_whole}
 use Rattle.serde_json.specs.Data.{Data}
 use Rattle.yp_edit.specs.declared.fault.Tag.TheVariants.{DataMissing}
 use Rattle.yp_edit.specs.declared.halt.Refusal.{Refusal}
@@ -38,6 +33,9 @@ use Rattle.yp_edit.proofs.Committing.{puts_stay}
 use Rattle.yp_edit.proofs.Drafts.{there_first, there_of_puts}
 use Rattle.yp_edit.proofs.Ends.{may_stand}
 use Rattle.yp_base.specs.PathLaws.{within_longer}
+use Rattle.yp_base.specs.TextLaws.{read_fits}
+use Rattle.yp_path.proofs.Reading.{path_of_text}
+use Rattle.yp_data_json.proofs.Wholes.{read_whole}
 
 -- ---- paths
 
@@ -201,14 +199,6 @@ by_keeps Insert nodes target value rows place datastore = tt
 by_keeps Move nodes target value rows place datastore = tt
 
 -- a target is a path of the schema
-target_path : (nodes : List SchemaNode) (text : List ℕ) (path : List Seg) → target_in nodes text ≡ Ok path → is_path_of nodes path ≡ true
-target_path nodes [] path e = cc
-target_path nodes (b ∷ bs) path e =
-    elim (b == 47) as (λ t. cond t (segments_in nodes None (cut 47 bs)) (Err PathFault.Syntax) ≡ Ok path → is_path_of nodes path ≡ true) [
-      | true ↦ λ h. path_of_cut read_fits nodes bs path h
-      | false ↦ λ h. cc
-    ] e
-
 place_at : (b : Bool) (nodes : List SchemaNode) (path : List Seg) (refusal : Refusal) → ends_in_key nodes path ≡ b → is_path_of nodes path ≡ true → IfOk (cond b (Err refusal) (Ok path)) (λ target. is_place nodes target ≡ true)
 place_at true nodes path refusal ends is = tt
 place_at false nodes path refusal ends is = may_stand nodes path false is (sym ends) refl
@@ -217,7 +207,7 @@ place_at false nodes path refusal ends is = may_stand nodes path false is (sym e
 target_place : (nodes : List SchemaNode) (text : List ℕ) → IfOk (target_of nodes text) (λ target. is_place nodes target ≡ true)
 target_place nodes text =
     elim (target_in nodes text) as (λ (r : Result (List Seg) PathFault). target_in nodes text ≡ r → IfOk (path_or r >>= no_key nodes) (λ target. is_place nodes target ≡ true)) [
-      | Ok path ↦ λ e. place_at (ends_in_key nodes path) nodes path _ refl (target_path nodes text path e)
+      | Ok path ↦ λ e. place_at (ends_in_key nodes path) nodes path _ refl (path_of_text read_fits nodes text path e)
       | Err fault ↦ λ e. tt
     ] refl
 

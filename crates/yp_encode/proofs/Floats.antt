@@ -26,7 +26,7 @@ use Rattle.yp_schema.specs.declared.schema.Kind.TheVariants.{Container, Presence
 use Rattle.yp_schema.specs.Nodes.{node_at}
 use Rattle.yp_data_json.specs.Forest.{Forest, bare, branch, forest_at}
 use Rattle.yp_base.specs.Paths.{last_segment}
-use Rattle.yp_data_json.specs.Writing.{leaf_data, key_data, one_key_data, with_keys, Entry, Gathered, no_nodes, single, entries, entry_in_front, item_data, branch_in_front, members_of, gathered, members_in, place_data, data_at, rows_json}
+use Rattle.yp_data_json.specs.Writing.{leaf_data, key_data, one_key_data, with_keys, Entry, Gathered, no_nodes, single, entries, entry_in_front, item_data, branch_in_front, members_of, gathered, members_in, place_data, place_json, rows_json}
 
 integer : (z : ℤ) → has_float (number (of_integer z)) ≡ false
 integer (pos n) = refl
@@ -124,6 +124,6 @@ pub rows_none : (nodes : List SchemaNode) (at : List Seg) (rows : List Row) → 
 rows_none nodes [] rows = members_none nodes (forest_at 0 rows)
 rows_none nodes (seg ∷ rest) rows =
     let last = last_segment seg rest in
-    or_from (has_float (data_at nodes last (seg ∷ rest) rows)) false
+    or_from (has_float (place_json nodes last (seg ∷ rest) rows)) false
     (place_none nodes (node_at last.node nodes).kind (node_at last.node nodes) last (value_at (seg ∷ rest) rows) (members_in nodes (forest_at (length (seg ∷ rest)) rows)) (members_none nodes (forest_at (length (seg ∷ rest)) rows)))
     refl

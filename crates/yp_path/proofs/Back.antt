@@ -31,8 +31,7 @@ use Rattle.yp_path.proofs.Bytes.{utf8_bytes}
 use Rattle.yp_path.proofs.Escapes.{escaped_is}
 use Rattle.yp_path.proofs.Free.{is_outside, position_free, position_inside, before_mark, after_mark, before_free, free_name, free_append, cut_free, cut_at}
 use Rattle.yp_path.proofs.Names.{child_complete, named_bare, named_elsewhere, form_elsewhere, form_at_home}
-use Rattle.yp_path.proofs.Types.{type_stands, keys_stand}
-use Rattle.yp_path.proofs.Fits.{segment_below}
+use Rattle.yp_schema.specs.SchemaLaws.{type_is, keys_within, segment_within}
 
 -- ---- one key
 
@@ -182,7 +181,7 @@ module _ (nodes : List SchemaNode) (schema : IsSchema nodes) where
 
   value_again : (n : ℕ) (t : Option LeafType) (a : Atom) → n < length nodes → (node_at n nodes).ty ≡ t → atom_fits t a ≡ true → value_of t (atom_text a) ≡ Some a
   value_again n None a h is e = let wrong : false ≡ true = e in cc
-  value_again n (Some ty) a h is e = text_again ty a (type_stands nodes n ty schema h is) e
+  value_again n (Some ty) a h is e = text_again ty a (type_is nodes n ty schema h is) e
 
   values_again : (ks : List ℕ) (keys : List Atom) → ((k d : ℕ) → k < length ks → get_or ks k d < length nodes) → keys_fit nodes ks keys ≡ true
       → (length ks ≡ length (plain_texts keys)) × (values_read nodes ks (plain_texts keys) ≡ Some keys)
@@ -208,7 +207,7 @@ module _ (nodes : List SchemaNode) (schema : IsSchema nodes) where
       → (keys_fit nodes (asked_of_kind kind n (node_at n nodes)) keys ≡ true) × ((k d : ℕ) → k < length (asked_of_kind kind n (node_at n nodes)) → get_or (asked_of_kind kind n (node_at n nodes)) k d < length nodes)
   asked_again n Container keys h is e = (fit_none keys e, λ k d l. absurd (omega (arith, l)))
   asked_again n Presence keys h is e = (fit_none keys e, λ k d l. absurd (omega (arith, l)))
-  asked_again n Listing keys h is e = (e, keys_stand nodes n schema h is)
+  asked_again n Listing keys h is e = (e, keys_within nodes n schema h)
   asked_again n Leaf keys h is e = (fit_none keys e, λ k d l. absurd (omega (arith, l)))
   asked_again n LeafList keys h is e = (fit_one n keys e, one_below)
     where
@@ -218,7 +217,7 @@ module _ (nodes : List SchemaNode) (schema : IsSchema nodes) where
 
   with_again : (seg : Seg) → is_segment nodes seg ≡ true → with_values nodes seg.node (asked seg.node nodes) (plain_texts seg.keys) ≡ Ok seg
   with_again seg e =
-      let h = segment_below nodes seg e in
+      let h = segment_within nodes seg e in
       let fit = asked_again seg.node (node_at seg.node nodes).kind seg.keys h refl (and_parts _ _ e).1 in
       let values = values_again (asked seg.node nodes) seg.keys fit.1 fit.0 in
       let many : as_many (asked seg.node nodes) (plain_texts seg.keys) ≡ Some (plain_texts seg.keys) = cond-true _ _ _ (eq-eqb _ _ values.0) in
@@ -227,7 +226,7 @@ module _ (nodes : List SchemaNode) (schema : IsSchema nodes) where
 
   segment_again : (parent : Option ℕ) (seg : Seg) → same_number (node_at seg.node nodes).parent parent ≡ true → is_segment nodes seg ≡ true → are_texts seg.keys ≡ true → segment_in nodes parent (part_text nodes seg) ≡ Ok seg
   segment_again parent seg p e t =
-      let h = segment_below nodes seg e in
+      let h = segment_within nodes seg e in
       let member = (node_at seg.node nodes).member in
       let free = member_free 61 seg.node h refl refl in
       let named : some_name (name_part (part_text nodes seg)) ≡ Some member = ap some_name (name_again member seg.keys free) ∙ member_some seg.node h in
@@ -240,7 +239,7 @@ module _ (nodes : List SchemaNode) (schema : IsSchema nodes) where
   -- ---- the path
 
   part_free : (seg : Seg) → is_segment nodes seg ≡ true → is_free 47 (part_text nodes seg) ≡ true
-  part_free seg e = free_append 47 (node_at seg.node nodes).member (keys_text 61 seg.keys) (member_free 47 seg.node (segment_below nodes seg e) refl refl) (keys_free 47 61 seg.keys refl refl refl)
+  part_free seg e = free_append 47 (node_at seg.node nodes).member (keys_text 61 seg.keys) (member_free 47 seg.node (segment_within nodes seg e) refl refl) (keys_free 47 61 seg.keys refl refl refl)
 
   segments_again : (parent : Option ℕ) (seg : Seg) (segs : List Seg) → goes_down nodes parent (seg ∷ segs) ≡ true → has_texts (seg ∷ segs) ≡ true
       → segments_in nodes parent (cut 47 (part_text nodes seg ++ target_text nodes segs)) ≡ Ok (seg ∷ segs)

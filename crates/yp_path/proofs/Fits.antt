@@ -1,5 +1,5 @@
 use Rattle.std.proofs.Common.{◌≡◌, ℕ, zero, suc, ◌<◌, List, [], ◌∷◌, length, get_or, true, false, refl, sym, ap, subst, ◌∙◌, Option, Some, None, arith}
-use Rattle.std.proofs.lemmas.Bool.{ltb-true, and_parts}
+use Rattle.std.proofs.lemmas.Bool.{and_parts}
 use Rattle.yp_base.specs.Writable.{fits_writable}
 use Rattle.yp_base.specs.declared.atom.Atom.{Atom}
 use Rattle.yp_base.specs.declared.leaf_type.LeafType.{LeafType}
@@ -10,8 +10,8 @@ use Rattle.yp_schema.specs.declared.schema.Kind.{Kind}
 use Rattle.yp_schema.specs.declared.schema.Kind.TheVariants.{Container, Presence, List as Listing, Leaf, LeafList}
 use Rattle.yp_schema.specs.Nodes.{node_at}
 use Rattle.yp_schema.specs.WellFormed.{IsSchema, is_empty}
-use Rattle.yp_schema.specs.Datastore.{is_path_of, goes_down, is_segment, keys_of_kind, keys_fit, one_fits, atom_fits}
-use Rattle.yp_path.proofs.Types.{type_stands, keys_stand}
+use Rattle.yp_schema.specs.Datastore.{is_path_of, is_segment, keys_of_kind, keys_fit, one_fits, atom_fits}
+use Rattle.yp_schema.specs.SchemaLaws.{type_is, keys_within, segment_within, path_segments}
 
 -- ---- the keys of a segment can be written
 
@@ -21,7 +21,7 @@ AreWritten keys = (k : ℕ) → (d : Atom) → k < length keys → is_writable (
 module _ (nodes : List SchemaNode) (schema : IsSchema nodes) where
   atom_written : (n : ℕ) (t : Option LeafType) (a : Atom) → n < length nodes → (node_at n nodes).ty ≡ t → atom_fits t a ≡ true → is_writable a ≡ true
   atom_written n None a h is e = let wrong : false ≡ true = e in cc
-  atom_written n (Some ty) a h is e = fits_writable ty a (type_stands nodes n ty schema h is) e
+  atom_written n (Some ty) a h is e = fits_writable ty a (type_is nodes n ty schema h is) e
 
   none_written : (keys : List Atom) → is_empty keys ≡ true → AreWritten keys
   none_written [] e k d h = absurd (omega (arith, h))
@@ -43,30 +43,15 @@ module _ (nodes : List SchemaNode) (schema : IsSchema nodes) where
   kind_written : (n : ℕ) (kind : Kind) (keys : List Atom) → n < length nodes → (node_at n nodes).kind ≡ kind → keys_of_kind kind nodes (node_at n nodes) keys ≡ true → AreWritten keys
   kind_written n Container keys below is e = none_written keys e
   kind_written n Presence keys below is e = none_written keys e
-  kind_written n Listing keys below is e = all_written (node_at n nodes).keys keys (keys_stand nodes n schema below is) e
+  kind_written n Listing keys below is e = all_written (node_at n nodes).keys keys (keys_within nodes n schema below) e
   kind_written n Leaf keys below is e = none_written keys e
   kind_written n LeafList keys below is e = one_written n keys below e
 
-pub segment_below : (nodes : List SchemaNode) (seg : Seg) → is_segment nodes seg ≡ true → seg.node < length nodes
-segment_below nodes seg e = ltb-true _ _ (and_parts _ _ e).0
-
 pub segment_written : (nodes : List SchemaNode) (seg : Seg) → IsSchema nodes → is_segment nodes seg ≡ true → AreWritten seg.keys
-segment_written nodes seg schema e = kind_written nodes schema seg.node (node_at seg.node nodes).kind seg.keys (segment_below nodes seg e) refl (and_parts _ _ e).1
-
-goes_at : (nodes : List SchemaNode) (parent : Option ℕ) (segs : List Seg) (i : ℕ) (d : Seg) → goes_down nodes parent segs ≡ true → i < length segs → is_segment nodes (get_or segs i d) ≡ true
-goes_at nodes parent [] i d e h = absurd (omega (arith, h))
-goes_at nodes parent (seg ∷ segs) zero d e h = (and_parts _ _ (and_parts _ _ e).0).1
-goes_at nodes parent (seg ∷ segs) (suc i) d e h = goes_at nodes (Some seg.node) segs i d (and_parts _ _ e).1 (omega (arith, h))
-
-pub path_goes : (nodes : List SchemaNode) (path : List Seg) → is_path_of nodes path ≡ true → goes_down nodes None path ≡ true
-path_goes nodes [] e = refl
-path_goes nodes (seg ∷ segs) e = e
-
-pub path_at : (nodes : List SchemaNode) (path : List Seg) (i : ℕ) (d : Seg) → is_path_of nodes path ≡ true → i < length path → is_segment nodes (get_or path i d) ≡ true
-path_at nodes path i d e h = goes_at nodes None path i d (path_goes nodes path e) h
+segment_written nodes seg schema e = kind_written nodes schema seg.node (node_at seg.node nodes).kind seg.keys (segment_within nodes seg e) refl (and_parts _ _ e).1
 
 -- a segment of a path, as a loop over it meets it
 pub path_item : (nodes : List SchemaNode) (path items : List Seg) (i : ℕ) (seg : Seg) → is_path_of nodes path ≡ true → items ≡ path → i < length items → seg ≡ get_or items i seg → is_segment nodes seg ≡ true
 path_item nodes path items i seg e same h is =
     let P : List Seg → Type 0 = λ l. is_path_of nodes l ≡ true in
-    ap (is_segment nodes) is ∙ path_at nodes items i seg (subst P (sym same) e) h
+    ap (is_segment nodes) is ∙ path_segments nodes items (subst P (sym same) e) i seg h

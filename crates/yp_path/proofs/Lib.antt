@@ -4,7 +4,6 @@ pub mod Escapes
 pub mod Free
 pub mod Names
 pub mod Utf8
-pub mod Types
 pub mod Values
 pub mod Segments
 pub mod Fits

@@ -1,7 +1,6 @@
 use Rattle.std.proofs.Common.{◌≡◌, ℕ, zero, suc, ◌<◌, ◌+◌, ◌==◌, List, [], ◌∷◌, ◌++◌, length, get_or, Bool, true, false, ◌||◌, cond, refl, sym, ap, subst, ◌∙◌, ◌⊎◌, inl, inr, ⊎_elim, arith, length-append, Option, Some, None}
 use Rattle.std.specs.List.{position_or_len, before_first, after_first}
-use Rattle.std.proofs.lemmas.Bool.{cond-true, cond-false, cases_Bool, and_from, or_left, or_right, eqb-true, and_parts}
-use Rattle.std.proofs.lemmas.List.Sums.{split_at_first, passes_at_first}
+use Rattle.std.proofs.lemmas.Bool.{cond-true, cond-false, cases_Bool, and_from, or_left, or_right, and_parts}
 use Rattle.yp_base.specs.PathLaws.{numbers_same, texts_same, texts_told}
 use Rattle.yp_base.specs.Types.{same_text}
 use Rattle.yp_schema.specs.declared.schema.SchemaNode.{SchemaNode}
@@ -10,6 +9,7 @@ use Rattle.yp_schema.specs.Nodes.{node_at, no_node, is_child, place_from, child_
 use Rattle.yp_schema.specs.WellFormed.{IsSchema, is_at_home}
 use Rattle.yp_path.specs.Names.{is_named, child_named, with_name, own_child}
 use Rattle.yp_path.proofs.Free.{position_free, before_mark, after_mark, position_inside, free_name}
+use Rattle.yp_schema.specs.SchemaLaws.{colon_found}
 
 number_in : Option ℕ → ℕ
 number_in None = 0
@@ -159,12 +159,6 @@ own_sound nodes parent name (Some k) n is e = own_at nodes parent name k n (same
 own_complete : (nodes : List SchemaNode) (parent : Option ℕ) (name : List ℕ) (n : ℕ) → child_of parent name nodes ≡ Some n → (node_at n nodes).name ≡ name → own_child parent name nodes ≡ Some n
 own_complete nodes parent name n e same = ap (with_name name nodes) e ∙ cond-true _ _ _ (texts_told _ _ same)
 
-whole_name : (name : List ℕ) → position_or_len (λ b. b == 58) name < length name → name ≡ before_first (λ b. b == 58) name ++ 58 ∷ after_first (λ b. b == 58) name
-whole_name name h =
-    let p : ℕ → Bool = λ b. b == 58 in
-    let colon = eqb-true _ _ (passes_at_first p name 0 h) in
-    split_at_first p name 0 h ∙ ap (λ b. before_first p name ++ b ∷ after_first p name) colon
-
 pub named_at_home : (nodes : List SchemaNode) (parent : Option ℕ) (name : List ℕ) → IsSchema nodes → position_or_len (λ b. b == 58) name < length name → is_at_home parent (before_first (λ b. b == 58) name) nodes ≡ true
     → own_child parent (after_first (λ b. b == 58) name) nodes ≡ child_named parent name nodes
 named_at_home nodes parent name schema inside home =
@@ -185,7 +179,7 @@ named_at_home nodes parent name schema inside home =
         (λ t. one_home nodes parent node.home (before_first p name) (sym (home_same nodes n parent node.home found.0.1 refl) ∙ t) home)
         (λ f. absurd (no_end node.home node.name (sym (form_elsewhere nodes schema n found.0.0 f) ∙ found.0.2 ∙ sym found.1)))
         (cases_Bool (is_at_home node.parent node.home nodes)) in
-        let same : qualified_name node ≡ name = ap (λ t. t ++ 58 ∷ node.name) same_home ∙ ap (λ t. before_first p name ++ 58 ∷ t) found.1 ∙ sym (whole_name name inside) in
+        let same : qualified_name node ≡ name = ap (λ t. t ++ 58 ∷ node.name) same_home ∙ ap (λ t. before_first p name ++ 58 ∷ t) found.1 ∙ sym (colon_found name inside) in
         (found.0.0, and_from _ _ found.0.1 (or_right _ _ (texts_told _ _ same)))
 
     by_qualified : (n : ℕ) → n < length nodes → same_number (node_at n nodes).parent parent ≡ true → qualified_name (node_at n nodes) ≡ name → own_child parent own nodes ≡ Some n

@@ -18,7 +18,7 @@ use Rattle.yp_base.specs.Cuts.{onto_first}
 use Rattle.yp_path.specs.Grammar.{IsNodeName, IsKeyName, is_free, spaces, spaced, quoted, IsQuote, IsPredicate, ArePredicates, RulePart, IsSegment, AreSegments, IsRuleText}
 use Rattle.yp_path.specs.Names.{child_named}
 use Rattle.yp_base.specs.Results.{◌>>=◌, or_fault}
-use Rattle.yp_path.specs.RulePaths.{is_quote, next_place, is_bare, pieces, opened, bodies, all_bodies, without_spaces, are_spaces, around, name_in, closed, value_in, predicate_in, predicates_in, predicates_behind, is_bracket, predicates_of, node_named, among, key_named, is_new, each_once, rule_keys, with_predicates, rule_part_in, rule_parts_in, rule_segment_in, rule_segments_in, rule_path_in}
+use Rattle.yp_path.specs.RulePaths.{is_quote, next_place, is_unquoted, pieces, opened, bodies, all_bodies, without_spaces, are_spaces, around, name_in, closed, quoted_value, predicate_in, predicates_in, predicates_behind, is_bracket, predicates_of, node_named, among, key_named, is_new, each_once, rule_keys, with_predicates, rule_part_in, rule_parts_in, rule_segment_in, rule_segments_in, rule_path_in}
 use Rattle.yp_path.specs.Targets.{some_name, asked}
 use Rattle.yp_path.proofs.Names.{named_at, named_ways, form_elsewhere, form_at_home}
 use Rattle.yp_path.proofs.Passing.{text_read}
@@ -41,14 +41,14 @@ marked_onto mark b bs l (piece, (more, e)) h =
     let rest : piece ++ marked mark more ≡ bs = ap without_first (sym (ap (marked mark) e) ∙ h) in
     ap (λ x. marked mark (onto_first b x)) e ∙ ap (λ x. mark ∷ b ∷ x) rest
 
-joined_at : (mark : ℕ) (place : Place) (b : ℕ) (bs : List ℕ) (t : Bool) → (b == mark && is_bare place) ≡ t → marked mark (pieces mark Outside bs) ≡ mark ∷ bs
+joined_at : (mark : ℕ) (place : Place) (b : ℕ) (bs : List ℕ) (t : Bool) → (b == mark && is_unquoted place) ≡ t → marked mark (pieces mark Outside bs) ≡ mark ∷ bs
     → marked mark (pieces mark (next_place place b) bs) ≡ mark ∷ bs → marked mark (cond t ([] ∷ pieces mark Outside bs) (onto_first b (pieces mark (next_place place b) bs))) ≡ mark ∷ b ∷ bs
 joined_at mark place b bs true e outside on = ap (λ l. mark ∷ l) (outside ∙ ap (λ c. c ∷ bs) (sym (eqb-true b mark (and_parts _ _ e).0)))
 joined_at mark place b bs false e outside on = marked_onto mark b bs (pieces mark (next_place place b) bs) (some_pieces mark (next_place place b) bs) on
 
 pieces_joined : (mark : ℕ) (place : Place) (bs : List ℕ) → marked mark (pieces mark place bs) ≡ mark ∷ bs
 pieces_joined mark place [] = refl
-pieces_joined mark place (b ∷ bs) = joined_at mark place b bs (b == mark && is_bare place) refl (pieces_joined mark Outside bs) (pieces_joined mark (next_place place b) bs)
+pieces_joined mark place (b ∷ bs) = joined_at mark place b bs (b == mark && is_unquoted place) refl (pieces_joined mark Outside bs) (pieces_joined mark (next_place place b) bs)
 
 -- bodies, each in brackets
 abbrev bracketed : List (List ℕ) → List ℕ
@@ -149,7 +149,7 @@ quote_of b e = ⊎_elim (λ t. inl (eqb-true b 39 t)) (λ f. inr (eqb-true b 34 
 abbrev Quoting : List ℕ → List ℕ → Type 0
 Quoting bs value = (quote : ℕ) × ((n : ℕ) × ((bs ≡ quoted quote value ++ spaces n) × IsQuote quote × (is_free quote value ≡ true)))
 
-value_is : (bs value : List ℕ) → value_in bs ≡ Some value → Quoting bs value
+value_is : (bs value : List ℕ) → quoted_value bs ≡ Some value → Quoting bs value
 value_is [] value e = cc
 value_is (quote ∷ bs) value e =
     let parts = cond_some (is_quote quote) (closed quote bs) value e in
@@ -173,11 +173,11 @@ value_is (quote ∷ bs) value e =
 
 predicate_is : (body : List ℕ) (predicate : Predicate) → predicate_in body ≡ Some predicate → IsKeyName predicate.name → IsPredicate (91 ∷ (body ++ 93 ∷ [])) predicate
 predicate_is body predicate e named =
-    let sides = and_then_some (around 61 body) (λ (front, back). option_and_then (λ name. option_map (λ value. made name value) (value_in (without_spaces back))) (name_in (without_spaces front))) predicate e in
+    let sides = and_then_some (around 61 body) (λ (front, back). option_and_then (λ name. option_map (λ value. made name value) (quoted_value (without_spaces back))) (name_in (without_spaces front))) predicate e in
     let front = sides.0.0 in
     let back = sides.0.1 in
-    let name = and_then_some (name_in (without_spaces front)) (λ name. option_map (λ value. made name value) (value_in (without_spaces back))) predicate sides.1.1 in
-    let value = map_some (value_in (without_spaces back)) (λ value. made name.0 value) predicate name.1.1 in
+    let name = and_then_some (name_in (without_spaces front)) (λ name. option_map (λ value. made name value) (quoted_value (without_spaces back))) predicate sides.1.1 in
+    let value = map_some (quoted_value (without_spaces back)) (λ value. made name.0 value) predicate name.1.1 in
     let whole = around_is 61 body front back sides.1.0 in
     let first = spaces_before front in
     let after = name_is (without_spaces front) name.0 name.1.0 in

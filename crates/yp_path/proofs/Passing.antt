@@ -15,7 +15,7 @@ use Rattle.yp_path.specs.declared.predicate.Predicate.{Predicate}
 use Rattle.yp_base.specs.Cuts.{onto_first}
 use Rattle.yp_path.specs.Grammar.{IsQualified, IsNodeName, IsKeyName, is_free, spaces, spaced, quoted, IsQuote, IsPredicate, ArePredicates, RulePart, AreSegments, IsRuleText}
 use Rattle.yp_base.specs.Results.{◌>>=◌, or_fault}
-use Rattle.yp_path.specs.RulePaths.{is_quote, next_place, is_bare, pieces, bodies, all_bodies, without_spaces, are_spaces, around, name_in, closed, value_in, predicate_in, predicates_in, predicates_behind, is_bracket, predicates_of, rule_part_in, rule_parts_in, rule_segment_in, rule_segments_in, rule_path_in}
+use Rattle.yp_path.specs.RulePaths.{is_quote, next_place, is_unquoted, pieces, bodies, all_bodies, without_spaces, are_spaces, around, name_in, closed, quoted_value, predicate_in, predicates_in, predicates_behind, is_bracket, predicates_of, rule_part_in, rule_parts_in, rule_segment_in, rule_segments_in, rule_path_in}
 use Rattle.yp_path.specs.Targets.{some_name}
 use Rattle.yp_path.proofs.Free.{position_free, before_mark, after_mark, before_free, position_inside, free_append}
 use Rattle.yp_path.proofs.Pieces.{onto_all, onto_some}
@@ -123,7 +123,7 @@ pub pass_both : (mark : ℕ) (a b c : Place) (xs ys : List ℕ) → Passes mark 
 pass_both mark a b c xs ys first second = λ more.
     ap (pieces mark a) (append_assoc xs ys more) ∙ first (ys ++ more) ∙ ap (onto_all xs) (second more) ∙ sym (onto_append xs ys (pieces mark c more))
 
-pub pass_one : (mark : ℕ) (place next last : Place) (b : ℕ) (bs : List ℕ) → (b == mark && is_bare place) ≡ false → next_place place b ≡ next → Passes mark next bs last → Passes mark place (b ∷ bs) last
+pub pass_one : (mark : ℕ) (place next last : Place) (b : ℕ) (bs : List ℕ) → (b == mark && is_unquoted place) ≡ false → next_place place b ≡ next → Passes mark next bs last → Passes mark place (b ∷ bs) last
 pass_one mark place next last b bs stays is rest = λ more.
     cond-false _ _ _ stays ∙ ap (λ p. onto_first b (pieces mark p (bs ++ more))) is ∙ ap (onto_first b) (rest more)
 
@@ -210,11 +210,11 @@ front_read before after name is =
     let starts = starts_key name is in
     ap name_in (past_spaces before (name ++ spaces after) ∙ past_word name (spaces after) worded starts) ∙ name_before name after worded starts
 
-back_read : (before after q : ℕ) (value : List ℕ) → IsQuote q → is_free q value ≡ true → value_in (without_spaces (spaced before (quoted q value) after)) ≡ Some value
+back_read : (before after q : ℕ) (value : List ℕ) → IsQuote q → is_free q value ≡ true → quoted_value (without_spaces (spaced before (quoted q value) after)) ≡ Some value
 back_read before after q value is free =
     let other = quote_is (λ b. b == 32) false q is refl refl in
     let opens = quote_is is_quote true q is refl refl in
-    ap value_in (past_spaces before (quoted q value ++ spaces after) ∙ no_space q ((value ++ q ∷ []) ++ spaces after) other)
+    ap quoted_value (past_spaces before (quoted q value ++ spaces after) ∙ no_space q ((value ++ q ∷ []) ++ spaces after) other)
     ∙ cond-true _ _ _ opens
     ∙ ap (closed q) (append_assoc value (q ∷ []) (spaces after))
     ∙ ap (λ o. option_and_then (λ (value, rest). cond (are_spaces rest) (Some value) None) o) (around_at q value (spaces after) free)
@@ -232,8 +232,8 @@ inside_read a b c d q predicate names is free =
     let plain : is_free 61 front ≡ true =
     free_append 61 (spaces a) (predicate.name ++ spaces b) (free_spaces 61 a refl)
     (free_append 61 predicate.name (spaces b) (worded_free 61 predicate.name refl (worded_key predicate.name names)) (free_spaces 61 b refl)) in
-    ap (λ o. option_and_then (λ (front, back). option_and_then (λ name. option_map (λ value. made name value) (value_in (without_spaces back))) (name_in (without_spaces front))) o) (around_at 61 front back plain)
-    ∙ ap (λ o. option_and_then (λ name. option_map (λ value. made name value) (value_in (without_spaces back))) o) (front_read a b predicate.name names)
+    ap (λ o. option_and_then (λ (front, back). option_and_then (λ name. option_map (λ value. made name value) (quoted_value (without_spaces back))) (name_in (without_spaces front))) o) (around_at 61 front back plain)
+    ∙ ap (λ o. option_and_then (λ name. option_map (λ value. made name value) (quoted_value (without_spaces back))) o) (front_read a b predicate.name names)
     ∙ ap (λ o. option_map (λ value. made predicate.name value) o) (back_read c d q predicate.value is free)
   where
     made : List ℕ → List ℕ → Predicate

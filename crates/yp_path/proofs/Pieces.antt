@@ -3,7 +3,7 @@ use Rattle.std.proofs.Math.Seq.{take-suc, drop-cons, take-length}
 use Rattle.yp_path.specs.declared.mark.Place.{Place}
 use Rattle.yp_path.specs.declared.mark.Place.TheVariants.{Outside}
 use Rattle.yp_base.specs.Cuts.{onto_first}
-use Rattle.yp_path.specs.RulePaths.{next_place, is_bare, pieces}
+use Rattle.yp_path.specs.RulePaths.{next_place, is_unquoted, pieces}
 
 -- bytes in front of the first text
 abbrev pub onto_all : List ℕ → List (List ℕ) → List (List ℕ)
@@ -22,7 +22,7 @@ module _ (mark : ℕ) (place : Place) (text : List ℕ) (whole : List (List ℕ)
   abbrev Holds : Type 0
   Holds = whole ≡ onto_all (take i text) (pieces mark place (drop i text))
 
-  pub go_on : Holds → i < length text → (get_or text i 0 == mark && is_bare place) ≡ false
+  pub go_on : Holds → i < length text → (get_or text i 0 == mark && is_unquoted place) ≡ false
       → whole ≡ onto_all (take (i + 1) text) (pieces mark (next_place place (get_or text i 0)) (drop (i + 1) text))
   go_on is h out =
       let b = get_or text i 0 in
@@ -36,7 +36,7 @@ module _ (mark : ℕ) (place : Place) (text : List ℕ) (whole : List (List ℕ)
       ∙ ap (λ l. onto_all l (pieces mark (next_place place b) rest)) (sym front)
       ∙ ap (λ n. onto_all (take n text) (pieces mark (next_place place b) (drop n text))) (sym next)
 
-  pub cut_here : Holds → i < length text → (get_or text i 0 == mark && is_bare place) ≡ true
+  pub cut_here : Holds → i < length text → (get_or text i 0 == mark && is_unquoted place) ≡ true
       → whole ≡ take i text ∷ pieces mark Outside (drop (i + 1) text)
   cut_here is h cuts =
       let b = get_or text i 0 in

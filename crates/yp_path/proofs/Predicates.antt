@@ -4,7 +4,7 @@ use Rattle.yp_base.specs.Cuts.{begins, onto_first}
 use Rattle.yp_path.specs.declared.mark.Place.{Place}
 use Rattle.yp_path.specs.declared.mark.Place.TheVariants.{Outside, Within}
 use Rattle.yp_path.specs.declared.predicate.Predicate.{Predicate}
-use Rattle.yp_path.specs.RulePaths.{is_bare, next_place, pieces, bodies, all_bodies, without_spaces, predicate_in, predicates_in, predicates_behind}
+use Rattle.yp_path.specs.RulePaths.{is_unquoted, next_place, pieces, bodies, all_bodies, without_spaces, predicate_in, predicates_in, predicates_behind}
 
 no_spaces_at : (t : Bool) (b : ℕ) (bs : List ℕ) → (b == 32) ≡ t → t ≡ false → without_spaces (b ∷ bs) ≡ b ∷ bs
 no_spaces_at true b bs is e = let wrong : true ≡ false = e in cc
@@ -38,7 +38,7 @@ cut_onto b (piece ∷ more) = (b ∷ piece, (more, refl))
 
 pub some_pieces : (mark : ℕ) (place : Place) (bs : List ℕ) → Cut (pieces mark place bs)
 some_pieces mark place [] = ([], ([], refl))
-some_pieces mark place (b ∷ bs) = at (b == mark && is_bare place) (pieces mark Outside bs) (pieces mark (next_place place b) bs)
+some_pieces mark place (b ∷ bs) = at (b == mark && is_unquoted place) (pieces mark Outside bs) (pieces mark (next_place place b) bs)
   where
     at : (t : Bool) (l m : List (List ℕ)) → Cut (cond t ([] ∷ l) (onto_first b m))
     at true l m = ([], (l, refl))

@@ -17,7 +17,7 @@ use Rattle.yp_path.specs.declared.fault.PathFault.TheVariants.{Syntax, UnknownNo
 use Rattle.yp_base.specs.Cuts.{cut, onto_first}
 use Rattle.yp_path.specs.Names.{child_named}
 use Rattle.yp_base.specs.Results.{◌>>=◌, or_fault}
-use Rattle.yp_path.specs.Targets.{value_of, values_read, as_many, asked_of_kind, asked, with_values, some_name, name_part, key_parts, keys_read, segment_in, segments_in, Gives}
+use Rattle.yp_path.specs.Targets.{value_of, values_read, as_many, asked_of_kind, asked, with_values, some_name, name_part, key_parts, keys_read, segment_in, segments_in, target_in, Gives}
 use Rattle.yp_path.proofs.Names.{named_at}
 use Rattle.yp_path.proofs.Steps.{step_ok, ok_same, there, and_then_some, map_some}
 
@@ -124,3 +124,11 @@ module _ (read_fits : ReadFits) (nodes : List SchemaNode) where
   pub path_answered : (bs : List ℕ) (answer : Result (List Seg) PathFault) → Gives answer (segments_in nodes None (cut 47 bs)) → IfOk answer (λ path. is_path_of nodes path ≡ true)
   path_answered bs (Ok path) h = path_of_cut bs path h
   path_answered bs (Err w) h = tt
+
+  pub path_of_text : (text : List ℕ) (path : List Seg) → target_in nodes text ≡ Ok path → is_path_of nodes path ≡ true
+  path_of_text [] path e = cc
+  path_of_text (b ∷ bs) path e =
+      elim (b == 47) as (λ t. cond t (segments_in nodes None (cut 47 bs)) (Err Syntax) ≡ Ok path → is_path_of nodes path ≡ true) [
+        | true ↦ λ h. path_of_cut bs path h
+        | false ↦ λ h. cc
+      ] e

@@ -32,15 +32,15 @@ next_place Within b = if b == 93 then Outside else (if is_quote b then Quoted b 
 next_place (Quoted q) b = if b == q then Within else Quoted q
 
 -- whether it stands in no value
-abbrev pub is_bare : Place → Bool
-is_bare Outside = true
-is_bare Within = true
-is_bare (Quoted q) = false
+abbrev pub is_unquoted : Place → Bool
+is_unquoted Outside = true
+is_unquoted Within = true
+is_unquoted (Quoted q) = false
 
 -- a text cut at each mark that stands in no value; after it brackets begin anew
 abbrev pub pieces : ℕ → Place → List ℕ → List (List ℕ)
 pieces mark place [] = [] ∷ []
-pieces mark place (b ∷ bs) = if b == mark && is_bare place then [] ∷ pieces mark Outside bs else onto_first b (pieces mark (next_place place b) bs)
+pieces mark place (b ∷ bs) = if b == mark && is_unquoted place then [] ∷ pieces mark Outside bs else onto_first b (pieces mark (next_place place b) bs)
 
 -- ---- predicates
 
@@ -79,15 +79,15 @@ abbrev pub closed : ℕ → List ℕ → Option (List ℕ)
 closed q bs = option_and_then (λ (value, rest). if are_spaces rest then Some value else None) (around q bs)
 
 -- a value between two equal quotes, after which only spaces stand
-abbrev pub value_in : List ℕ → Option (List ℕ)
-value_in [] = None
-value_in (q ∷ bs) = if is_quote q then closed q bs else None
+abbrev pub quoted_value : List ℕ → Option (List ℕ)
+quoted_value [] = None
+quoted_value (q ∷ bs) = if is_quote q then closed q bs else None
 
 -- the name of a key and its value's text
 abbrev pub predicate_in : List ℕ → Option Predicate
 predicate_in body =
     option_and_then (λ (front, back).
-    option_and_then (λ name. option_map (λ value. record { name = name; value = value }) (value_in (without_spaces back))) (name_in (without_spaces front)))
+    option_and_then (λ name. option_map (λ value. record { name = name; value = value }) (quoted_value (without_spaces back))) (name_in (without_spaces front)))
     (around 61 body)
 
 abbrev pub predicates_in : List (List ℕ) → Option (List Predicate)

@@ -1,6 +1,6 @@
 //! Texts of rule paths cut at marks that stand in no value.
 ghost use Rattle.std.specs.Prelude.{◌≡◌, ◌<◌, ◌+◌, ◌==◌, ◌&&◌, [], ◌∷◌, length, take, drop, slice_index, MatchOption};
-ghost use Rattle.yp_path.specs.RulePaths.{next_place, is_bare, is_quote, pieces};
+ghost use Rattle.yp_path.specs.RulePaths.{next_place, is_unquoted, is_quote, pieces};
 ghost use Rattle.yp_path.specs.declared.mark.Place.TheVariants.{Outside};
 
 /// Where a byte of a rule path's text stands.
@@ -50,8 +50,8 @@ fn next_place(place: Place, byte: u8) -> Place
     }
 }
 
-fn is_bare(place: Place) -> bool
-    ensures { result ≡ is_bare place }
+fn is_unquoted(place: Place) -> bool
+    ensures { result ≡ is_unquoted place }
 {
     match place {
         Place::Outside | Place::Within => true,
@@ -61,9 +61,9 @@ fn is_bare(place: Place) -> bool
 
 /// Whether a byte is a mark at which a text is cut.
 fn is_cut(byte: u8, mark: u8, place: Place) -> bool
-    ensures { result ≡ (byte == mark && is_bare place) }
+    ensures { result ≡ (byte == mark && is_unquoted place) }
 {
-    byte == mark && is_bare(place)
+    byte == mark && is_unquoted(place)
 }
 
 /// Where the first mark stands that is in no value.

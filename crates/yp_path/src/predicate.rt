@@ -1,7 +1,7 @@
 //! Predicates of rule paths (RFC 8341 section 3.5.2).
 ghost use Rattle.std.specs.Prelude.{◌≡◌, ◌<◌, Some, None, IfOk, MatchOption};
 ghost use Rattle.std.specs.List.{before_first};
-ghost use Rattle.yp_path.specs.RulePaths.{without_spaces, are_spaces, name_in, closed, value_in, predicate_in, predicates_behind, predicates_of, is_bracket};
+ghost use Rattle.yp_path.specs.RulePaths.{without_spaces, are_spaces, name_in, closed, quoted_value, predicate_in, predicates_behind, predicates_of, is_bracket};
 ghost use Rattle.yp_path.specs.Targets.{some_name};
 
 use crate::cut::{behind, cut_once};
@@ -73,8 +73,8 @@ fn closed(text: &str, quote: char) -> Option<&str>
 }
 
 /// A value between two equal quotes, after which only spaces stand.
-fn value_in(text: &str) -> Option<&str>
-    ensures { MatchOption result (value_in text.now ≡ None) (λ x. value_in text.now ≡ Some x.now) }
+fn quoted_value(text: &str) -> Option<&str>
+    ensures { MatchOption result (quoted_value text.now ≡ None) (λ x. quoted_value text.now ≡ Some x.now) }
 {
     match behind(text, '\'') {
         Some(rest) => closed(rest, '\''),
@@ -100,7 +100,7 @@ fn read_predicate(alloc: Global, body: &str) -> Result<Option<Predicate>, NoMemo
 {
     match cut_once(body, '=') {
         Some((front, back)) => match name_in(without_spaces(front)) {
-            Some(name) => match value_in(without_spaces(back)) {
+            Some(name) => match quoted_value(without_spaces(back)) {
                 Some(value) => Ok(Some(make_predicate(alloc, name, value)?)),
                 None => Ok(None),
             },

@@ -187,7 +187,7 @@ fn read_with_predicates(
 }
 
 /// The segment at a node: a list has its keys, a leaf-list its value, any other node none.
-#[tactic(auto, using(crate::proofs::Types::keys_stand))]
+#[tactic(auto, using(yp_schema::specs::SchemaLaws::keys_within))]
 fn read_at_node(
     alloc: Global,
     schema: &Schema,

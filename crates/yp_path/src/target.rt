@@ -22,7 +22,7 @@ use yp_base::txt::Txt;
 use yp_schema::schema::{Kind, Schema};
 
 /// The value of a key's text, by the type of a node.
-#[tactic(auto, using(crate::proofs::Types::type_stands))]
+#[tactic(auto, using(yp_schema::specs::SchemaLaws::type_is))]
 pub(crate) fn read_value(
     alloc: Global,
     schema: &Schema,
@@ -159,7 +159,7 @@ fn read_with_values(
 }
 
 /// The segment at a node: a list has its keys, a leaf-list its value, any other node none.
-#[tactic(auto, using(crate::proofs::Types::keys_stand))]
+#[tactic(auto, using(yp_schema::specs::SchemaLaws::keys_within))]
 fn read_at_node(alloc: Global, schema: &Schema, node: u32, texts: &Texts) -> Result<Seg, PathFault>
     requires { node < length schema.now }
     ensures read { Gives result (with_values schema.now node (asked node schema.now) (texts_of texts.now)) }

@@ -14,6 +14,7 @@ use Rattle.std.proofs.lemmas.Map.Lookups.{exact_bytes}
 use Rattle.yp_base.specs.Types.{are_rising}
 use Rattle.yp_schema.specs.Names.{Names}
 use Rattle.yp_schema.specs.Enumerations.{put_name, in_byte_order}
+use Rattle.yp_base.specs.PathLaws.{less_told}
 
 -- whether a name comes before another
 abbrev lt : List ℕ → List ℕ → Bool
@@ -22,18 +23,13 @@ lt a b = is_lt (slice_cmp nat_cmp a b)
 turned : (a b : List ℕ) → slice_cmp nat_cmp b a ≡ ordering_reverse (slice_cmp nat_cmp a b)
 turned a b = nat_list_cmp_total.antisymm b a
 
-less_from : (r : Ordering) → is_lt r ≡ true → r ≡ Less
-less_from Less h = refl
-less_from Equal h = cc
-less_from Greater h = cc
-
 -- of what comes before one name and not before another, the other comes before the one
 between : (x a b : List ℕ) → lt x b ≡ true → lt x a ≡ false → lt a b ≡ true
 between x a b below apart =
     elim (slice_cmp nat_cmp x a) as (λ r. slice_cmp nat_cmp x a ≡ r → is_lt r ≡ false → lt a b ≡ true) [
       | Less ↦ λ is h. cc
       | Equal ↦ λ is h. ap (λ y. lt y b) (sym (exact_bytes x a is)) ∙ below
-      | Greater ↦ λ is h. ap is_lt (nat_list_cmp_total.trans a x b (turned x a ∙ ap ordering_reverse is) (less_from _ below))
+      | Greater ↦ λ is h. ap is_lt (nat_list_cmp_total.trans a x b (turned x a ∙ ap ordering_reverse is) (less_told _ below))
     ] refl apart
 
 one_name : (a b : List ℕ) → lt a b ≡ false → lt b a ≡ false → a ≡ b
@@ -45,7 +41,7 @@ one_name a b h k =
     ] refl h
 
 not_both : (a b : List ℕ) → lt a b ≡ true → lt b a ≡ false
-not_both a b h = ap is_lt (turned a b ∙ ap ordering_reverse (less_from _ h))
+not_both a b h = ap is_lt (turned a b ∙ ap ordering_reverse (less_told _ h))
 
 two_names : (a b : List ℕ) (rest : Names) → cond (lt b a) (b ∷ a ∷ rest) (a ∷ b ∷ rest) ≡ cond (lt a b) (a ∷ b ∷ rest) (b ∷ a ∷ rest)
 two_names a b rest =
@@ -87,7 +83,7 @@ without_put a [] = ap (λ r. cond (is_eq r) [] (a ∷ [])) (tied_itself nat_list
 without_put a (x ∷ xs) =
     elim (lt x a) as (λ t. lt x a ≡ t → without a (cond t (x ∷ put_name a xs) (a ∷ x ∷ xs)) ≡ x ∷ xs) [
       | true ↦ λ is.
-          ap (λ r. cond (is_eq r) (put_name a xs) (x ∷ without a (put_name a xs))) (turned x a ∙ ap ordering_reverse (less_from _ is))
+          ap (λ r. cond (is_eq r) (put_name a xs) (x ∷ without a (put_name a xs))) (turned x a ∙ ap ordering_reverse (less_told _ is))
           ∙ ap (λ names. x ∷ names) (without_put a xs)
       | false ↦ λ is. ap (λ r. cond (is_eq r) (x ∷ xs) (a ∷ without a (x ∷ xs))) (tied_itself nat_list_cmp_total a)
     ] refl

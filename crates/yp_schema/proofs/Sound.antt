@@ -1,5 +1,5 @@
 -- What is so of each node that the JSON of a part states.
-use Rattle.std.proofs.Common.{◌≡◌, ℕ, suc, ◌+◌, ◌-◌, ◌<◌, ◌==◌, ◌&&◌, List, [], ◌∷◌, ◌++◌, length, take, drop, Bool, true, false, cond, refl, sym, ap, ◌∙◌, subst, Option, Some, None, option_map, option_and_then, arith, nat_le, nat_lt, codes}
+use Rattle.std.proofs.Common.{◌≡◌, ℕ, ◌+◌, ◌-◌, ◌==◌, ◌&&◌, List, [], ◌∷◌, ◌++◌, length, Bool, true, false, cond, refl, ap, ◌∙◌, subst, Option, Some, None, option_map, option_and_then, arith, nat_le, nat_lt, codes}
 use Rattle.std.specs.List.{position_or_len, before_first, after_first}
 use Rattle.std.proofs.lemmas.Bool.Decides.{nat_tests}
 use Rattle.serde_json.specs.Data.{Data, Members}
@@ -20,6 +20,7 @@ use Rattle.yp_schema.specs.WellFormed.{is_name, is_empty, has_none}
 use Rattle.yp_schema.specs.Enumerations.{in_byte_order}
 use Rattle.yp_base.specs.Json.{text_member}
 use Rattle.yp_schema.specs.Stated.{with_shape, has_only, flag_member, tested, are_key_names, texts_member, container_in, container_kind, list_in, enumeration_in, typed_in, leaf_in, of_kind, body_in, body, type_in, integer_in, decimal_at, places_in, form_of, form_in, stated_in, stated, node_in}
+use Rattle.yp_schema.specs.SchemaLaws.{colon_found}
 
 -- ---- types
 
@@ -177,28 +178,6 @@ rooted_way [] = tt
 rooted_way ([] ∷ []) = tt
 rooted_way ([] ∷ name ∷ names) = way_of name names
 rooted_way ((b ∷ bs) ∷ names) = tt
-
-colon : ℕ → Bool
-colon b = b == 58
-
-colon_at : (t : Bool) (b : ℕ) (bs : List ℕ) → (b == 58) ≡ t → position_or_len (λ c. c == 58) (b ∷ bs) < length (b ∷ bs)
-    → (position_or_len (λ c. c == 58) bs < length bs → bs ≡ before_first (λ c. c == 58) bs ++ 58 ∷ after_first (λ c. c == 58) bs)
-    → b ∷ bs ≡ before_first (λ c. c == 58) (b ∷ bs) ++ 58 ∷ after_first (λ c. c == 58) (b ∷ bs)
-colon_at true b bs is h later = let one : b ≡ 58 = grind (arith, nat_tests) in rw is (ap (λ c. c ∷ bs) one)
-colon_at false b bs is h later =
-    let one : position_or_len (λ c. c == 58) (b ∷ bs) ≡ 1 + position_or_len (λ c. c == 58) bs = rw is refl in
-    let step : position_or_len (λ c. c == 58) (b ∷ bs) ≡ suc (position_or_len (λ c. c == 58) bs) = omega (arith, one) in
-    let less : position_or_len (λ c. c == 58) bs < length bs = omega (arith, step, h) in
-    let p = position_or_len (λ c. c == 58) bs in
-    let next : 1 + p ≡ suc p = omega arith in
-    let past : 1 + p + 1 ≡ suc (p + 1) = omega arith in
-    let head : take (1 + p) (b ∷ bs) ≡ b ∷ take p bs = ap (λ n. take n (b ∷ bs)) next in
-    let tail : drop (1 + p + 1) (b ∷ bs) ≡ drop (p + 1) bs = ap (λ n. drop n (b ∷ bs)) past in
-    rw is (ap (λ xs. b ∷ xs) (later less) ∙ sym (ap (λ (x : List ℕ). x ++ 58 ∷ drop (1 + p + 1) (b ∷ bs)) head ∙ ap (λ (x : List ℕ). (b ∷ take p bs) ++ 58 ∷ x) tail))
-
-pub colon_found : (bs : List ℕ) → position_or_len (λ c. c == 58) bs < length bs → bs ≡ before_first (λ c. c == 58) bs ++ 58 ∷ after_first (λ c. c == 58) bs
-colon_found [] h = absurd (omega arith)
-colon_found (b ∷ bs) h = colon_at (b == 58) b bs refl h (colon_found bs)
 
 -- the text of a name with the module in front of it, if there is one
 abbrev pub form_text : Option (List ℕ) → List ℕ → List ℕ

@@ -9,7 +9,7 @@ use Rattle.yp_base.specs.OrderLaws.{paths_total}
 use Rattle.yp_base.specs.Rows.{put_row, put_rows, AreInOrder}
 use Rattle.yp_base.specs.RowLaws.{AllPast, none_order, first_order, rest_order, join_order}
 use Rattle.yp_tree.specs.Risen.{is_past}
-use Rattle.yp_tree.proofs.Nexts.{is_less}
+use Rattle.yp_base.specs.PathLaws.{less_told}
 
 pub past_last : (path : List Seg) (rows : List Row) (last : Row) → is_past path (rows ++ last ∷ []) ≡ is_lt (path_cmp last.path path)
 past_last path [] last = refl
@@ -22,7 +22,7 @@ past_all x (y ∷ rows) row past less = (past.0, past_all x rows row past.1 less
 
 -- a path that the last of rows in order is before is past all of them
 before_last : (x : Row) (rows : List Row) (row : Row) → AreInOrder (x ∷ rows) → is_past row.path (x ∷ rows) ≡ true → path_cmp x.path row.path ≡ Less
-before_last x [] row order past = is_less (path_cmp x.path row.path) past
+before_last x [] row order past = less_told (path_cmp x.path row.path) past
 before_last x (y ∷ rows) row order past = paths_total.trans x.path y.path row.path (first_order x (y ∷ rows) order).0 (before_last y rows row (rest_order x (y ∷ rows) order) past)
 
 past_rest : (x : Row) (rows : List Row) (path : List Seg) → is_past path (x ∷ rows) ≡ true → is_past path rows ≡ true

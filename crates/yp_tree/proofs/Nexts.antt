@@ -18,6 +18,7 @@ use Rattle.yp_base.specs.OrderLaws.{segments_total, paths_total}
 use Rattle.yp_base.specs.Prefixes.{front_not_after, fronts_together}
 use Rattle.yp_tree.specs.Begins.{Begins}
 use Rattle.yp_base.specs.Rows.{path_of, next_row, row_of, rows_of}
+use Rattle.yp_base.specs.PathLaws.{less_told}
 
 pub less_not_greater : (o : Ordering) → o ≡ Less → is_gt o ≡ false
 less_not_greater Less e = refl
@@ -70,11 +71,6 @@ not_gt_le Less e = refl
 not_gt_le Equal e = refl
 not_gt_le Greater e = cc
 
-pub is_less : (o : Ordering) → is_lt o ≡ true → o ≡ Less
-is_less Less e = refl
-is_less Equal e = cc
-is_less Greater e = cc
-
 -- below is below, whichever way the second comes
 before_both : (a b c : List Seg) → path_cmp a b ≡ Less → is_gt (path_cmp b c) ≡ false → path_cmp a c ≡ Less
 before_both a b c h k =
@@ -117,7 +113,7 @@ begins_at after under h = record {
 -- elsewhere, past `after`
 pub begins_past : (after under : List Seg) → is_lt (path_cmp after under) ≡ false → Begins after under (Excluded after)
 begins_past after under h = record {
-  from_under = λ x e. less_not_greater _ (before_all under after x (flipped after under h) (is_less _ (sym (and_true _) ∙ e)));
+  from_under = λ x e. less_not_greater _ (before_all under after x (flipped after under h) (less_told _ (sym (and_true _) ∙ e)));
   past_after = λ x e. and_true _;
 }
 

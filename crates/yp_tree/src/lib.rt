@@ -6,7 +6,8 @@
 //! each, `within` and `rows_within` count one for each row that they give and one more, and there is no
 //! other way to read the rows that stay in it; `put`, `replace`, `cut`, `remove` and `renew` change it, and
 //! `into_rows` gives its rows away. What changes a tree, gives it away or copies it, and `len`, count
-//! none: visits bound what is read for an update, and not what a patch costs.
+//! none: visits bound what is read for an update, and not what a patch costs. A `Rising` has rows while they
+//! are put, and appends those that come in the order of their paths.
 #![tactic(auto)]
 
 pub mod rising;

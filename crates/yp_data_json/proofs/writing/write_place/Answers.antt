@@ -1,6 +1,6 @@
 use Rattle.std.proofs.Common.{Some, None, sym, subst, ◌∙◌}
 use Rattle.yp_schema.specs.Nodes.{node_at}
-use Rattle.yp_data_json.specs.Writing.{leaf_data, data_at}
+use Rattle.yp_data_json.specs.Writing.{leaf_data, place_json}
 use Rattle.yp_data_json.specs.Runs.{AreBelow}
 use Rattle.yp_data_json.proofs.Parts.{none_left}
 use Rattle.yp_schema.specs.SchemaLaws.{segment_within, node_after}
@@ -33,7 +33,7 @@ pub returns-in-Some : goal.returns-in-Some
 returns-in-Some c =
     let written = place_written c.args.schema.now c.requires.schema c.args.at.now c.requires.last.0 c.args.seg.now c.args.rows.now c.in-Some.row.now c.in-Some.field-0-1.now c.requires.last.1
     (sym c.kind.ensures ∙ c.in-Leaf.is) c.in-Some.ensures.cases.0 c.requires.writable in
-    if_same c.write_leaf.result (leaf_data (node_at c.args.seg.now.node c.args.schema.now).ty (Some c.in-Some.row.now.value)) (data_at c.args.schema.now c.args.seg.now c.args.at.now c.args.rows.now) written c.write_leaf.ensures
+    if_same c.write_leaf.result (leaf_data (node_at c.args.seg.now.node c.args.schema.now).ty (Some c.in-Some.row.now.value)) (place_json c.args.schema.now c.args.seg.now c.args.at.now c.args.rows.now) written c.write_leaf.ensures
 
 pub returns-in-None : goal.returns-in-None
 returns-in-None c =

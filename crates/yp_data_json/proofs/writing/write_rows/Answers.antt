@@ -1,6 +1,6 @@
 use Rattle.std.proofs.Common.{None, sym, ap, subst, ◌∙◌}
 use Rattle.serde_json.specs.View.{view}
-use Rattle.yp_data_json.specs.Writing.{data_at, named_member, rows_json}
+use Rattle.yp_data_json.specs.Writing.{place_json, named_member, rows_json}
 use Rattle.yp_data_json.specs.Runs.{AreBelow}
 use Rattle.yp_data_json.proofs.Parts.{none_left}
 use Rattle.yp_schema.specs.SchemaLaws.{segment_within}
@@ -25,6 +25,6 @@ returns-in_ok-json-in-Some c =
     let seg = c.in-Some.seg.now in
     let d = view c.in_ok-json-in-Some.json in
     let is = sym c.items.ensures ∙ c.in-Some.ensures.cases.0 in
-    let written = c.in_ok-json-in-Some.ensures ∙ ap (λ rows. data_at nodes seg c.args.at.now rows) c.items-in-Some.ensures in
+    let written = c.in_ok-json-in-Some.ensures ∙ ap (λ rows. place_json nodes seg c.args.at.now rows) c.items-in-Some.ensures in
     if_same c.named.result (named_member nodes seg d) (rows_json nodes c.args.at.now c.args.rows.now)
     (ap (named_member nodes seg) written ∙ sym (json_at nodes c.args.at.now c.in-Some.field-0-1.now seg c.args.rows.now is)) c.named.ensures
