@@ -16,7 +16,7 @@ use Rattle.yp_schema.specs.declared.schema.Kind.{Kind}
 use Rattle.yp_schema.specs.declared.schema.Kind.TheVariants.{Container, Presence, List as Listing, Leaf, LeafList}
 use Rattle.yp_schema.specs.Nodes.{node_at, may_hold}
 use Rattle.yp_schema.specs.WellFormed.{IsSchema}
-use Rattle.yp_schema.specs.Datastore.{goes_down, is_path_of, value_of_kind, is_entry_kind, last_kind_is, has_row, IsRowOf, IsDatastore, goes_to_row, last_node}
+use Rattle.yp_schema.specs.Datastore.{goes_down, is_path_of, value_of_kind, is_entry_kind, last_kind_is, has_row, IsRowOf, IsDatastore, goes_to_row}
 use Rattle.yp_schema.specs.SchemaLaws.{row_node, row_path, goes_on, node_after, leaf_ends}
 use Rattle.yp_edit.specs.declared.changed.ChangedRow.{ChangedRow}
 use Rattle.yp_edit.specs.Bases.{is_listed}

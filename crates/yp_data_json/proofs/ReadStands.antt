@@ -25,7 +25,6 @@ use Rattle.yp_schema.specs.SchemaLaws.{path_down, row_led, last_is_segment, last
 use Rattle.yp_data_json.proofs.PutRows.{put_there}
 use Rattle.yp_data_json.proofs.Growing.{Stand, Grown, Entered, grown_still, grown_on, cut, put_grown, path_more}
 use Rattle.yp_data_json.proofs.Readings.{bound, ok_rows, given, value_typed, atom_typed, keys_typed, child_is}
-use Rattle.yp_base.specs.PathLaws.{within_longer}
 
 -- a node with keys below a path, where rows may stand
 pub record Spot (nodes : List SchemaNode) (at : List Seg) (n : ℕ) (path : List Seg) (keys : List Atom) (rows : List Row) : Type 0 where
