@@ -1,14 +1,13 @@
 -- What each status tells a caller follows from the one relation of a call.
 use Rattle.std.proofs.Common.{◌≡◌, ℕ, true, true≢false, List, [], Option, Some, None, drop, Result, Ok, Err, refl, sym, ap, ◌∙◌, subst}
 use Rattle.std.specs.Prelude.{IfSome, ◌++◌}
-use Rattle.yp_script.specs.declared.fault.ScriptFault.{ScriptFault}
-use Rattle.yp_script.specs.declared.fault.ScriptFault.TheVariants.{At}
 use Rattle.yp_script.specs.declared.fault.ScriptKind.{ScriptKind}
 use Rattle.yp_script.specs.declared.script.Script.{Script}
 use Rattle.push_program.specs.declared.top.Status.{Status}
 use Rattle.push_program.specs.declared.top.Status.TheVariants.{Done, BadWords, BadScript, ReadFault, WriteFault, NoMemory}
 use Rattle.push_program.specs.Answers.{Streams, Answers, is_run, tells_good_words, tells_whole_reading, TellsReading, TellsWriting, tells_no_writing, FitsScript, IsComplete}
 use Rattle.push_program.specs.Promise.{WritesTold, WritesPrefix}
+use Rattle.yp_script.specs.Faults.{LineFault}
 use Rattle.yp_script.specs.Script.{script_in}
 use Rattle.yp_script.proofs.Limits.{nothing_behind}
 
@@ -58,14 +57,14 @@ read_told words s ReadFault h is = absurd (true≢false (sym is))
 read_told words s WriteFault h is = h.1.0
 read_told words s NoMemory h is = absurd (true≢false (sym is))
 
-pub script_told : (words : List (List ℕ)) (s : Streams) (status : Status) → Answers words s status → (line : ℕ) (kind : ScriptKind) → status ≡ BadScript line kind → IfSome s.left_before (λ bytes. script_in bytes ≡ Err (At line kind))
+pub script_told : (words : List (List ℕ)) (s : Streams) (status : Status) → Answers words s status → (line : ℕ) (kind : ScriptKind) → status ≡ BadScript line kind → IfSome s.left_before (λ bytes. script_in bytes ≡ Err (record { line = line; kind = kind }))
 script_told words s Done h line kind is = absurd cc
 script_told words s BadWords h line kind is = absurd cc
 script_told words s (BadScript here what) h line kind is =
     let lines : here ≡ line = cc in
     let kinds : what ≡ kind = cc in
-    subst (λ (k : ScriptKind). IfSome s.left_before (λ bytes. script_in bytes ≡ Err (At line k))) kinds
-    (subst (λ (n : ℕ). IfSome s.left_before (λ bytes. script_in bytes ≡ Err (At n what))) lines h.2)
+    subst (λ (k : ScriptKind). IfSome s.left_before (λ bytes. script_in bytes ≡ Err (record { line = line; kind = k }))) kinds
+    (subst (λ (n : ℕ). IfSome s.left_before (λ bytes. script_in bytes ≡ Err (record { line = n; kind = what }))) lines h.2)
 script_told words s ReadFault h line kind is = absurd cc
 script_told words s WriteFault h line kind is = absurd cc
 script_told words s NoMemory h line kind is = absurd cc
@@ -106,13 +105,13 @@ unwritten_told words s NoMemory h is = h.2.0
 
 fits_done : (left before after : Option (List ℕ)) → WritesTold left before after → IfSome left (λ bytes. FitsScript (script_in bytes) Done)
 fits_done None before after h = h
-fits_done (Some bytes) before after h = subst (λ (r : Result Script ScriptFault). FitsScript r Done) (sym h.1.read) tt
+fits_done (Some bytes) before after h = subst (λ (r : Result Script LineFault). FitsScript r Done) (sym h.1.read) tt
 
-fits_fault : (left : Option (List ℕ)) (line : ℕ) (kind : ScriptKind) → IfSome left (λ bytes. script_in bytes ≡ Err (At line kind)) → IfSome left (λ bytes. FitsScript (script_in bytes) (BadScript line kind))
+fits_fault : (left : Option (List ℕ)) (line : ℕ) (kind : ScriptKind) → IfSome left (λ bytes. script_in bytes ≡ Err (record { line = line; kind = kind })) → IfSome left (λ bytes. FitsScript (script_in bytes) (BadScript line kind))
 fits_fault None line kind h = h
-fits_fault (Some bytes) line kind h = subst (λ (r : Result Script ScriptFault). FitsScript r (BadScript line kind)) (sym h) refl
+fits_fault (Some bytes) line kind h = subst (λ (r : Result Script LineFault). FitsScript r (BadScript line kind)) (sym h) refl
 
-fits_memory_at : (r : Result Script ScriptFault) → FitsScript r NoMemory
+fits_memory_at : (r : Result Script LineFault) → FitsScript r NoMemory
 fits_memory_at (Ok script) = tt
 fits_memory_at (Err fault) = tt
 

@@ -2,8 +2,8 @@
 use Rattle.std.proofs.Common.{◌≡◌, ℕ, zero, suc, List, [], ◌∷◌, ◌++◌, take, drop, Bool, Option, Some, None, Result, Ok, refl, sym, ap, ◌∙◌, subst}
 use Rattle.std.specs.Prelude.{IfSome}
 use Rattle.yp_io.specs.Whole.{ReadsWhole, Appends, AppendsPrefix}
-use Rattle.yp_script.specs.declared.fault.ScriptFault.{ScriptFault}
 use Rattle.yp_script.specs.declared.script.Script.{Script}
+use Rattle.yp_script.specs.Faults.{LineFault}
 use Rattle.yp_script.specs.Script.{script_of, script_in}
 use Rattle.push_program.specs.Promise.{Tells, WritesTold, WritesPrefix}
 
@@ -18,7 +18,7 @@ reads_all None after bytes over read = read
 reads_all (Some before) after bytes over read = read.rest
 
 -- the script of what was read
-pub script_read : (o after : Option (List ℕ)) (bytes : List ℕ) (over : Bool) (script : Result Script ScriptFault) → IfSome o (λ before. ReadsWhole 67108864 before after bytes over) → script_in bytes ≡ script
+pub script_read : (o after : Option (List ℕ)) (bytes : List ℕ) (over : Bool) (script : Result Script LineFault) → IfSome o (λ before. ReadsWhole 67108864 before after bytes over) → script_in bytes ≡ script
     → IfSome o (λ before. script_in before ≡ script)
 script_read None after bytes over script read is = read
 script_read (Some before) after bytes over script read is = sym (ap script_in read.front ∙ ap script_of (take_twice 67108865 before)) ∙ is

@@ -5,6 +5,7 @@ use Rattle.yp_io.specs.Causes.{Rose}
 use Rattle.yp_script.specs.declared.fault.ScriptFault.{ScriptFault}
 use Rattle.yp_script.specs.declared.fault.ScriptFault.TheVariants.{At, Memory}
 use Rattle.yp_script.specs.declared.script.Script.{Script}
+use Rattle.yp_script.specs.Faults.{LineFault}
 use Rattle.push_program.specs.declared.top.Status.{Status}
 use Rattle.push_program.specs.declared.top.Status.TheVariants.{Done, BadWords, BadScript, ReadFault, WriteFault, NoMemory}
 use Rattle.yp_script.specs.Script.{script_in}
@@ -36,14 +37,14 @@ abbrev pub WritesNothing : Streams → Type 0
 WritesNothing s = (s.written_after ≡ s.written_before) × (s.write_faults_after ≡ s.write_faults_before)
 
 -- a fault is that of the script, but where memory ran out
-abbrev pub Fails : ScriptFault → Result Script ScriptFault → Type 0
-Fails (At line kind) read = read ≡ Err (At line kind)
+abbrev pub Fails : ScriptFault → Result Script LineFault → Type 0
+Fails (At line kind) read = read ≡ Err (record { line = line; kind = kind })
 Fails Memory read = Unit {0}
 
 abbrev pub Answers : List (List ℕ) → Streams → Status → Type 0
 Answers words s Done = (is_run words ≡ true) × ReadsAll s × WritesTold s.left_before s.written_before s.written_after × (s.write_faults_after ≡ s.write_faults_before)
 Answers words s BadWords = (is_run words ≡ false) × (s.left_after ≡ s.left_before) × (s.read_faults_after ≡ s.read_faults_before) × WritesNothing s
-Answers words s (BadScript line kind) = (is_run words ≡ true) × ReadsAll s × IfSome s.left_before (λ bytes. script_in bytes ≡ Err (At line kind)) × WritesNothing s
+Answers words s (BadScript line kind) = (is_run words ≡ true) × ReadsAll s × IfSome s.left_before (λ bytes. script_in bytes ≡ Err (record { line = line; kind = kind })) × WritesNothing s
 Answers words s ReadFault = (is_run words ≡ true) × Rose s.read_faults_before s.read_faults_after × WritesNothing s
 Answers words s WriteFault = (is_run words ≡ true) × ReadsAll s × WritesPrefix s.left_before s.written_before s.written_after × Rose s.write_faults_before s.write_faults_after
 Answers words s NoMemory = (is_run words ≡ true) × (s.read_faults_after ≡ s.read_faults_before) × WritesNothing s
@@ -100,7 +101,7 @@ abbrev pub Stays : ℕ → ℕ → Type 0
 Stays before now = Rose before now → ⊥
 
 -- the script of these bytes was run, or its first fault was told, unless memory ran out
-abbrev pub FitsScript : Result Script ScriptFault → Status → Type 0
+abbrev pub FitsScript : Result Script LineFault → Status → Type 0
 FitsScript (Ok script) Done = Unit {0}
 FitsScript (Ok script) BadWords = ⊥
 FitsScript (Ok script) (BadScript line kind) = ⊥
@@ -109,7 +110,7 @@ FitsScript (Ok script) WriteFault = ⊥
 FitsScript (Ok script) NoMemory = Unit {0}
 FitsScript (Err fault) Done = ⊥
 FitsScript (Err fault) BadWords = ⊥
-FitsScript (Err fault) (BadScript line kind) = fault ≡ At line kind
+FitsScript (Err fault) (BadScript line kind) = fault ≡ record { line = line; kind = kind }
 FitsScript (Err fault) ReadFault = ⊥
 FitsScript (Err fault) WriteFault = ⊥
 FitsScript (Err fault) NoMemory = Unit {0}

@@ -1,6 +1,5 @@
 //! The call that the program makes.
 ghost use Rattle.std.specs.Prelude.{◌≡◌, ◌≤◌, ℕ, true, not, length, take, drop, IfSome, IfOk, IfErr, Some, [], Ok, Err, string_bytes};
-ghost use Rattle.yp_script.specs.declared.fault.ScriptFault.TheVariants.{At};
 ghost use Rattle.yp_script.specs.declared.fault.ScriptKind.{ScriptKind as Kind};
 ghost use Rattle.push_program.specs.declared.top.Status.TheVariants.{Done, BadWords, BadScript, WriteFault};
 ghost use Rattle.push_program.specs.Answers.{Answers, Fails, is_run, tells_good_words, tells_whole_reading, tells_no_writing, TellsReading, TellsWriting, IsComplete};
@@ -114,7 +113,7 @@ pub fn push_main<S: Source, K: Sink>(
     ensures told { result ≡ Done → WritesTold (S.left source.old) (K.written sink.old) (K.written sink.new) }
     ensures end { result ≡ Done → IfSome (S.left source.old) (λ bytes. S.left source.new ≡ Some []) }
     ensures read { tells_whole_reading result ≡ true → IfSome (S.left source.old) (λ bytes. S.left source.new ≡ Some (drop 67108865 bytes)) }
-    ensures script { (line : ℕ) (kind : Kind) → result ≡ BadScript line kind → IfSome (S.left source.old) (λ bytes. script_in bytes ≡ Err (At line kind)) }
+    ensures script { (line : ℕ) (kind : Kind) → result ≡ BadScript line kind → IfSome (S.left source.old) (λ bytes. script_in bytes ≡ Err (record { line = line; kind = kind })) }
     ensures reading { TellsReading result (S.faults source.old) (S.faults source.new) }
     ensures writing { TellsWriting result (K.faults sink.old) (K.faults sink.new) }
     ensures front { result ≡ WriteFault → WritesPrefix (S.left source.old) (K.written sink.old) (K.written sink.new) }

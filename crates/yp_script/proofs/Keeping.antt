@@ -1,13 +1,15 @@
 -- What each script keeps: receivers of distinct names, and commands of these receivers.
-use Rattle.std.proofs.Common.{◌≡◌, ℕ, ◌+◌, ◌-◌, ◌<◌, ◌≤◌, inl, inr, option_and_then, codes, Bool, true, false, true≢false, not, ◌&&◌, ◌||◌, List, [], ◌∷◌, ◌++◌, length, take, min, get_or, Option, Some, None, is_some, Result, Ok, Err, refl, sym, ap, ◌∙◌, subst, arith, nat_le, IfSome, IfOk, length-append}
+use Rattle.std.proofs.Common.{◌≡◌, ℕ, ◌+◌, ◌-◌, ◌<◌, ◌≤◌, inl, inr, option_and_then, codes, true, false, not, ◌&&◌, ◌||◌, List, [], ◌∷◌, ◌++◌, length, take, min, get_or, Option, Some, None, option_map, is_some, Result, Ok, Err, refl, sym, ap, ◌∙◌, subst, arith, nat_lt, IfSome, IfOk, length-append}
 use Rattle.std.specs.List.{All, list_any}
 use Rattle.std.specs.Cmp.Lexicographic.{nat_list_eq_equiv}
-use Rattle.std.proofs.lemmas.Bool.{leb-true, cases_lt, or_parts, and_parts}
+use Rattle.std.proofs.lemmas.Bool.{ltb-true, not-true, cases_lt, and_parts, or_parts}
 use Rattle.std.proofs.lemmas.List.{length-map, map-append, get_or_past, take_all}
 use Rattle.std.proofs.lemmas.List.Elements.{All-push, All-nil, All-set, All-get_or, All-weaker, All-replicate}
-use Rattle.serde_json.specs.Data.{Data, Members}
-use Rattle.serde_json.specs.Find.{get_member}
-use Rattle.yp_base.specs.Json.{text_member}
+use Rattle.std.proofs.lemmas.Option.{IfSome_then}
+use Rattle.std.proofs.lemmas.Result.{IfOk-weaker}
+use Rattle.serde_json.specs.Data.{Data}
+use Rattle.yp_base.specs.Json.{member_of}
+use Rattle.yp_base.specs.Results.{◌>>=◌, or_fault}
 use Rattle.yp_base.specs.Types.{same_text, is_among, are_distinct}
 use Rattle.yp_schema.specs.declared.schema.SchemaNode.{SchemaNode}
 use Rattle.yp_schema.specs.Reading.{schema_of}
@@ -16,38 +18,35 @@ use Rattle.yp_journal.specs.declared.command.Command.{Command}
 use Rattle.yp_journal.specs.declared.command.Command.TheVariants as commands
 use Rattle.yp_journal.specs.declared.receiver.ReceiverInfo.{ReceiverInfo}
 use Rattle.yp_journal.specs.History.{MayCome, tick_limit}
-use Rattle.yp_script.specs.declared.asked.Laned.{Laned}
+use Rattle.yp_script.specs.declared.command.Laned.{Laned}
 use Rattle.yp_script.specs.declared.fault.ScriptKind.TheVariants as kinds
 use Rattle.yp_script.specs.declared.fault.ScriptFault.{ScriptFault}
-use Rattle.yp_script.specs.declared.form.Asked.{Asked}
-use Rattle.yp_script.specs.declared.form.Asked.TheVariants as ask
 use Rattle.yp_script.specs.declared.form.Form.{Form}
 use Rattle.yp_script.specs.declared.form.Form.TheVariants as forms
+use Rattle.yp_script.specs.declared.form.Request.{Request}
+use Rattle.yp_script.specs.declared.form.Request.TheVariants.{Tick, Patch, Establish}
 use Rattle.yp_script.specs.declared.script.Script.{Script}
 use Rattle.yp_script.specs.declared.stage.Stage.{Stage}
-use Rattle.yp_script.specs.declared.stage.Stage.TheVariants.{Opening, Started, Schemas, Receivers, Before, Within, After}
+use Rattle.yp_script.specs.declared.stage.Stage.TheVariants.{After}
 use Rattle.yp_script.specs.Commands.{HasFewEdits, HasFew}
-use Rattle.yp_script.specs.Faults.{Said, said_map, said_then, said_or, holding}
-use Rattle.yp_script.specs.Forms.{is_receiver_name, is_user_name, is_new_name, names_of, number_of, has_receiver_form, name_said, user_said, places_said, receiver_of, receiver_in, receiver_said, object_said, said_of_some, tick_said, patch_said, everything_in, said_of_asked, is_read, command_said, done_in_lane, lane_number, lane_said, lanes_said, start_said, part_said, is_of_everything, is_join, form_of}
+use Rattle.yp_script.specs.Faults.{LineFault, Said, said_map}
+use Rattle.yp_script.specs.Forms.{line_form}
 use Rattle.yp_script.specs.Lines.{Line, pieces_of, lines_from}
+use Rattle.yp_script.specs.Order.{next_stage}
 use Rattle.yp_script.specs.Readings.{Gives}
-use Rattle.yp_script.specs.Order.{may_stand, is_complete}
-use Rattle.yp_script.specs.Script.{Progress, no_progress, with_start, with_part, with_receiver, with_command, with_lanes, with_laned, with_join, script_with, schema_said, part_taken, taken, placed, said_in, at_line, script_from, script_of, IsReceiver, AreReceivers, MayRun}
-use Rattle.yp_script.specs.Words.{members_if, sole, where_true, whole_said}
+use Rattle.yp_script.specs.Script.{Progress, no_progress, with_start, with_part, with_receiver, counting, put_at, with_command, with_lanes, with_laned, schema_said, taken, at_stage, form_taken, line_taken, at_line, complete_start, script_at, script_from, script_of, IsReceiver, AreReceivers, MayRun}
+use Rattle.yp_script.specs.Values.{is_receiver_name, is_user_name, is_new_name, names_of, receiver_number, has_receiver_form, name_said, user_said, queue_said, places_said, receiver_of, receiver_said, patch_said, is_of_everything, everything_said, subscription_limit, command_said, lanes_said, laned_said, start_said}
+use Rattle.yp_script.specs.Words.{text_at, where_true, whole_said, is_yes}
 use Rattle.yp_script.proofs.Positions.{position_within, none_there}
-use Rattle.yp_script.proofs.SaidLaws.{map_is, some_is, then_is, if_is, ok_is, or_is, both_is, holding_is, where_is, itself_is, any_is, weaker_is, weaker_some, then_some, line_is, bound_is, whole_is}
+use Rattle.yp_script.proofs.SaidLaws.{map_is, map_any, then_is, if_is, or_is, together_is, holding_is, where_is, itself_is, then_some, line_is, whole_is}
 
 -- ---- receivers' names
 
 -- a number of a receiver is one of these
-number_within : (receivers : List ReceiverInfo) (name : List ℕ) → IfSome (number_of receivers name) (λ n. n < length receivers)
+number_within : (receivers : List ReceiverInfo) (name : List ℕ) → IfSome (receiver_number receivers name) (λ n. n < length receivers)
 number_within receivers name =
-    weaker_some (number_of receivers name) (λ n. n < length (names_of receivers)) (λ n. n < length receivers) (position_within (same_text name) (names_of receivers))
+    IfSome_then (receiver_number receivers name) (position_within (same_text name) (names_of receivers))
     (λ n h. let same : length (names_of receivers) ≡ length receivers = length-map receivers (λ (r : ReceiverInfo). r.name) in omega arith)
-
-not_true : (b : Bool) → not b ≡ true → b ≡ false
-not_true true h = absurd (true≢false (sym h))
-not_true false h = refl
 
 among_more : (text other : List ℕ) (names : List (List ℕ)) → is_among text names ≡ false → same_text text other ≡ false → is_among text (names ++ other ∷ []) ≡ false
 among_more text other [] among differs = ap (λ b. b || false) differs
@@ -62,7 +61,7 @@ distinct_more other (name ∷ names) are new =
     let parts = and_parts (not (is_among name names)) (are_distinct names) are in
     let others = or_parts (same_text other name) (list_any (same_text other) names) new in
     let differs : same_text name other ≡ false = nat_list_eq_equiv.symm name other ∙ others.0 in
-    ap (λ b. not b && are_distinct (names ++ other ∷ [])) (among_more name other names (not_true (is_among name names) parts.0) differs)
+    ap (λ b. not b && are_distinct (names ++ other ∷ [])) (among_more name other names (not-true (is_among name names) parts.0) differs)
     ∙ distinct_more other names parts.1 others.1
 
 -- ---- receivers
@@ -70,7 +69,7 @@ distinct_more other (name ∷ names) are new =
 -- a receiver that may be declared beside others
 record MayJoin (receivers : List ReceiverInfo) (receiver : ReceiverInfo) : Type 0 where
   is : IsReceiver receiver
-  new : is_some (number_of receivers receiver.name) ≡ false
+  new : is_some (receiver_number receivers receiver.name) ≡ false
   room : length receivers + 1 ≤ 16
 
 joined : (receivers : List ReceiverInfo) (receiver : ReceiverInfo) → AreReceivers receivers → MayJoin receivers receiver → AreReceivers (receivers ++ receiver ∷ [])
@@ -80,44 +79,39 @@ joined receivers receiver are may = record {
   each = All-push IsReceiver receivers receiver are.each may.is;
 }
 
-named : (receivers : List ReceiverInfo) (name : List ℕ) → is_new_name receivers name ≡ true → (is_receiver_name name ≡ true) × (is_some (number_of receivers name) ≡ false)
+named : (receivers : List ReceiverInfo) (name : List ℕ) → is_new_name receivers name ≡ true → (is_receiver_name name ≡ true) × (is_some (receiver_number receivers name) ≡ false)
 named receivers name is =
-    let parts = and_parts (is_receiver_name name) (not (is_some (number_of receivers name))) is in
-    (parts.0, not_true (is_some (number_of receivers name)) parts.1)
+    let parts = and_parts (is_receiver_name name) (not (is_some (receiver_number receivers name))) is in
+    (parts.0, not-true (is_some (receiver_number receivers name)) parts.1)
 
-places_are : (receivers : List ReceiverInfo) (ms : Members) → IfOk (places_said receivers ms) (λ places. (length receivers + 1 ≤ 16) × (1 ≤ places) × (places ≤ 32))
-places_are receivers ms =
-    holding_is kinds.Limit (nat_le (length receivers + 1) 16) (whole_said 1 32 (get_member (codes "queue") ms)) (λ places. (length receivers + 1 ≤ 16) × (1 ≤ places) × (places ≤ 32)) (λ room.
-    weaker_is (whole_said 1 32 (get_member (codes "queue") ms)) (λ n. (1 ≤ n) × (n ≤ 32)) (λ places. (length receivers + 1 ≤ 16) × (1 ≤ places) × (places ≤ 32)) (whole_is 1 32 (get_member (codes "queue") ms))
-    (λ n bounds. (leb-true (length receivers + 1) 16 room, bounds.0, bounds.1)))
+queue_is : (queue : Option Data) → IfOk (queue_said queue) (λ places. (1 ≤ places) × (places ≤ 32))
+queue_is None = tt
+queue_is (Some json) = whole_is 1 32 json
 
-name_is : (receivers : List ReceiverInfo) (ms : Members) → IfOk (name_said receivers ms) (λ name. is_new_name receivers name ≡ true)
-name_is receivers ms = or_is kinds.Member (where_true (is_new_name receivers) (text_member (codes "name") ms)) (λ name. is_new_name receivers name ≡ true) (where_is (is_new_name receivers) (text_member (codes "name") ms))
+places_are : (receivers : List ReceiverInfo) (json : Data) → IfOk (places_said receivers json) (λ places. (length receivers + 1 ≤ 16) × (1 ≤ places) × (places ≤ 32))
+places_are receivers json =
+    holding_is kinds.Limit (nat_lt (length receivers) 16) (queue_said (member_of (codes "queue") json)) (λ places. (length receivers + 1 ≤ 16) × (1 ≤ places) × (places ≤ 32)) (λ room.
+    IfOk-weaker (queue_said (member_of (codes "queue") json)) (λ places. (1 ≤ places) × (places ≤ 32)) (λ places. (length receivers + 1 ≤ 16) × (1 ≤ places) × (places ≤ 32))
+    (λ n bounds. (let few : length receivers < 16 = ltb-true (length receivers) 16 room in omega arith, bounds.0, bounds.1)) (queue_is (member_of (codes "queue") json)))
 
-user_is : (ms : Members) → IfOk (user_said ms) (λ user. is_user_name user ≡ true)
-user_is ms = or_is kinds.Member (where_true is_user_name (text_member (codes "user") ms)) (λ user. is_user_name user ≡ true) (where_is is_user_name (text_member (codes "user") ms))
+name_is : (receivers : List ReceiverInfo) (json : Data) → IfOk (name_said receivers json) (λ name. is_new_name receivers name ≡ true)
+name_is receivers json = or_is kinds.Member (where_true (is_new_name receivers) (text_at (codes "name") json)) (λ name. is_new_name receivers name ≡ true) (where_is (is_new_name receivers) (text_at (codes "name") json))
 
-receiver_is : (receivers : List ReceiverInfo) (ms : Members) → IfOk (receiver_in receivers ms) (MayJoin receivers)
-receiver_is receivers ms =
-    if_is kinds.Member (has_receiver_form ms) (said_then (λ name. said_then (λ user. said_map (receiver_of name user) (places_said receivers ms)) (user_said ms)) (name_said receivers ms)) (MayJoin receivers) (λ form.
-    then_is (λ name. said_then (λ user. said_map (receiver_of name user) (places_said receivers ms)) (user_said ms)) (name_said receivers ms) (MayJoin receivers) (λ name is_name.
-    then_is (λ user. said_map (receiver_of name user) (places_said receivers ms)) (user_said ms) (MayJoin receivers) (λ user is_user.
-    map_is (receiver_of name user) (places_said receivers ms) (λ places. (length receivers + 1 ≤ 16) × (1 ≤ places) × (places ≤ 32)) (MayJoin receivers) (places_are receivers ms) (λ places bounds.
-    let new = named receivers name (ok_is (name_said receivers ms) (λ n. is_new_name receivers n ≡ true) name (name_is receivers ms) is_name) in
+user_is : (json : Data) → IfOk (user_said json) (λ user. is_user_name user ≡ true)
+user_is json = or_is kinds.Member (where_true is_user_name (text_at (codes "user") json)) (λ user. is_user_name user ≡ true) (where_is is_user_name (text_at (codes "user") json))
+
+receiver_is : (receivers : List ReceiverInfo) (json : Data) → IfOk (receiver_said receivers json) (MayJoin receivers)
+receiver_is receivers json =
+    if_is kinds.Member (has_receiver_form json) (name_said receivers json >>= (λ name. user_said json >>= (λ user. said_map (receiver_of name user) (places_said receivers json)))) (MayJoin receivers) (λ form.
+    then_is (name_said receivers json) (λ name. user_said json >>= (λ user. said_map (receiver_of name user) (places_said receivers json))) (λ name. is_new_name receivers name ≡ true) (MayJoin receivers) (name_is receivers json) (λ name is_name.
+    then_is (user_said json) (λ user. said_map (receiver_of name user) (places_said receivers json)) (λ user. is_user_name user ≡ true) (MayJoin receivers) (user_is json) (λ user is_user.
+    map_is (receiver_of name user) (places_said receivers json) (λ places. (length receivers + 1 ≤ 16) × (1 ≤ places) × (places ≤ 32)) (MayJoin receivers) (places_are receivers json) (λ places bounds.
+    let new = named receivers name is_name in
     record {
-      is = record {
-        name = new.0;
-        user = ok_is (user_said ms) (λ u. is_user_name u ≡ true) user (user_is ms) is_user;
-        some = bounds.1;
-        most = bounds.2;
-        auto = refl;
-      };
+      is = record { name = new.0; user = is_user; some = bounds.1; most = bounds.2; auto = refl };
       new = new.1;
       room = bounds.0;
     }))))
-
-receiver_may : (receivers : List ReceiverInfo) (d : Data) → IfOk (receiver_said receivers d) (MayJoin receivers)
-receiver_may receivers d = then_is (receiver_in receivers) (object_said (codes "receiver") d) (MayJoin receivers) (λ ms is. receiver_is receivers ms)
 
 -- ---- commands
 
@@ -135,86 +129,58 @@ of_more receivers receiver (commands.Everything by) is = omega (arith, is, lengt
 all_more : (receivers : List ReceiverInfo) (receiver : ReceiverInfo) (gathered : List Command) → All (IsOf receivers) gathered → All (IsOf (receivers ++ receiver ∷ [])) gathered
 all_more receivers receiver gathered are = All-weaker (IsOf receivers) (IsOf (receivers ++ receiver ∷ [])) (of_more receivers receiver) gathered are
 
-tick_is : (receivers : List ReceiverInfo) (d : Data) → IfOk (tick_said d) (IsOf receivers)
-tick_is receivers d =
-    some_is (λ value. said_map commands.Tick (whole_said 0 tick_limit (Some value))) (sole (codes "tick") d) (IsOf receivers) (λ value.
-    map_is commands.Tick (whole_said 0 tick_limit (Some value)) (λ n. (0 ≤ n) × (n ≤ tick_limit)) (IsOf receivers) (whole_is 0 tick_limit (Some value)) (λ n bounds. bounds.1))
+patch_is : (receivers : List ReceiverInfo) (json : Data) → IfOk (patch_said json) (IsOf receivers)
+patch_is receivers json =
+    map_is commands.Edit (or_fault kinds.Patch (patch_in json)) (λ patch. patch_in json ≡ Some patch) (IsOf receivers)
+    (or_is kinds.Patch (patch_in json) (λ patch. patch_in json ≡ Some patch) (itself_is (patch_in json)))
+    (λ patch is. (json, is))
 
-patch_is : (receivers : List ReceiverInfo) (d : Data) → IfOk (patch_said d) (IsOf receivers)
-patch_is receivers d =
-    some_is (λ value. said_map commands.Edit (said_or kinds.Patch (patch_in value))) (sole (codes "patch") d) (IsOf receivers) (λ value.
-    map_is commands.Edit (said_or kinds.Patch (patch_in value)) (λ patch. patch_in value ≡ Some patch) (IsOf receivers)
-    (or_is kinds.Patch (patch_in value) (λ patch. patch_in value ≡ Some patch) (itself_is (patch_in value)))
-    (λ patch is. (value, is)))
-
-everything_is : (receivers : List ReceiverInfo) (ms : Members) → IfOk (everything_in receivers ms) (IsOf receivers)
-everything_is receivers ms =
-    if_is kinds.Member (is_of_everything ms) (said_map commands.Everything (said_or kinds.Member (option_and_then (number_of receivers) (text_member (codes "by") ms)))) (IsOf receivers) (λ whole.
-    map_is commands.Everything (said_or kinds.Member (option_and_then (number_of receivers) (text_member (codes "by") ms))) (λ n. n < length receivers) (IsOf receivers)
-    (or_is kinds.Member (option_and_then (number_of receivers) (text_member (codes "by") ms)) (λ n. n < length receivers)
-    (then_some (number_of receivers) (text_member (codes "by") ms) (λ n. n < length receivers) (number_within receivers)))
+everything_is : (receivers : List ReceiverInfo) (json : Data) → IfOk (everything_said receivers json) (IsOf receivers)
+everything_is receivers json =
+    let by = option_and_then (receiver_number receivers) (text_at (codes "by") json) in
+    if_is kinds.Member (is_of_everything json) (said_map commands.Everything (or_fault kinds.Member by)) (IsOf receivers) (λ whole.
+    map_is commands.Everything (or_fault kinds.Member by) (λ n. n < length receivers) (IsOf receivers)
+    (or_is kinds.Member by (λ n. n < length receivers) (then_some (receiver_number receivers) (text_at (codes "by") json) (λ n. n < length receivers) (number_within receivers)))
     (λ n is. is))
 
-asked_is : (receivers : List ReceiverInfo) (asked : Asked) (d : Data) → IfOk (said_of_asked receivers asked d) (IsOf receivers)
-asked_is receivers ask.Tick d = tick_is receivers d
-asked_is receivers ask.Patch d = patch_is receivers d
-asked_is receivers ask.Everything d = then_is (everything_in receivers) (object_said (codes "establish") d) (IsOf receivers) (λ ms is. everything_is receivers ms)
+command_is : (receivers : List ReceiverInfo) (established : ℕ) (request : Request Data) → IfOk (command_said receivers established request) (IsOf receivers)
+command_is receivers established (Tick json) = map_is commands.Tick (whole_said 0 tick_limit json) (λ n. (0 ≤ n) × (n ≤ tick_limit)) (IsOf receivers) (whole_is 0 tick_limit json) (λ n bounds. bounds.1)
+command_is receivers established (Patch json) = patch_is receivers json
+command_is receivers established (Establish json) = if_is kinds.UnknownCommand (nat_lt established subscription_limit) (everything_said receivers json) (IsOf receivers) (λ few. everything_is receivers json)
 
-command_is : (receivers : List ReceiverInfo) (established : ℕ) (asked : Asked) (d : Data) → IfOk (command_said receivers established asked d) (IsOf receivers)
-command_is receivers established asked d = holding_is kinds.UnknownCommand (is_read asked established) (said_of_asked receivers asked d) (IsOf receivers) (λ read. asked_is receivers asked d)
-
-laned_is : (receivers : List ReceiverInfo) (established count : ℕ) (asked : Asked) (d : Data) → IfOk (lane_said receivers established count asked d) (λ laned. IsOf receivers laned.command)
-laned_is receivers established count asked d =
-    both_is (λ lane command. record { lane = lane; command = command }) (lane_number count (members_if 2 d)) (said_of_some (command_said receivers established asked) (done_in_lane d))
-    (λ lane. Unit {0}) (IsOf receivers) (λ laned. IsOf receivers laned.command)
-    (weaker_is (lane_number count (members_if 2 d)) (λ lane. lane_number count (members_if 2 d) ≡ Ok lane) (λ lane. Unit {0}) (any_is (lane_number count (members_if 2 d))) (λ lane is. tt))
-    (some_is (command_said receivers established asked) (done_in_lane d) (IsOf receivers) (λ done. command_is receivers established asked done))
-    (λ lane command u is. is)
+laned_is : (receivers : List ReceiverInfo) (established count : ℕ) (place : Data) (request : Request Data) → IfOk (laned_said receivers established count place request) (λ laned. IsOf receivers laned.command)
+laned_is receivers established count place request =
+    together_is (λ lane command. record { lane = lane; command = command }) (whole_said 1 count place) (command_said receivers established request) (IsOf receivers) (λ laned. IsOf receivers laned.command)
+    (command_is receivers established request) (λ lane command is. is)
 
 -- ---- scripts
 
 -- what a script keeps, and what it keeps so far
-pub record Keeps (script : Script) : Type 0 where
-  pub receivers : AreReceivers script.receivers
-  pub before : All (IsOf script.receivers) script.before
-  pub lanes : All (All (IsOf script.receivers)) script.lanes
-  pub after : All (IsOf script.receivers) script.after
+pub record Keeps (known : List ReceiverInfo) (first : List Command) (laned : List (List Command)) (last : List Command) : Type 0 where
+  pub receivers : AreReceivers known
+  pub before : All (IsOf known) first
+  pub lanes : All (All (IsOf known)) laned
+  pub after : All (IsOf known) last
 
 abbrev Keep : Progress → Type 0
-Keep progress = Keeps progress.script
+Keep progress = Keeps progress.receivers progress.before progress.lanes progress.after
 
-keeps_part : (progress : Progress) (said : Said Data) → Keep progress → IfOk (part_taken progress said) Keep
-keeps_part progress (Ok part) keeps =
-    map_is (with_part progress part) (schema_said (schema_of (progress.parts ++ part ∷ []))) (λ nodes. schema_said (schema_of (progress.parts ++ part ∷ [])) ≡ Ok nodes) Keep (any_is (schema_said (schema_of (progress.parts ++ part ∷ []))))
-    (λ nodes is. record { receivers = keeps.receivers; before = keeps.before; lanes = keeps.lanes; after = keeps.after })
-keeps_part progress (Err kind) keeps = tt
+abbrev pub ScriptKeeps : Script → Type 0
+ScriptKeeps script = Keeps script.receivers script.before script.lanes script.after
 
-keeps_receiver : (progress : Progress) (receiver : ReceiverInfo) → Keep progress → MayJoin progress.script.receivers receiver → Keep (with_receiver progress receiver)
-keeps_receiver progress receiver keeps may =
-    let receivers = progress.script.receivers in
-    record {
-      receivers = joined progress.script.receivers receiver keeps.receivers may;
-      before = all_more progress.script.receivers receiver progress.script.before keeps.before;
-      lanes = All-weaker (All (IsOf progress.script.receivers)) (All (IsOf (progress.script.receivers ++ receiver ∷ []))) (all_more progress.script.receivers receiver) progress.script.lanes keeps.lanes;
-      after = all_more progress.script.receivers receiver progress.script.after keeps.after;
-    }
+keeps_receiver : (progress : Progress) (receiver : ReceiverInfo) → Keep progress → MayJoin progress.receivers receiver → Keep (with_receiver progress receiver)
+keeps_receiver progress receiver keeps may = record {
+  receivers = joined progress.receivers receiver keeps.receivers may;
+  before = all_more progress.receivers receiver progress.before keeps.before;
+  lanes = All-weaker (All (IsOf progress.receivers)) (All (IsOf (progress.receivers ++ receiver ∷ []))) (all_more progress.receivers receiver) progress.lanes keeps.lanes;
+  after = all_more progress.receivers receiver progress.after keeps.after;
+}
 
-keeps_before : (script : Script) (command : Command) → Keeps script → IsOf script.receivers command → Keeps (record script { before = script.before ++ command ∷ [] })
-keeps_before script command keeps is =
-    record { receivers = keeps.receivers; before = All-push (IsOf script.receivers) script.before command keeps.before is; lanes = keeps.lanes; after = keeps.after }
-
-keeps_after : (script : Script) (command : Command) → Keeps script → IsOf script.receivers command → Keeps (record script { after = script.after ++ command ∷ [] })
-keeps_after script command keeps is =
-    record { receivers = keeps.receivers; before = keeps.before; lanes = keeps.lanes; after = All-push (IsOf script.receivers) script.after command keeps.after is }
-
-keeps_command : (stage : Stage) (script : Script) (command : Command) → Keeps script → IsOf script.receivers command → Keeps (script_with stage script command)
-keeps_command Opening script command keeps is = keeps_before script command keeps is
-keeps_command Started script command keeps is = keeps_before script command keeps is
-keeps_command Schemas script command keeps is = keeps_before script command keeps is
-keeps_command Receivers script command keeps is = keeps_before script command keeps is
-keeps_command Before script command keeps is = keeps_before script command keeps is
-keeps_command Within script command keeps is = keeps_before script command keeps is
-keeps_command After script command keeps is = keeps_after script command keeps is
+keeps_command : (stage : Stage) (progress : Progress) (command : Command) → Keep progress → IsOf progress.receivers command → Keep (put_at stage progress command)
+keeps_command After progress command keeps is =
+    record { receivers = keeps.receivers; before = keeps.before; lanes = keeps.lanes; after = All-push (IsOf progress.receivers) progress.after command keeps.after is }
+keeps_command other progress command keeps is =
+    record { receivers = keeps.receivers; before = All-push (IsOf progress.receivers) progress.before command keeps.before is; lanes = keeps.lanes; after = keeps.after }
 
 lane_at : {X : Type 0} (P : X → Type 0) (lanes : List (List X)) (place : ℕ) → All (All P) lanes → All P (get_or lanes place [])
 lane_at P lanes place are =
@@ -223,70 +189,66 @@ lane_at P lanes place are =
       | inr h ↦ subst (All P) (sym (get_or_past lanes place [] h)) (All-nil P)
     ]
 
-keeps_laned : (asked : Asked) (progress : Progress) (laned : Laned) → Keep progress → IsOf progress.script.receivers laned.command → Keep (with_laned asked progress laned)
-keeps_laned asked progress laned keeps is =
-    let lane : All (IsOf progress.script.receivers) (get_or progress.script.lanes (laned.lane - 1) [] ++ laned.command ∷ []) =
-    All-push (IsOf progress.script.receivers) (get_or progress.script.lanes (laned.lane - 1) []) laned.command (lane_at (IsOf progress.script.receivers) progress.script.lanes (laned.lane - 1) keeps.lanes) is in
+keeps_laned : (progress : Progress) (laned : Laned) → Keep progress → IsOf progress.receivers laned.command → Keep (with_laned progress laned)
+keeps_laned progress laned keeps is =
+    let lane : All (IsOf progress.receivers) (get_or progress.lanes (laned.lane - 1) [] ++ laned.command ∷ []) =
+    All-push (IsOf progress.receivers) (get_or progress.lanes (laned.lane - 1) []) laned.command (lane_at (IsOf progress.receivers) progress.lanes (laned.lane - 1) keeps.lanes) is in
     record {
       receivers = keeps.receivers;
       before = keeps.before;
-      lanes = All-set (All (IsOf progress.script.receivers)) progress.script.lanes (laned.lane - 1) (get_or progress.script.lanes (laned.lane - 1) [] ++ laned.command ∷ []) lane keeps.lanes;
+      lanes = All-set (All (IsOf progress.receivers)) progress.lanes (laned.lane - 1) (get_or progress.lanes (laned.lane - 1) [] ++ laned.command ∷ []) lane keeps.lanes;
       after = keeps.after;
     }
 
--- a line that is taken leaves what is kept
-keeps_taken : (progress : Progress) (d : Data) (form : Form) → Keep progress → IfOk (taken progress d form) Keep
-keeps_taken progress d forms.Start keeps =
-    map_is (with_start progress) (start_said d) (λ start. start_said d ≡ Ok start) Keep (any_is (start_said d))
-    (λ start is. record { receivers = keeps.receivers; before = keeps.before; lanes = keeps.lanes; after = keeps.after })
-keeps_taken progress d forms.Schema keeps = keeps_part progress (part_said d) keeps
-keeps_taken progress d forms.Receiver keeps =
-    map_is (with_receiver progress) (receiver_said progress.script.receivers d) (MayJoin progress.script.receivers) Keep (receiver_may progress.script.receivers d)
-    (λ receiver may. keeps_receiver progress receiver keeps may)
-keeps_taken progress d (forms.Command asked) keeps =
-    map_is (with_command asked progress) (command_said progress.script.receivers progress.established asked d) (IsOf progress.script.receivers) Keep (command_is progress.script.receivers progress.established asked d)
-    (λ command is. keeps_command progress.stage progress.script command keeps is)
-keeps_taken progress d forms.Lanes keeps =
-    map_is (with_lanes progress) (lanes_said d) (λ count. lanes_said d ≡ Ok count) Keep (any_is (lanes_said d))
-    (λ count is. record {
-      receivers = keeps.receivers;
-      before = keeps.before;
-      lanes = All-replicate (All (IsOf progress.script.receivers)) count [] (All-nil (IsOf progress.script.receivers));
-      after = keeps.after;
-    })
-keeps_taken progress d (forms.Lane asked) keeps =
-    map_is (with_laned asked progress) (lane_said progress.script.receivers progress.established (length progress.script.lanes) asked d) (λ laned. IsOf progress.script.receivers laned.command) Keep
-    (laned_is progress.script.receivers progress.established (length progress.script.lanes) asked d) (λ laned is. keeps_laned asked progress laned keeps is)
-keeps_taken progress d forms.Join keeps =
-    holding_is kinds.Member (is_join d) (Ok (with_join progress)) Keep
-    (λ yes. record { receivers = keeps.receivers; before = keeps.before; lanes = keeps.lanes; after = keeps.after })
+-- values that are taken leave what is kept
+keeps_taken : (progress : Progress) (form : Form Data) → Keep progress → IfOk (taken progress form) Keep
+keeps_taken progress (forms.Start value) keeps = map_any (with_start progress) (start_said value) Keep (λ start. keeps)
+keeps_taken progress (forms.Schema value) keeps = map_any (with_part progress value) (schema_said (schema_of (progress.parts ++ value ∷ []))) Keep (λ nodes. keeps)
+keeps_taken progress (forms.Receiver value) keeps =
+    map_is (with_receiver progress) (receiver_said progress.receivers value) (MayJoin progress.receivers) Keep (receiver_is progress.receivers value) (λ receiver may. keeps_receiver progress receiver keeps may)
+keeps_taken progress (forms.Command request) keeps =
+    map_is (with_command progress) (command_said progress.receivers progress.established request) (IsOf progress.receivers) Keep (command_is progress.receivers progress.established request)
+    (λ command is. keeps_command progress.stage (counting command progress) command keeps is)
+keeps_taken progress (forms.Lanes value) keeps =
+    map_any (with_lanes progress) (lanes_said value) Keep
+    (λ count. record { receivers = keeps.receivers; before = keeps.before; lanes = All-replicate (All (IsOf progress.receivers)) count [] (All-nil (IsOf progress.receivers)); after = keeps.after })
+keeps_taken progress (forms.Lane lane request) keeps =
+    map_is (with_laned progress) (laned_said progress.receivers progress.established (length progress.lanes) lane request) (λ laned. IsOf progress.receivers laned.command) Keep
+    (laned_is progress.receivers progress.established (length progress.lanes) lane request) (λ laned is. keeps_laned progress laned keeps is)
+keeps_taken progress (forms.Join value) keeps = if_is kinds.Member (is_yes value) (Ok progress) Keep (λ yes. keeps)
 
-keeps_placed : (progress : Progress) (d : Data) (form : Option Form) → Keep progress → IfOk (placed progress d form) Keep
-keeps_placed progress d None keeps = tt
-keeps_placed progress d (Some form) keeps = holding_is kinds.Order (may_stand progress.stage form) (taken progress d form) Keep (λ stands. keeps_taken progress d form keeps)
+keeps_staged : (stage : Option Stage) (said : Said Progress) → IfOk said Keep → IfOk (at_stage stage said) Keep
+keeps_staged None (Ok progress) keeps = tt
+keeps_staged None (Err kind) keeps = tt
+keeps_staged (Some stage) said keeps = map_is (λ (progress : Progress). record progress { stage = stage }) said Keep Keep keeps (λ progress keep. keep)
 
-keeps_said : (progress : Progress) (said : Said Data) → Keep progress → IfOk (said_in progress said) Keep
-keeps_said progress (Ok d) keeps = keeps_placed progress d (form_of d) keeps
-keeps_said progress (Err kind) keeps = tt
+keeps_line : (progress : Progress) (json : Said Data) → Keep progress → IfOk (line_taken progress json) Keep
+keeps_line progress (Err kind) keeps = tt
+keeps_line progress (Ok value) keeps =
+    then_is (or_fault kinds.UnknownCommand (line_form value)) (form_taken progress) (λ form. Unit {0}) Keep (any_form (line_form value)) (λ form any. keeps_staged (next_stage progress.stage form) (taken progress form) (keeps_taken progress form keeps))
+  where
+    any_form : (form : Option (Form Data)) → IfOk (or_fault kinds.UnknownCommand form) (λ form. Unit {0})
+    any_form None = tt
+    any_form (Some form) = tt
 
-keeps_lines : (end : ℕ) (progress : Progress) (lines : List Line) → Keep progress → IfOk (script_from end progress lines) Keeps
-keeps_lines end progress [] keeps = line_is end (holding kinds.Order (is_complete progress.stage) (Ok progress.script)) Keeps (holding_is kinds.Order (is_complete progress.stage) (Ok progress.script) Keeps (λ complete. keeps))
+keeps_end : (progress : Progress) (start : Option ℕ) → Keep progress → IfOk (or_fault kinds.Order (option_map (script_at progress) start)) ScriptKeeps
+keeps_end progress None keeps = tt
+keeps_end progress (Some start) keeps = keeps
+
+keeps_lines : (end : ℕ) (progress : Progress) (lines : List Line) → Keep progress → IfOk (script_from end progress lines) ScriptKeeps
+keeps_lines end progress [] keeps =
+    line_is end (or_fault kinds.Order (option_map (script_at progress) (complete_start progress.stage progress.start))) ScriptKeeps (keeps_end progress (complete_start progress.stage progress.start) keeps)
 keeps_lines end progress (line ∷ lines) keeps =
-    bound_is (at_line line.number (said_in progress line.json)) (λ next. script_from end next lines) Keep Keeps
-    (line_is line.number (said_in progress line.json) Keep (keeps_said progress line.json keeps))
+    then_is (at_line line.number (line_taken progress line.json)) (λ next. script_from end next lines) Keep ScriptKeeps
+    (line_is line.number (line_taken progress line.json) Keep (keeps_line progress line.json keeps))
     (λ next keep. keeps_lines end next lines keep)
 
 no_receivers : AreReceivers []
 no_receivers = record { few = omega arith; distinct = refl; each = All-nil IsReceiver }
 
-pub script_keeps : (end : ℕ) (lines : List Line) → IfOk (script_from end no_progress lines) Keeps
+script_keeps : (end : ℕ) (lines : List Line) → IfOk (script_from end no_progress lines) ScriptKeeps
 script_keeps end lines =
-    keeps_lines end no_progress lines (record {
-      receivers = no_receivers;
-      before = All-nil (IsOf []);
-      lanes = All-nil (All (IsOf []));
-      after = All-nil (IsOf []);
-    })
+    keeps_lines end no_progress lines (record { receivers = no_receivers; before = All-nil (IsOf []); lanes = All-nil (All (IsOf [])); after = All-nil (IsOf []) })
 
 -- ---- what a journal of its receivers takes
 
@@ -295,7 +257,7 @@ may_come nodes receivers (commands.Tick tick) is few = is
 may_come nodes receivers (commands.Edit patch) is few = record { json = is.0; read = is.1; few = few }
 may_come nodes receivers (commands.Everything by) is few = is
 
-pub may_run : (script : Script) → Keeps script → HasFew script → MayRun script
+may_run : (script : Script) → ScriptKeeps script → HasFew script → MayRun script
 may_run script keeps few = record {
   before = λ k d h. may_come script.schema script.receivers (get_or script.before k d) (keeps.before k d h) (few.before k d h);
   lanes = λ k d h. λ j e g. may_come script.schema script.receivers (get_or (get_or script.lanes k d) j e) (keeps.lanes k d h j e g) (few.lanes k d h j e g);
@@ -304,15 +266,15 @@ may_run script keeps few = record {
 
 -- ---- what is read
 
-pub read_keeps : (r : Result Script ScriptFault) (text : List ℕ) → Gives r (script_of text) → IfOk r Keeps
-read_keeps (Ok script) text is = subst (λ (read : Result Script ScriptFault). IfOk read Keeps) is (script_keeps (length (pieces_of text) + 1) (lines_from 0 0 (pieces_of text)))
+pub read_keeps : (r : Result Script ScriptFault) (text : List ℕ) → Gives r (script_of text) → IfOk r ScriptKeeps
+read_keeps (Ok script) text is = subst (λ (read : Result Script LineFault). IfOk read ScriptKeeps) is (script_keeps (length (pieces_of text) + 1) (lines_from 0 0 (pieces_of text)))
 read_keeps (Err fault) text is = tt
 
-pub read_receivers : (r : Result Script ScriptFault) → IfOk r Keeps → IfOk r (λ script. AreReceivers script.receivers)
+pub read_receivers : (r : Result Script ScriptFault) → IfOk r ScriptKeeps → IfOk r (λ script. AreReceivers script.receivers)
 read_receivers (Ok script) keeps = keeps.receivers
 read_receivers (Err fault) keeps = tt
 
-pub read_commands : (r : Result Script ScriptFault) → IfOk r Keeps → IfOk r HasFew → IfOk r MayRun
+pub read_commands : (r : Result Script ScriptFault) → IfOk r ScriptKeeps → IfOk r HasFew → IfOk r MayRun
 read_commands (Ok script) keeps few = may_run script keeps few
 read_commands (Err fault) keeps few = tt
 

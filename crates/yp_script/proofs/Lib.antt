@@ -3,6 +3,7 @@ pub mod Keeping
 pub mod Limits
 pub mod LineLaws
 pub mod ListLaws
+pub mod MemberLaws
 pub mod NameLaws
 pub mod OrderLaws
 pub mod PartLaws

@@ -2,18 +2,14 @@
 use Rattle.std.proofs.Common.{◌≡◌, ℕ, zero, suc, ◌+◌, ◌≤◌, ◌==◌, ◌&&◌, Bool, true, false, true≢false, List, [], ◌∷◌, length, take, drop, Result, Ok, Err, refl, sym, subst, ◌∙◌, cond, arith, nat_le}
 use Rattle.std.specs.Prelude.{IfOk, is_ok}
 use Rattle.std.specs.List.{AllByRecursion}
-use Rattle.serde_json.specs.Data.{Data}
 use Rattle.std.proofs.lemmas.Bool.{and_parts}
-use Rattle.yp_base.specs.Results.{◌>>=◌}
-use Rattle.yp_script.specs.declared.fault.ScriptKind.TheVariants as kinds
-use Rattle.yp_script.specs.declared.fault.ScriptFault.{ScriptFault}
-use Rattle.yp_script.specs.declared.script.Script.{Script}
-use Rattle.yp_script.specs.Faults.{Said, holding}
-use Rattle.yp_script.specs.Forms.{form_of}
+use Rattle.serde_json.specs.Data.{Data}
 use Rattle.yp_base.specs.Cuts.{onto_first}
+use Rattle.yp_script.specs.declared.script.Script.{Script}
+use Rattle.yp_script.specs.Faults.{LineFault, Said}
 use Rattle.yp_script.specs.Lines.{Line, pieces_of, without_feed, is_blank, is_in_script, json_in, lines_from}
-use Rattle.yp_script.specs.Order.{is_complete}
-use Rattle.yp_script.specs.Script.{Progress, no_progress, placed, said_in, at_line, script_from, script_of, script_in}
+use Rattle.yp_script.specs.Script.{Progress, no_progress, line_taken, at_line, script_from, script_of, script_in}
+use Rattle.yp_script.proofs.SaidLaws.{then_is, line_is}
 
 -- ---- each line of a script has its JSON
 
@@ -23,30 +19,27 @@ IsSaid line = is_ok line.json ≡ true
 abbrev AllSaid : List Line → Type 0
 AllSaid lines = AllByRecursion IsSaid lines
 
-line_said : (progress : Progress) (json : Said Data) → IfOk (said_in progress json) (λ next. is_ok json ≡ true)
-line_said progress (Ok d) = any_ok (placed progress d (form_of d))
+line_said : (progress : Progress) (json : Said Data) → IfOk (line_taken progress json) (λ next. is_ok json ≡ true)
+line_said progress (Ok value) = any_ok (line_taken progress (Ok value))
   where
     any_ok : (r : Said Progress) → IfOk r (λ next. true ≡ true)
     any_ok (Ok next) = refl
     any_ok (Err e) = tt
 line_said progress (Err e) = tt
 
-bound : {X Y : Type 0} (P : X → Type 0) (Q : Y → Type 0) (number : ℕ) (said : Said X) (f : X → Result Y ScriptFault) → IfOk said P → ((x : X) → P x → IfOk (f x) Q) → IfOk (at_line number said >>= f) Q
-bound P Q number (Ok x) f h more = more x h
-bound P Q number (Err e) f h more = tt
+none_said : {E : Type 0} (r : Result Script E) → IfOk r (λ script. AllSaid [])
+none_said (Ok script) = tt
+none_said (Err e) = tt
 
-ended_said : (number : ℕ) (b : Bool) (progress : Progress) → IfOk (at_line number (holding kinds.Order b (Ok progress.script))) (λ script. AllSaid [])
-ended_said number true progress = tt
-ended_said number false progress = tt
-
-said_more : (line : Line) (lines : List Line) (r : Result Script ScriptFault) → IsSaid line → IfOk r (λ script. AllSaid lines) → IfOk r (λ script. AllSaid (line ∷ lines))
+said_more : (line : Line) (lines : List Line) (r : Result Script LineFault) → IsSaid line → IfOk r (λ script. AllSaid lines) → IfOk r (λ script. AllSaid (line ∷ lines))
 said_more line lines (Ok script) is h = (is, h)
 said_more line lines (Err e) is h = tt
 
 all_said : (end : ℕ) (progress : Progress) (lines : List Line) → IfOk (script_from end progress lines) (λ script. AllSaid lines)
-all_said end progress [] = ended_said end (is_complete progress.stage) progress
+all_said end progress [] = none_said (script_from end progress [])
 all_said end progress (line ∷ lines) =
-    bound (λ next. is_ok line.json ≡ true) (λ script. AllSaid (line ∷ lines)) line.number (said_in progress line.json) (λ next. script_from end next lines) (line_said progress line.json)
+    then_is (at_line line.number (line_taken progress line.json)) (λ next. script_from end next lines) (λ next. is_ok line.json ≡ true) (λ script. AllSaid (line ∷ lines))
+    (line_is line.number (line_taken progress line.json) (λ next. is_ok line.json ≡ true) (line_said progress line.json))
     (λ next is. said_more line lines (script_from end next lines) is (all_said end next lines))
 
 -- ---- so none ends past the limits
@@ -87,7 +80,7 @@ lines_end number at (piece ∷ pieces) all here =
 -- a script has at most so many bytes
 script_fits : (text : List ℕ) (script : Script) → script_of text ≡ Ok script → length text ≤ 67108864
 script_fits text script is =
-    let all = subst (λ (r : Result Script ScriptFault). IfOk r (λ x. AllSaid (lines_from 0 0 (pieces_of text)))) is (all_said (length (pieces_of text) + 1) no_progress (lines_from 0 0 (pieces_of text))) in
+    let all = subst (λ (r : Result Script LineFault). IfOk r (λ x. AllSaid (lines_from 0 0 (pieces_of text)))) is (all_said (length (pieces_of text) + 1) no_progress (lines_from 0 0 (pieces_of text))) in
     let end = lines_end 0 0 (pieces_of text) all (omega arith) in
     omega (arith, end, total_pieces text)
 

@@ -1,17 +1,18 @@
 -- Parts of a schema, one after another: a fault is that of the first part that has one.
 use Rattle.std.proofs.Common.{◌≡◌, ℕ, ◌+◌, ◌<◌, List, [], ◌∷◌, ◌++◌, length, Option, Some, None, Result, Ok, Err, refl, sym, ap, ◌∙◌, subst, get_or, arith, add-zero}
 use Rattle.std.proofs.lemmas.List.{get_or_append_left}
+use Rattle.std.proofs.lemmas.Option.{slice_get_read, get_or_from_slice_get}
 use Rattle.std.proofs.Math.Seq.{get_or-append_seam}
 use Rattle.serde_json.specs.Data.{Data, Items, no_items, item}
 use Rattle.serde_json.specs.Find.{as_array}
+use Rattle.yp_base.specs.Results.{◌>>=◌}
 use Rattle.yp_schema.specs.declared.schema.SchemaNode.{SchemaNode}
 use Rattle.yp_schema.specs.declared.fault.SchemaKind.{SchemaKind}
-use Rattle.yp_base.specs.Results.{◌>>=◌}
 use Rattle.yp_schema.specs.Rounds.{Nodes, Fault, added, checked, at_place, first_round, second_round, part_in, parts_in}
 use Rattle.yp_schema.specs.Stated.{node_in}
 use Rattle.yp_schema.specs.Reading.{numbered, schema_of}
 use Rattle.yp_script.specs.declared.fault.ScriptKind.TheVariants as kinds
-use Rattle.yp_script.specs.declared.fault.ScriptFault.TheVariants as told
+use Rattle.yp_script.specs.Faults.{LineFault}
 use Rattle.yp_script.specs.Readings.{at_part}
 use Rattle.yp_script.specs.Script.{at_line, schema_said}
 
@@ -57,15 +58,26 @@ parts_before part (d ∷ ds) nodes =
     before_then part (part + length (d ∷ ds)) (part_in part (as_array d) nodes) (λ after. parts_in (part + 1) ds after) (omega arith) (part_of part (as_array d) nodes)
     (λ after. subst (λ end. IsBefore end (parts_in (part + 1) ds after)) (let e : part + 1 + length ds ≡ part + length (d ∷ ds) = omega arith in e) (parts_before (part + 1) ds after))
 
+-- the part that a fault of a schema names
+pub fault_within : (ds : List Data) (fault : Fault) → schema_of ds ≡ Err fault → fault.part < length ds
+fault_within ds fault is = named (parts_in 0 ds []) (let many : IsBefore (length ds) (parts_in 0 ds []) = subst (λ n. IsBefore n (parts_in 0 ds [])) (let e : 0 + length ds ≡ length ds = omega arith in e) (parts_before 0 ds []) in many) is
+  where
+    named : (r : Result Nodes Fault) → IsBefore (length ds) r → (r >>= λ nodes. Ok (numbered nodes)) ≡ Err fault → fault.part < length ds
+    named (Ok nodes) less is = cc
+    named (Err other) less is = let same : other ≡ fault = cc in subst (λ (f : Fault). f.part < length ds) same less
+
+pub line_there : (numbers : List ℕ) (part line : ℕ) → part < length numbers → line ≡ get_or numbers part line → get_or numbers part 0 ≡ line
+line_there numbers part line there is = get_or_from_slice_get numbers part line 0 (slice_get_read numbers (length numbers) part line refl there is)
+
 -- ---- one part more
 
-bound_twice : {A B C : Type 0} (r : Result A Fault) (f : A → Result B Fault) (g : B → Result C Fault) → ((r >>= f) >>= g) ≡ (r >>= λ x. f x >>= g)
+pub bound_twice : {A B C E : Type 0} (r : Result A E) (f : A → Result B E) (g : B → Result C E) → ((r >>= f) >>= g) ≡ (r >>= λ x. f x >>= g)
 bound_twice (Ok x) f g = refl
-bound_twice (Err fault) f g = refl
+bound_twice (Err e) f g = refl
 
-bound_alike : {A B : Type 0} (r : Result A Fault) (f g : A → Result B Fault) → ((x : A) → f x ≡ g x) → (r >>= f) ≡ (r >>= g)
+pub bound_alike : {A B E : Type 0} (r : Result A E) (f g : A → Result B E) → ((x : A) → f x ≡ g x) → (r >>= f) ≡ (r >>= g)
 bound_alike (Ok x) f g same = same x
-bound_alike (Err fault) f g same = refl
+bound_alike (Err e) f g same = refl
 
 bound_whole : (r : Result Nodes Fault) → (r >>= λ after. Ok after) ≡ r
 bound_whole (Ok x) = refl
@@ -81,18 +93,21 @@ parts_more part (e ∷ ds) d nodes =
 
 -- ---- the lines of faults
 
+abbrev schema_fault : ℕ → Result (List SchemaNode) LineFault
+schema_fault n = Err (record { line = n; kind = kinds.Schema })
+
 abbrev numbered_in : Result Nodes Fault → Result (List SchemaNode) Fault
 numbered_in r = r >>= λ nodes. Ok (numbered nodes)
 
 last_line : (r : Result Nodes Fault) (numbers : List ℕ) (line : ℕ) → IsOf (length numbers) r → at_part (numbers ++ line ∷ []) (numbered_in r) ≡ at_line line (schema_said (numbered_in r))
 last_line (Ok nodes) numbers line is = refl
 last_line (Err fault) numbers line is =
-    ap (λ n. Err (told.At n kinds.Schema)) (ap (λ k. get_or (numbers ++ line ∷ []) k 0) is ∙ get_or-append_seam numbers line [] 0)
+    ap schema_fault (ap (λ k. get_or (numbers ++ line ∷ []) k 0) is ∙ get_or-append_seam numbers line [] 0)
 
 each_line : (r : Result Nodes Fault) (p : Nodes → Result Nodes Fault) (numbers : List ℕ) (line : ℕ) → IsBefore (length numbers) r → ((after : Nodes) → IsOf (length numbers) (p after))
     → at_part (numbers ++ line ∷ []) (numbered_in (r >>= p)) ≡ (at_part numbers (numbered_in r) >>= λ nodes. at_line line (schema_said (numbered_in (r >>= p))))
 each_line (Ok nodes) p numbers line is each = last_line (p nodes) numbers line (each nodes)
-each_line (Err fault) p numbers line is each = ap (λ n. Err (told.At n kinds.Schema)) (get_or_append_left numbers (line ∷ []) 0 fault.part is)
+each_line (Err fault) p numbers line is each = ap schema_fault (get_or_append_left numbers (line ∷ []) 0 fault.part is)
 
 -- a fault of parts and one more is that of a part before it, or its own
 pub part_grows : (numbers : List ℕ) (line : ℕ) (ds : List Data) (d : Data) → length numbers ≡ length ds

@@ -1,12 +1,14 @@
--- Steps of a reader: what it holds behind a line is what the definition says of the line.
-use Rattle.std.proofs.Common.{◌≡◌, ℕ, ◌+◌, Bool, is_ok, true, false, true≢false, List, [], ◌∷◌, ◌++◌, length, map, Some, None, Result, Ok, Err, refl, sym, ap, ◌∙◌, subst}
+-- Steps of a reader: what it holds after a line is what the definition says of the line.
+use Rattle.std.proofs.Common.{◌≡◌, ℕ, ◌+◌, List, [], ◌∷◌, ◌++◌, length, map, Option, Some, None, Result, Ok, Err, refl, sym, ap, ◌∙◌, subst}
 use Rattle.std.proofs.lemmas.List.{length-map}
+use Rattle.std.specs.Borrow.{Bor}
 use Rattle.serde_json.specs.Data.{Data}
 use Rattle.serde_json.specs.declared.value.Value.{Value}
 use Rattle.serde_json.specs.View.{view}
+use Rattle.yp_base.specs.Results.{◌>>=◌, or_fault}
 use Rattle.yp_schema.specs.declared.schema.SchemaNode.{SchemaNode}
 use Rattle.yp_schema.specs.Reading.{schema_of}
-use Rattle.yp_base.specs.Results.{◌>>=◌}
+use Rattle.yp_schema.specs.Rounds.{Fault}
 use Rattle.yp_script.specs.declared.cursor.Lines.{Lines}
 use Rattle.yp_script.specs.declared.cursor.Line.{Line as FoundLine}
 use Rattle.yp_script.specs.declared.fault.ScriptKind.{ScriptKind}
@@ -15,202 +17,208 @@ use Rattle.yp_script.specs.declared.fault.ScriptFault.{ScriptFault}
 use Rattle.yp_script.specs.declared.fault.ScriptFault.TheVariants.{At, Memory}
 use Rattle.yp_script.specs.declared.form.Form.{Form}
 use Rattle.yp_script.specs.declared.form.Form.TheVariants as forms
+use Rattle.yp_script.specs.declared.halt.Halt.{Halt}
+use Rattle.yp_script.specs.declared.halt.Halt.TheVariants as halts
 use Rattle.yp_script.specs.declared.reader.Reader.{Reader}
-use Rattle.yp_script.specs.declared.said.Halt.{Halt}
-use Rattle.yp_script.specs.declared.said.Halt.TheVariants as halts
 use Rattle.yp_script.specs.declared.script.Script.{Script}
+use Rattle.yp_script.specs.declared.stage.Stage.{Stage}
+use Rattle.yp_script.specs.declared.stage.Stage.TheVariants as stages
 use Rattle.yp_script.specs.Cursor.{lines_left, last_number, seen_line}
-use Rattle.yp_script.specs.Faults.{Said, said_map, holding}
-use Rattle.yp_script.specs.Forms.{form_of, part_said}
+use Rattle.yp_script.specs.Faults.{LineFault, Said, said_map, least}
+use Rattle.yp_script.specs.Forms.{seen_form, line_form}
 use Rattle.yp_script.specs.Lines.{Line}
-use Rattle.yp_script.specs.Order.{may_stand, is_complete}
-use Rattle.yp_script.specs.Readings.{Halts, IsFault, Gives, at_part, fault_of}
-use Rattle.yp_script.specs.Readers.{progress_with, progress_of, schema_in, script_left, script_behind, Steps, Stops, Settled}
-use Rattle.yp_script.specs.Script.{Progress, at_line, taken, placed, said_in, ended, script_from, schema_said, part_taken, with_part}
-use Rattle.yp_script.proofs.PartLaws.{part_grows}
+use Rattle.yp_script.specs.Order.{next_stage}
+use Rattle.yp_script.specs.Readings.{Gives, IsFault, beside, at_part}
+use Rattle.yp_script.specs.Readers.{progress_with, schema_in, progress_in, progress_by, Added, Lacking, Adds, IsEarly, Took, Takes, Goes}
+use Rattle.yp_script.specs.Script.{Progress, with_part, schema_said, taken, at_stage, form_taken, line_taken, at_line, script_from}
+use Rattle.yp_script.proofs.PartLaws.{part_grows, bound_twice, bound_alike}
 
 -- ---- faults
 
-pub fault_then : {X Y : Type 0} (fault : ScriptFault) (r : Result X ScriptFault) (f : X → Result Y ScriptFault) → IsFault fault r → IsFault fault (r >>= f)
+pub fault_then : {X Y : Type 0} (fault : ScriptFault) (r : Result X LineFault) (f : X → Result Y LineFault) → IsFault fault r → IsFault fault (r >>= f)
 fault_then (At line own) r f is = ap (λ x. x >>= f) is
 fault_then Memory r f is = tt
 
-pub fault_along : {X : Type 0} (fault : ScriptFault) (a b : Result X ScriptFault) → a ≡ b → IsFault fault b → IsFault fault a
+pub fault_along : {X : Type 0} (fault : ScriptFault) (a b : Result X LineFault) → a ≡ b → IsFault fault b → IsFault fault a
 fault_along (At line own) a b same is = same ∙ is
 fault_along Memory a b same is = tt
 
--- ---- settled readers
+-- ---- what a reader holds after a line
 
-pub compiled_in : (reader : Reader) → reader.settled ≡ true → schema_in reader ≡ Ok reader.schema
-compiled_in reader settled = ap (at_part reader.parts.numbers.items) (reader.compiled settled)
+-- a line, said of what is held with each schema
+by_nodes : (reader : Reader) (number : ℕ) (said : Progress → Said Progress) → progress_by reader number said ≡ (schema_in reader >>= λ nodes. at_line number (said (progress_with reader nodes)))
+by_nodes reader number said = bound_twice (schema_in reader) (λ nodes. Ok (progress_with reader nodes)) (λ progress. at_line number (said progress))
 
-pub left_settled : (end : ℕ) (reader : Reader) (lines : List Line) → schema_in reader ≡ Ok reader.schema → script_left end reader lines ≡ script_from end (progress_of reader) lines
-left_settled end reader lines is = ap (λ (r : Result (List SchemaNode) ScriptFault). r >>= λ nodes. script_from end (progress_with reader nodes) lines) is
+-- two lines that say the same
+said_alike : (reader : Reader) (number : ℕ) (one other : Progress → Said Progress) → ((nodes : List SchemaNode) → one (progress_with reader nodes) ≡ other (progress_with reader nodes)) → progress_by reader number one ≡ progress_by reader number other
+said_alike reader number one other same =
+    by_nodes reader number one
+    ∙ bound_alike (schema_in reader) (λ nodes. at_line number (one (progress_with reader nodes))) (λ nodes. at_line number (other (progress_with reader nodes))) (λ nodes. ap (at_line number) (same nodes))
+    ∙ sym (by_nodes reader number other)
 
-pub behind_settled : (end : ℕ) (old new : Reader) (number : ℕ) (said : Progress → Said Progress) (lines : List Line) → Settled old new
-    → script_behind end old number said lines ≡ (at_line number (said (progress_of new)) >>= λ next. script_from end next lines)
-behind_settled end old new number said lines is =
-    ap (λ (r : Result (List SchemaNode) ScriptFault). r >>= λ nodes. (at_line number (said (progress_with old nodes)) >>= λ next. script_from end next lines)) is.schema
-    ∙ ap (λ (p : Progress). at_line number (said p) >>= λ next. script_from end next lines) (sym (is.same new.schema))
+-- a fault of the line itself, where the parts stay as they were
+same_fault : (old new : Reader) (number : ℕ) (own : ScriptKind) → schema_in new ≡ schema_in old → progress_by old number (λ progress. Err own) ≡ progress_by new number (λ progress. Err own)
+same_fault old new number own same =
+    by_nodes old number (λ progress. Err own)
+    ∙ ap (λ (r : Result (List SchemaNode) LineFault). r >>= λ nodes. (let none : Said Progress = Err own in at_line number none)) (sym same)
+    ∙ sym (by_nodes new number (λ progress. Err own))
 
--- the stage stays where the schema is settled
-pub same_stage : (old new : Reader) → Settled old new → new.stage ≡ old.stage
-same_stage old new is = ap (λ (p : Progress). p.stage) (is.same new.schema)
+-- ---- the values of a line
 
--- a fault of a line behind a settled schema is the script's
-pub stops_settled : (fault : ScriptFault) (old new : Reader) (number : ℕ) (said : Progress → Said Progress) → Settled old new → IsFault fault (at_line number (said (progress_of new))) → Stops fault old number said
-stops_settled fault old new number said settled is end lines =
-    fault_along fault (script_behind end old number said lines) (at_line number (said (progress_of new)) >>= λ next. script_from end next lines) (behind_settled end old new number said lines settled)
-    (fault_then fault (at_line number (said (progress_of new))) (λ next. script_from end next lines) is)
+added_took : (old new : Reader) (number : ℕ) (form : Form Data) → Added old new form → Took old new number form
+added_took old new number form added = record {
+  progress =
+      by_nodes old number (λ progress. taken progress form)
+      ∙ bound_alike (schema_in old) (λ nodes. at_line number (taken (progress_with old nodes) form)) (λ nodes. Ok (progress_with new nodes)) (λ nodes. ap (at_line number) (added.taken nodes))
+      ∙ ap (λ (r : Result (List SchemaNode) LineFault). r >>= λ nodes. Ok (progress_with new nodes)) (sym added.schema);
+  early = λ nodes. subst (λ (said : Said Progress). IsEarly said) (sym (added.taken nodes)) tt;
+}
 
--- what is taken behind a settled schema is what the line says
-pub steps_settled : (old mid new : Reader) (number : ℕ) (said : Progress → Said Progress) → Settled old mid → said (progress_of mid) ≡ Ok (progress_of new) → schema_in new ≡ Ok new.schema
-    → (end : ℕ) (lines : List Line) → script_behind end old number said lines ≡ script_left end new lines
-steps_settled old mid new number said settled is compiled end lines =
-    behind_settled end old mid number said lines settled
-    ∙ ap (λ (s : Said Progress). at_line number s >>= λ next. script_from end next lines) is
-    ∙ sym (left_settled end new lines compiled)
-
--- ---- lines of a form
-
--- a line that may stand at its place says what its form does
-pub placed_there : (progress : Progress) (d : Data) (form : Form) → may_stand progress.stage form ≡ true → placed progress d (Some form) ≡ taken progress d form
-placed_there progress d form stands = ap (λ b. holding kinds.Order b (taken progress d form)) stands
-
-pub placed_elsewhere : (progress : Progress) (d : Data) (form : Form) → may_stand progress.stage form ≡ false → placed progress d (Some form) ≡ holding kinds.Order false (taken progress d form)
-placed_elsewhere progress d form stands = ap (λ b. holding kinds.Order b (taken progress d form)) stands
-
--- the fault of a line that may stand
-pub standing_fault : {X : Type 0} (line : ℕ) (h : Halt) (said : Said X) → Halts h said → IsFault (fault_of line true h) (at_line line said)
-standing_fault line (halts.Fault own) said is = ap (at_line line) is
-standing_fault line halts.Memory said is = tt
-
--- the fault of one that may not
-pub misplaced_fault : {X : Type 0} (line : ℕ) (h : Halt) (said : Said X) → Halts h said → IsFault (fault_of line false h) (at_line line (holding kinds.Order false said))
-misplaced_fault line (halts.Fault own) said is = ap (λ s. at_line line (holding kinds.Order false s)) is
-misplaced_fault line halts.Memory said is = tt
-
-misplaced_order : {X : Type 0} (line : ℕ) (said : Said X) → is_ok said ≡ true → at_line line (holding kinds.Order false said) ≡ Err (At line kinds.Order)
-misplaced_order line (Ok x) is = refl
-misplaced_order line (Err kind) is = absurd (true≢false (sym is))
-
--- what is taken is what the line says
-pub takes_line : (old mid new : Reader) (line : ℕ) (d : Data) (form : Form) → Settled old mid → may_stand mid.stage form ≡ true → new.settled ≡ true → taken (progress_of mid) d form ≡ Ok (progress_of new)
-    → (end : ℕ) (lines : List Line) → script_behind end old line (λ progress. placed progress d (Some form)) lines ≡ script_left end new lines
-takes_line old mid new line d form settled stands new_settled is =
-    steps_settled old mid new line (λ progress. placed progress d (Some form)) settled (placed_there (progress_of mid) d form stands ∙ is) (compiled_in new new_settled)
-
--- a fault of a line that may stand stops the script
-pub stops_line : (old mid : Reader) (line : ℕ) (d : Data) (form : Form) (h : Halt) → Settled old mid → may_stand mid.stage form ≡ true → Halts h (taken (progress_of mid) d form) → Stops (fault_of line true h) old line (λ progress. placed progress d (Some form))
-stops_line old mid line d form h settled stands is =
-    stops_settled (fault_of line true h) old mid line (λ progress. placed progress d (Some form)) settled
-    (fault_along (fault_of line true h) (at_line line (placed (progress_of mid) d (Some form))) (at_line line (taken (progress_of mid) d form)) (ap (at_line line) (placed_there (progress_of mid) d form stands))
-    (standing_fault line h (taken (progress_of mid) d form) is))
-
--- the fault of a line that may not stand
-misplaced_line : (progress : Progress) (line : ℕ) (d : Data) (form : Form) (h : Halt) → may_stand progress.stage form ≡ false → Halts h (taken progress d form) → IsFault (fault_of line false h) (at_line line (placed progress d (Some form)))
-misplaced_line progress line d form h stands is =
-    fault_along (fault_of line false h) (at_line line (placed progress d (Some form))) (at_line line (holding kinds.Order false (taken progress d form))) (ap (at_line line) (placed_elsewhere progress d form stands))
-    (misplaced_fault line h (taken progress d form) is)
-
-misplaced_whole : (progress : Progress) (line : ℕ) (d : Data) (form : Form) → may_stand progress.stage form ≡ false → is_ok (taken progress d form) ≡ true → at_line line (placed progress d (Some form)) ≡ Err (At line kinds.Order)
-misplaced_whole progress line d form stands is = ap (at_line line) (placed_elsewhere progress d form stands) ∙ misplaced_order line (taken progress d form) is
-
--- it stops the script, and so does its place where it has no fault of its own
-pub stops_misplaced : (old mid : Reader) (line : ℕ) (d : Data) (form : Form) (h : Halt) → Settled old mid → may_stand mid.stage form ≡ false → Halts h (taken (progress_of mid) d form) → Stops (fault_of line false h) old line (λ progress. placed progress d (Some form))
-stops_misplaced old mid line d form h settled stands is =
-    stops_settled (fault_of line false h) old mid line (λ progress. placed progress d (Some form)) settled (misplaced_line (progress_of mid) line d form h stands is)
-
-pub stops_in_order : (old mid : Reader) (line : ℕ) (d : Data) (form : Form) → Settled old mid → may_stand mid.stage form ≡ false → is_ok (taken (progress_of mid) d form) ≡ true → Stops (At line kinds.Order) old line (λ progress. placed progress d (Some form))
-stops_in_order old mid line d form settled stands is =
-    stops_settled (At line kinds.Order) old mid line (λ progress. placed progress d (Some form)) settled (misplaced_whole (progress_of mid) line d form stands is)
-
--- ---- lines
-
--- a line of this form says what the form does
-pub steps_known : {U : Type 0} (r : Result U ScriptFault) (old new : Reader) (number : ℕ) (json : Result Value ScriptKind) (v : Value) (form : Form) → json ≡ Ok v → form_of (view v) ≡ Some form
-    → Steps r old new number (λ progress. placed progress (view v) (Some form)) → Steps r old new number (λ progress. said_in progress (said_map view json))
-steps_known r old new number json v form is known steps =
-    subst (λ (said : Progress → Said Progress). Steps r old new number said) (sym ((λ i. λ progress. said_in progress (said_map view (is i))) ∙ (λ i. λ progress. placed progress (view v) (known i)))) steps
-
--- a line of no form says nothing
-pub stops_formless : (fault : ScriptFault) (old : Reader) (number : ℕ) (json : Result Value ScriptKind) (v : Value) → json ≡ Ok v → form_of (view v) ≡ None
-    → Stops fault old number (λ progress. Err kinds.UnknownCommand) → Stops fault old number (λ progress. said_in progress (said_map view json))
-stops_formless fault old number json v is known stops =
-    subst (λ (said : Progress → Said Progress). Stops fault old number said) (sym ((λ i. λ progress. said_in progress (said_map view (is i))) ∙ (λ i. λ progress. placed progress (view v) (known i)))) stops
-
-pub stops_unread : (fault : ScriptFault) (old : Reader) (number : ℕ) (json : Result Value ScriptKind) (kind : ScriptKind) → json ≡ Err kind
-    → Stops fault old number (λ progress. Err kind) → Stops fault old number (λ progress. said_in progress (said_map view json))
-stops_unread fault old number json kind is stops =
-    subst (λ (said : Progress → Said Progress). Stops fault old number said) (sym (λ i. λ progress. said_in progress (said_map view (is i)))) stops
-
--- ---- parts of the schema
-
-bound_alike : {X Y : Type 0} (r : Result X ScriptFault) (f g : X → Result Y ScriptFault) → ((x : X) → f x ≡ g x) → (r >>= f) ≡ (r >>= g)
-bound_alike (Ok x) f g same = same x
-bound_alike (Err fault) f g same = refl
-
-bound_twice : {X Y Z : Type 0} (r : Result X ScriptFault) (f : X → Result Y ScriptFault) (g : Y → Result Z ScriptFault) → ((r >>= f) >>= g) ≡ (r >>= λ x. f x >>= g)
-bound_twice (Ok x) f g = refl
-bound_twice (Err fault) f g = refl
+pub adds_takes : {U : Type 0} (r : Result U Halt) (old new : Reader) (number : ℕ) (form : Form Data) → Adds r old new form → Takes r old new number form
+adds_takes (Ok u) old new number form adds = added_took old new number form adds
+adds_takes (Err (halts.Fault own)) old new number form adds = adds
+adds_takes (Err halts.Memory) old new number form adds = tt
 
 numbers_many : (reader : Reader) → length reader.parts.numbers.items ≡ length (map view reader.parts.parts.items)
 numbers_many reader = sym reader.parts.numbers.ok.0 ∙ reader.parts.each ∙ reader.parts.parts.ok.0 ∙ sym (length-map reader.parts.parts.items view)
 
-made_step : (end line : ℕ) (old new : Reader) (nodes : List SchemaNode) (part : Data) (s : Said (List SchemaNode)) (lines : List Line) → ((made : List SchemaNode) → progress_with new made ≡ with_part (progress_with old made) part made)
-    → (at_line line (said_map (with_part (progress_with old nodes) part) s) >>= λ next. script_from end next lines) ≡ (at_line line s >>= λ made. script_from end (progress_with new made) lines)
-made_step end line old new nodes part (Ok made) lines same = ap (λ p. script_from end p lines) (sym (same made))
-made_step end line old new nodes part (Err kind) lines same = refl
+made_step : (line : ℕ) (old new : Reader) (nodes : List SchemaNode) (part : Data) (s : Said (List SchemaNode)) → ((made : List SchemaNode) → progress_with new made ≡ with_part (progress_with old made) part made)
+    → at_line line (said_map (with_part (progress_with old nodes) part) s) ≡ (at_line line s >>= λ made. Ok (progress_with new made))
+made_step line old new nodes part (Ok made) same = ap (λ (p : Progress). Ok p) (sym (same made))
+made_step line old new nodes part (Err kind) same = refl
 
-part_placed : (progress : Progress) (d part : Data) → may_stand progress.stage forms.Schema ≡ true → part_said d ≡ Ok part → placed progress d (Some forms.Schema) ≡ said_map (with_part progress part) (schema_said (schema_of (progress.parts ++ part ∷ [])))
-part_placed progress d part stands is = placed_there progress d forms.Schema stands ∙ ap (part_taken progress) is
+part_early : (progress : Progress) (part : Data) (r : Result (List SchemaNode) Fault) → IsEarly (said_map (with_part progress part) (schema_said r))
+part_early progress part (Ok nodes) = tt
+part_early progress part (Err fault) = refl
 
--- a part that was added is judged with those behind it
-pub steps_part : (old new : Reader) (line : ℕ) (d part : Data) → may_stand old.stage forms.Schema ≡ true → part_said d ≡ Ok part
+-- a part that was added is judged with those after it
+pub took_part : (old new : Reader) (line : ℕ) (part : Data)
     → new.parts.numbers.items ≡ old.parts.numbers.items ++ line ∷ [] → map view new.parts.parts.items ≡ map view old.parts.parts.items ++ part ∷ []
-    → ((made : List SchemaNode) → progress_with new made ≡ with_part (progress_with old made) part made)
-    → (end : ℕ) (lines : List Line) → script_behind end old line (λ progress. placed progress d (Some forms.Schema)) lines ≡ script_left end new lines
-steps_part old new line d part stands is numbers parts same end lines =
+    → ((made : List SchemaNode) → progress_with new made ≡ with_part (progress_with old made) part made) → Took old new line (forms.Schema part)
+took_part old new line part numbers parts same =
     let ps = map view old.parts.parts.items in
     let s = schema_said (schema_of (ps ++ part ∷ [])) in
-    bound_alike (schema_in old) (λ nodes. (at_line line (placed (progress_with old nodes) d (Some forms.Schema)) >>= λ next. script_from end next lines)) (λ nodes. (at_line line s >>= λ made. script_from end (progress_with new made) lines))
-    (λ nodes. ap (λ (x : Said Progress). at_line line x >>= λ next. script_from end next lines) (part_placed (progress_with old nodes) d part stands is) ∙ made_step end line old new nodes part s lines same)
-    ∙ sym (bound_twice (schema_in old) (λ nodes. at_line line s) (λ made. script_from end (progress_with new made) lines))
-    ∙ ap (λ (r : Result (List SchemaNode) ScriptFault). r >>= λ made. script_from end (progress_with new made) lines)
-    (sym (part_grows old.parts.numbers.items line ps part (numbers_many old)) ∙ (λ i. at_part (sym numbers i) (schema_of (sym parts i))))
+    record {
+      progress =
+          by_nodes old line (λ progress. taken progress (forms.Schema part))
+          ∙ bound_alike (schema_in old) (λ nodes. at_line line (said_map (with_part (progress_with old nodes) part) s)) (λ nodes. (at_line line s >>= λ made. Ok (progress_with new made))) (λ nodes. made_step line old new nodes part s same)
+          ∙ sym (bound_twice (schema_in old) (λ nodes. at_line line s) (λ made. Ok (progress_with new made)))
+          ∙ ap (λ (r : Result (List SchemaNode) LineFault). r >>= λ made. Ok (progress_with new made))
+          (sym (part_grows old.parts.numbers.items line ps part (numbers_many old)) ∙ (λ i. at_part (sym numbers i) (schema_of (sym parts i))));
+      early = λ nodes. part_early (progress_with old nodes) part (schema_of (ps ++ part ∷ []));
+    }
 
--- a part that isn't read stops the script
-pub stops_part : (fault : ScriptFault) (old : Reader) (line : ℕ) (d : Data) (kind : ScriptKind) → may_stand old.stage forms.Schema ≡ true → part_said d ≡ Err kind
-    → Stops fault old line (λ progress. Err kind) → Stops fault old line (λ progress. placed progress d (Some forms.Schema))
-stops_part fault old line d kind stands is stops end lines =
-    fault_along fault (script_behind end old line (λ progress. placed progress d (Some forms.Schema)) lines) (script_behind end old line (λ progress. Err kind) lines)
-    (bound_alike (schema_in old) (λ nodes. (at_line line (placed (progress_with old nodes) d (Some forms.Schema)) >>= λ next. script_from end next lines)) (λ nodes. (let none : Said Progress = Err kind in at_line line none >>= λ next. script_from end next lines))
-    (λ nodes. ap (λ (x : Said Progress). at_line line x >>= λ next. script_from end next lines) (placed_there (progress_with old nodes) d forms.Schema stands ∙ ap (part_taken (progress_with old nodes)) is)))
-    (stops end lines)
+-- ---- a line of a form
 
--- ---- the end
+-- where a form leads is the same of its values as a contract sees them
+pub leads_seen : (stage : Stage) (form : Form (Bor Value)) → next_stage stage (seen_form form) ≡ next_stage stage form
+leads_seen stages.Opening (forms.Start value) = refl
+leads_seen stages.Started (forms.Start value) = refl
+leads_seen stages.Schemas (forms.Start value) = refl
+leads_seen stages.Receivers (forms.Start value) = refl
+leads_seen stages.Before (forms.Start value) = refl
+leads_seen stages.Within (forms.Start value) = refl
+leads_seen stages.After (forms.Start value) = refl
+leads_seen stage form = refl
 
-pub ends_settled : (end : ℕ) (old mid : Reader) (b : Bool) → Settled old mid → is_complete mid.stage ≡ b → script_left end old [] ≡ at_line end (holding kinds.Order b (Ok (progress_of mid).script))
-ends_settled end old mid b settled is =
-    ap (λ (r : Result (List SchemaNode) ScriptFault). r >>= λ nodes. ended end (progress_with old nodes)) settled.schema ∙ ap (ended end) (sym (settled.same mid.schema))
-    ∙ ap (λ c. at_line end (holding kinds.Order c (Ok (progress_of mid).script))) is
+staged_line : (line : ℕ) (said : Said Progress) (stage : Stage) → at_line line (at_stage (Some stage) said) ≡ (at_line line said >>= λ (progress : Progress). Ok (record progress { stage = stage }))
+staged_line line (Ok progress) stage = refl
+staged_line line (Err kind) stage = refl
+
+misplaced_line : (line : ℕ) (said : Said Progress) → IsEarly said → at_line line (at_stage None said) ≡ (at_line line said >>= λ progress. Err (record { line = line; kind = kinds.Order }))
+misplaced_line line (Ok progress) early = refl
+misplaced_line line (Err kind) early = ap (λ own. Err (record { line = line; kind = own })) early
+
+module _ (old mid : Reader) (line : ℕ) (form : Form Data) where
+  -- where it is known to which stage the line leads, and what follows its values
+  after_values : (next : Option Stage) (f : Progress → Result Progress LineFault) → next_stage old.stage form ≡ next → Took old mid line form
+      → ((nodes : List SchemaNode) → at_line line (at_stage next (taken (progress_with old nodes) form)) ≡ (at_line line (taken (progress_with old nodes) form) >>= f))
+      → progress_by old line (λ progress. form_taken progress form) ≡ (progress_in mid >>= f)
+  after_values next f leads took same =
+      said_alike old line (λ progress. form_taken progress form) (λ progress. at_stage next (taken progress form)) (λ nodes. ap (λ (to : Option Stage). at_stage to (taken (progress_with old nodes) form)) leads)
+      ∙ by_nodes old line (λ progress. at_stage next (taken progress form))
+      ∙ bound_alike (schema_in old) (λ nodes. at_line line (at_stage next (taken (progress_with old nodes) form))) (λ nodes. (at_line line (taken (progress_with old nodes) form) >>= f)) same
+      ∙ sym (bound_twice (schema_in old) (λ nodes. at_line line (taken (progress_with old nodes) form)) f)
+      ∙ ap (λ (r : Result Progress LineFault). r >>= f) (sym (by_nodes old line (λ progress. taken progress form)) ∙ took.progress)
+
+  -- the line leads to a stage
+  pub goes_on : (stage : Stage) → next_stage old.stage form ≡ Some stage → Took old mid line form
+      → progress_by old line (λ progress. form_taken progress form) ≡ (schema_in mid >>= λ nodes. Ok (record (progress_with mid nodes) { stage = stage }))
+  goes_on stage leads took =
+      after_values (Some stage) (λ (progress : Progress). Ok (record progress { stage = stage })) leads took (λ nodes. staged_line line (taken (progress_with old nodes) form) stage)
+      ∙ bound_twice (schema_in mid) (λ nodes. Ok (progress_with mid nodes)) (λ (progress : Progress). Ok (record progress { stage = stage }))
+
+  -- the line may not stand where it does
+  pub goes_nowhere : next_stage old.stage form ≡ None → Took old mid line form → progress_by old line (λ progress. form_taken progress form) ≡ progress_by mid line (λ progress. Err kinds.Order)
+  goes_nowhere leads took = after_values None (λ progress. Err (record { line = line; kind = kinds.Order })) leads took (λ nodes. misplaced_line line (taken (progress_with old nodes) form) (took.early nodes))
+
+  lacks : (next : Option Stage) (own told : ScriptKind) → next_stage old.stage form ≡ next → at_stage next (Err own) ≡ Err told → Lacking old mid form own → progress_by old line (λ progress. form_taken progress form) ≡ progress_by mid line (λ progress. Err told)
+  lacks next own told leads is lacking =
+      said_alike old line (λ progress. form_taken progress form) (λ progress. Err told) (λ nodes. ap (λ (to : Option Stage). at_stage to (taken (progress_with old nodes) form)) leads ∙ ap (at_stage next) (lacking.fault nodes) ∙ is)
+      ∙ same_fault old mid line told lacking.schema
+
+  -- what stops the values of the line
+  pub halts_there : (stage : Stage) (h : Halt) → next_stage old.stage form ≡ Some stage → Takes {U = Unit {0}} (Err h) old mid line form → Goes {U = Unit {0}} (Err h) old mid line (λ progress. form_taken progress form)
+  halts_there stage (halts.Fault own) leads takes = lacks (Some stage) own own leads refl takes
+  halts_there stage halts.Memory leads takes = tt
+
+  pub halts_nowhere : (h : Halt) → next_stage old.stage form ≡ None → Takes {U = Unit {0}} (Err h) old mid line form → Goes {U = Unit {0}} (Err (beside kinds.Order h)) old mid line (λ progress. form_taken progress form)
+  halts_nowhere (halts.Fault own) leads takes = lacks None own (least kinds.Order own) leads refl takes
+  halts_nowhere halts.Memory leads takes = tt
+
+-- ---- the JSON of a line
+
+goes_along : {U : Type 0} (r : Result U Halt) (old new : Reader) (line : ℕ) (one other : Progress → Said Progress) → ((progress : Progress) → one progress ≡ other progress) → Goes r old new line other → Goes r old new line one
+goes_along r old new line one other same goes = subst (λ (said : Progress → Said Progress). Goes r old new line said) (λ i. λ progress. sym (same progress) i) goes
+
+-- JSON of this form says what the form does
+pub goes_known : {U : Type 0} (r : Result U Halt) (old new : Reader) (line : ℕ) (json : Result Value ScriptKind) (v : Value) (form : Form Data) → json ≡ Ok v → line_form (view v) ≡ Some form
+    → Goes r old new line (λ progress. form_taken progress form) → Goes r old new line (λ progress. line_taken progress (said_map view json))
+goes_known r old new line json v form is known goes =
+    goes_along r old new line (λ progress. line_taken progress (said_map view json)) (λ progress. form_taken progress form)
+    (λ progress. ap (λ (j : Result Value ScriptKind). line_taken progress (said_map view j)) is ∙ ap (λ (o : Option (Form Data)). or_fault kinds.UnknownCommand o >>= form_taken progress) known) goes
+
+-- JSON of no form says nothing
+pub goes_formless : (old : Reader) (line : ℕ) (json : Result Value ScriptKind) (v : Value) → json ≡ Ok v → line_form (view v) ≡ None → progress_by old line (λ progress. line_taken progress (said_map view json)) ≡ progress_by old line (λ progress. Err kinds.UnknownCommand)
+goes_formless old line json v is known =
+    said_alike old line (λ progress. line_taken progress (said_map view json)) (λ progress. Err kinds.UnknownCommand)
+    (λ nodes. ap (λ (j : Result Value ScriptKind). line_taken (progress_with old nodes) (said_map view j)) is ∙ ap (λ (o : Option (Form Data)). or_fault kinds.UnknownCommand o >>= form_taken (progress_with old nodes)) known)
+
+pub goes_unread : (old : Reader) (line : ℕ) (json : Result Value ScriptKind) (kind : ScriptKind) → json ≡ Err kind → progress_by old line (λ progress. line_taken progress (said_map view json)) ≡ progress_by old line (λ progress. Err kind)
+goes_unread old line json kind is =
+    said_alike old line (λ progress. line_taken progress (said_map view json)) (λ progress. Err kind) (λ nodes. ap (λ (j : Result Value ScriptKind). line_taken (progress_with old nodes) (said_map view j)) is)
+
+-- ---- the fault of a script
+
+-- a fault of the parts of the schema is the script's, and else that of the line is
+pub stops_part : (fault : ScriptFault) (reader : Reader) (line : ℕ) (said : Progress → Said Progress) → IsFault fault (schema_in reader) → IsFault fault (progress_by reader line said)
+stops_part fault reader line said is =
+    fault_then fault (progress_in reader) (λ progress. at_line line (said progress)) (fault_then fault (schema_in reader) (λ nodes. Ok (progress_with reader nodes)) is)
+
+pub stops_line : (reader : Reader) (line : ℕ) (kind : ScriptKind) (nodes : List SchemaNode) → schema_in reader ≡ Ok nodes → progress_by reader line (λ progress. Err kind) ≡ Err (record { line = line; kind = kind })
+stops_line reader line kind nodes is = ap (λ (r : Result (List SchemaNode) LineFault). (r >>= λ nodes. Ok (progress_with reader nodes)) >>= λ progress. (let none : Said Progress = Err kind in at_line line none)) is
 
 -- ---- the lines of a text
 
-pub gives_fault : {X : Type 0} (fault : ScriptFault) (r : Result X ScriptFault) → IsFault fault r → Gives (Err fault) r
-gives_fault (At line own) r is = is
-gives_fault Memory r is = tt
-
 -- a line that is taken leaves the script
-pub walks : (text : Result Script ScriptFault) (before after : Reader) (place next : Lines) (line : FoundLine) → lines_left place ≡ seen_line line ∷ lines_left next → last_number next ≡ last_number place
-    → ((end : ℕ) (lines : List Line) → script_behind end before line.number (λ progress. said_in progress (seen_line line).json) lines ≡ script_left end after lines)
-    → script_left (last_number place + 1) before (lines_left place) ≡ text → script_left (last_number next + 1) after (lines_left next) ≡ text
+pub walks : (text : Result Script LineFault) (before after : Reader) (place next : Lines) (line : FoundLine) → lines_left place ≡ seen_line line ∷ lines_left next → last_number next ≡ last_number place
+    → progress_by before line.number (λ progress. line_taken progress (seen_line line).json) ≡ progress_in after
+    → (progress_in before >>= λ progress. script_from (last_number place + 1) progress (lines_left place)) ≡ text
+    → (progress_in after >>= λ progress. script_from (last_number next + 1) progress (lines_left next)) ≡ text
 walks text before after place next line found last steps is =
-    ap (λ n. script_left (n + 1) after (lines_left next)) last ∙ sym (steps (last_number place + 1) (lines_left next)) ∙ sym (ap (script_left (last_number place + 1) before) found) ∙ is
+    ap (λ n. progress_in after >>= λ progress. script_from (n + 1) progress (lines_left next)) last
+    ∙ ap (λ (r : Result Progress LineFault). r >>= λ progress. script_from (last_number place + 1) progress (lines_left next)) (sym steps)
+    ∙ bound_twice (progress_in before) (λ progress. at_line line.number (line_taken progress (seen_line line).json)) (λ progress. script_from (last_number place + 1) progress (lines_left next))
+    ∙ ap (λ (lines : List Line). progress_in before >>= λ progress. script_from (last_number place + 1) progress lines) (sym found)
+    ∙ is
 
 -- a fault of a line is the script's
-pub walks_fault : (fault : ScriptFault) (text : Result Script ScriptFault) (before : Reader) (place next : Lines) (line : FoundLine) → lines_left place ≡ seen_line line ∷ lines_left next
-    → Stops fault before line.number (λ progress. said_in progress (seen_line line).json)
-    → script_left (last_number place + 1) before (lines_left place) ≡ text → Gives (Err fault) text
+pub walks_fault : (fault : ScriptFault) (text : Result Script LineFault) (before : Reader) (place next : Lines) (line : FoundLine) → lines_left place ≡ seen_line line ∷ lines_left next
+    → IsFault fault (progress_by before line.number (λ progress. line_taken progress (seen_line line).json))
+    → (progress_in before >>= λ progress. script_from (last_number place + 1) progress (lines_left place)) ≡ text → Gives (Err fault) text
 walks_fault fault text before place next line found stops is =
-    gives_fault fault text (fault_along fault text (script_left (last_number place + 1) before (seen_line line ∷ lines_left next)) (sym is ∙ ap (script_left (last_number place + 1) before) found) (stops (last_number place + 1) (lines_left next)))
+    fault_along fault text (progress_by before line.number (λ progress. line_taken progress (seen_line line).json) >>= λ progress. script_from (last_number place + 1) progress (lines_left next))
+    (sym is
+    ∙ ap (λ (lines : List Line). progress_in before >>= λ progress. script_from (last_number place + 1) progress lines) found
+    ∙ sym (bound_twice (progress_in before) (λ progress. at_line line.number (line_taken progress (seen_line line).json)) (λ progress. script_from (last_number place + 1) progress (lines_left next))))
+    (fault_then fault (progress_by before line.number (λ progress. line_taken progress (seen_line line).json)) (λ progress. script_from (last_number place + 1) progress (lines_left next)) stops)

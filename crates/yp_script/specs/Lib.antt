@@ -7,4 +7,5 @@ pub mod Order
 pub mod Readers
 pub mod Readings
 pub mod Script
+pub mod Values
 pub mod Words

@@ -4,8 +4,9 @@ use Rattle.std.specs.Str.Lossy.{utf8_valid_len}
 use Rattle.serde_json.specs.Data.{Data}
 use Rattle.serde_json.specs.Read.{read as read_text}
 use Rattle.yp_base.specs.Cuts.{cut_after}
+use Rattle.yp_base.specs.Results.{or_fault}
 use Rattle.yp_script.specs.declared.fault.ScriptKind.TheVariants.{TooLong, NotJson, Limit}
-use Rattle.yp_script.specs.Faults.{Said, said_or}
+use Rattle.yp_script.specs.Faults.{Said}
 
 -- a text cut after each line feed; the last piece may lack one
 abbrev pub pieces_of : List ℕ → List (List ℕ)
@@ -40,7 +41,7 @@ is_in_script number end = nat_le number line_limit && nat_le end byte_limit
 -- the JSON of a line, where it lies within the limits of a script, isn't too long and is JSON: the limits of lines and bytes come before all else
 abbrev pub json_in : Bool → List ℕ → Said Data
 json_in within text =
-    if within then (if nat_le (length text) 65536 then said_or NotJson (json_of text) else Err TooLong) else Err Limit
+    if within then (if nat_le (length text) 65536 then or_fault NotJson (json_of text) else Err TooLong) else Err Limit
 
 -- a line that says something: its number, and its JSON
 pub record Line : Type 0 where

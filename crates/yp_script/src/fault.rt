@@ -1,6 +1,6 @@
 //! What is wrong with a script.
 ghost use Rattle.std.specs.Prelude.{◌≡◌};
-ghost use Rattle.yp_script.specs.Faults.{kind_number};
+ghost use Rattle.yp_script.specs.Faults.{fault_number};
 
 use yp_base::memory::NoMemory;
 
@@ -32,7 +32,7 @@ pub enum ScriptKind {
 impl ScriptKind {
     /// The number that the program tells.
     pub fn number(self) -> u32
-        ensures { result ≡ kind_number self }
+        ensures { result ≡ fault_number self }
     {
         match self {
             ScriptKind::TooLong => 1,

@@ -1,142 +1,144 @@
 //! The forms of a script's lines.
 ghost use Rattle.std.specs.Prelude.{◌≡◌, option_map, codes};
-ghost use Rattle.serde_json.specs.View.{view, members_view};
-ghost use Rattle.yp_base.specs.Json.{text_member};
-ghost use Rattle.yp_script.specs.Forms.{waits, is_other_store, is_without, asks_more, asked_of, done_in_lane, form_of};
-ghost use Rattle.yp_script.specs.Words.{sole};
+ghost use Rattle.serde_json.specs.View.{view};
+ghost use Rattle.yp_script.specs.Forms.{seen_request, seen_form, is_other_store, is_later_receiver, is_later_subscription, request_named, request_in, form_named, lane_form, line_form};
+ghost use Rattle.yp_script.specs.Words.{text_at};
 
-use crate::members::{
-    has, has_text, is_laden_object, is_sole, member_in, members_of, only, text_in,
-};
-use serde_json::{Map, Value as Json};
+use crate::words::{has, has_count, has_terms, says, sole_member, text_in};
+use serde_json::Value as Json;
+use yp_base::json::member;
 
-/// The commands that a line may ask for.
-#[derive(Debug, Clone, Copy, PartialEq, Eq, Drop)]
-pub enum Asked {
+/// A command that a line asks for, with the value of its member.
+#[derive(Clone, Copy)]
+pub enum Request<V> {
     /// Time goes on.
-    Tick,
+    Tick(V),
     /// A patch of the datastore (RFC 8072).
-    Patch,
+    Patch(V),
     /// A subscription to every change of everything (RFC 8641 section 3.1).
-    Everything,
+    Establish(V),
 }
 
-/// The forms of a script's lines.
-#[derive(Debug, Clone, Copy, PartialEq, Eq, Drop)]
-pub enum Form {
+/// The form of a line, with the values that stand in it.
+#[derive(Clone, Copy)]
+pub enum Form<V> {
     /// The instant of tick 0.
-    Start,
+    Start(V),
     /// A part of the schema.
-    Schema,
+    Schema(V),
     /// A receiver of notifications.
-    Receiver,
+    Receiver(V),
     /// A command outside the lanes.
-    Command(Asked),
+    Command(Request<V>),
     /// The beginning of the lanes.
-    Lanes,
-    /// A command of a lane.
-    Lane(Asked),
+    Lanes(V),
+    /// The number of a lane, and a command of it.
+    Lane(V, Request<V>),
     /// The end of the lanes.
-    Join,
+    Join(V),
 }
 
-/// Whether a member names a datastore other than the operational one.
-fn has_other_store(members: &Map<String, Json>) -> bool
-    ensures { result ≡ is_other_store (text_member (codes "datastore") (members_view members.now.entries)) }
+/// Whether a receiver is of a form that isn't read yet: it waits for commands to take its packets.
+fn is_later_receiver(value: &Json) -> bool
+    ensures { result ≡ is_later_receiver (view value.now) }
 {
-    match text_in(members, "datastore") {
+    says(value, "take", "command")
+}
+
+/// Whether a datastore is named other than the operational one.
+fn is_other_store(json: &Json) -> bool
+    ensures { result ≡ is_other_store (text_at (codes "datastore") (view json.now)) }
+{
+    match text_in(json, "datastore") {
         Some(text) => text != "ietf-datastores:operational",
         None => false,
     }
 }
 
-/// Whether a subscription is asked for that isn't one to every change of everything.
-fn asks_more(members: &Map<String, Json>) -> bool
-    ensures { result ≡ asks_more (members_view members.now.entries) }
+/// Whether a subscription is of a form that isn't read yet: it isn't one to every change of everything.
+fn is_later_subscription(value: &Json) -> bool
+    ensures { result ≡ is_later_subscription (view value.now) }
 {
-    has(members, "encoding")
-        || has(members, "datastore-subtree-filter")
-        || has(members, "datastore-xpath-filter")
-        || has(members, "periodic")
-        || has_other_store(members)
-        || is_laden_object(member_in(members, "on-change"))
+    has(value, "encoding")
+        || has(value, "datastore-subtree-filter")
+        || has(value, "datastore-xpath-filter")
+        || has(value, "periodic")
+        || is_other_store(value)
+        || has_terms(member(value, "on-change"))
 }
 
-/// Whether JSON asks for a subscription to every change of everything.
-fn asks_everything(json: &Json) -> bool
-    ensures { result ≡ is_without asks_more (sole (codes "establish") (view json.now)) }
+/// The command that a member of this name asks for.
+fn request_named<'a>(name: &str, value: &'a Json) -> Option<Request<&'a Json>>
+    ensures { option_map seen_request result ≡ request_named name.now (view value.now) }
 {
-    match only(json, "establish") {
-        Some(value) => match value.as_object() {
-            Some(members) => !asks_more(members),
-            None => true,
-        },
-        None => false,
-    }
-}
-
-/// Whether JSON declares a receiver that takes its packets by itself.
-fn declares_receiver(json: &Json) -> bool
-    ensures { result ≡ is_without waits (sole (codes "receiver") (view json.now)) }
-{
-    match only(json, "receiver") {
-        Some(value) => match value.as_object() {
-            Some(members) => !has_text(members, "take", "command"),
-            None => true,
-        },
-        None => false,
-    }
-}
-
-/// Which command JSON asks for.
-pub fn asked_of(json: &Json) -> Option<Asked>
-    ensures { result ≡ asked_of (view json.now) }
-{
-    if is_sole(json, "tick") {
-        Some(Asked::Tick)
-    } else if is_sole(json, "patch") {
-        Some(Asked::Patch)
-    } else if asks_everything(json) {
-        Some(Asked::Everything)
+    if name == "tick" {
+        Some(Request::Tick(value))
+    } else if name == "patch" {
+        Some(Request::Patch(value))
+    } else if name == "establish" && !is_later_subscription(value) {
+        Some(Request::Establish(value))
     } else {
         None
     }
 }
 
-/// What a lane line does.
-pub fn done_in_lane(json: &Json) -> Option<&Json>
-    ensures { option_map (λ found. view found.now) result ≡ done_in_lane (view json.now) }
+/// The command that an object of one member asks for.
+fn request_in(json: &Json) -> Option<Request<&Json>>
+    ensures { option_map seen_request result ≡ request_in (view json.now) }
 {
-    match members_of(json, 2) {
-        Some(members) => {
-            if has(members, "lane") {
-                member_in(members, "do")
-            } else {
-                None
-            }
+    match sole_member(json) {
+        Some((name, value)) => request_named(name, value),
+        None => None,
+    }
+}
+
+/// The form of a line whose only member has this name.
+fn form_named<'a>(name: &str, value: &'a Json) -> Option<Form<&'a Json>>
+    ensures { option_map seen_form result ≡ form_named name.now (view value.now) }
+{
+    if name == "start" {
+        Some(Form::Start(value))
+    } else if name == "schema" {
+        Some(Form::Schema(value))
+    } else if name == "receiver" && !is_later_receiver(value) {
+        Some(Form::Receiver(value))
+    } else if name == "lanes" {
+        Some(Form::Lanes(value))
+    } else if name == "join" {
+        Some(Form::Join(value))
+    } else {
+        match request_named(name, value) {
+            Some(request) => Some(Form::Command(request)),
+            None => None,
         }
+    }
+}
+
+/// The form of a line of a lane.
+fn lane_form(json: &Json) -> Option<Form<&Json>>
+    ensures { option_map seen_form result ≡ lane_form (view json.now) }
+{
+    if !has_count(json, 2) {
+        return None;
+    }
+    match member(json, "lane") {
+        Some(lane) => match member(json, "do") {
+            Some(done) => match request_in(done) {
+                Some(request) => Some(Form::Lane(lane, request)),
+                None => None,
+            },
+            None => None,
+        },
         None => None,
     }
 }
 
 /// The form of a line, where it has one that is read.
-pub fn form_of(json: &Json) -> Option<Form>
-    ensures { result ≡ form_of (view json.now) }
+pub fn line_form(json: &Json) -> Option<Form<&Json>>
+    ensures { option_map seen_form result ≡ line_form (view json.now) }
 {
-    if is_sole(json, "start") {
-        Some(Form::Start)
-    } else if is_sole(json, "schema") {
-        Some(Form::Schema)
-    } else if declares_receiver(json) {
-        Some(Form::Receiver)
-    } else if is_sole(json, "lanes") {
-        Some(Form::Lanes)
-    } else if is_sole(json, "join") {
-        Some(Form::Join)
-    } else {
-        match asked_of(json) {
-            Some(asked) => Some(Form::Command(asked)),
-            None => Some(Form::Lane(asked_of(done_in_lane(json)?)?)),
-        }
+    match sole_member(json) {
+        Some((name, value)) => form_named(name, value),
+        None => lane_form(json),
     }
 }

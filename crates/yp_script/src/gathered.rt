@@ -1,8 +1,9 @@
 //! Commands that a reader gathers.
-ghost use Rattle.std.specs.Prelude.{◌≡◌, ◌<◌, ◌≤◌, ◌++◌, ◌∷◌, [], All, IfOk, OnOk, OnErr, length, map, replicate, vec_len};
+ghost use Rattle.std.specs.Prelude.{◌≡◌, ◌<◌, ◌≤◌, ◌++◌, ◌∷◌, [], All, IfOk, OnOk, OnErr, map, replicate, vec_len};
 ghost use Rattle.yp_script.specs.Commands.{HasFewEdits, AreFew};
 ghost use Rattle.yp_script.specs.Script.{in_lane};
 
+use crate::command::Laned;
 use crate::script::Lanes;
 use std::alloc::Global;
 use yp_base::memory::NoMemory;
@@ -58,22 +59,15 @@ pub fn empty_lanes(alloc: Global, count: u64) -> Result<Vec<Gathered>, NoMemory>
     Ok(lanes)
 }
 
-/// How many lanes there are.
-pub fn count_lanes(lanes: &Vec<Gathered>) -> u64
-    ensures { result ≡ length (map (λ lane. lane.commands.items) lanes.now.items) }
+/// One command more, at the end of its lane.
+pub fn push_in(lanes: &mut Vec<Gathered>, laned: Laned) -> Result<(), NoMemory>
+    requires some { 1 ≤ laned.lane }
+    requires within { laned.lane ≤ vec_len lanes.old }
+    requires few { HasFewEdits laned.command }
+    ensures { OnOk result (map (λ lane. lane.commands.items) lanes.new.items ≡ in_lane laned.lane laned.command (map (λ lane. lane.commands.items) lanes.old.items)) }
 {
-    lanes.len() as u64
-}
-
-/// One command more, at the end of the lane of a number, from 1 on.
-pub fn push_in(lanes: &mut Vec<Gathered>, number: u64, command: Command) -> Result<(), NoMemory>
-    requires some { 1 ≤ number }
-    requires within { number ≤ vec_len lanes.old }
-    requires few { HasFewEdits command }
-    ensures { OnOk result (map (λ lane. lane.commands.items) lanes.new.items ≡ in_lane number command (map (λ lane. lane.commands.items) lanes.old.items)) }
-{
-    let lane = &mut lanes[number as usize - 1];
-    lane.push(command)
+    let Laned { lane, command } = laned;
+    lanes[lane as usize - 1].push(command)
 }
 
 /// The commands of each lane, given on.

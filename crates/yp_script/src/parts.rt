@@ -2,27 +2,14 @@
 ghost use Rattle.std.specs.Prelude.{◌≡◌, ◌++◌, ◌∷◌, [], map, OnOk, vec_len};
 ghost use Rattle.serde_json.specs.View.{view};
 ghost use Rattle.yp_schema.specs.Reading.{schema_of};
-ghost use Rattle.yp_script.specs.Forms.{part_said};
-ghost use Rattle.yp_script.specs.Readings.{Gives, TellsPart, at_part};
+ghost use Rattle.yp_script.specs.Readings.{Gives, at_part};
 
 use crate::fault::{ScriptFault, ScriptKind};
-use crate::members::only;
-use crate::said::Halt;
 use serde_json::Value as Json;
 use std::alloc::Global;
 use yp_base::memory::NoMemory;
 use yp_schema::fault::SchemaFault;
 use yp_schema::schema::Schema;
-
-/// The part of the schema that a line gives.
-pub fn read_part(json: &Json) -> Result<Json, Halt>
-    ensures { TellsPart result (part_said (view json.now)) }
-{
-    match only(json, "schema") {
-        Some(part) => Ok(part.clone()?),
-        None => Err(Halt::Fault(ScriptKind::UnknownCommand)),
-    }
-}
 
 /// The parts of a schema so far, each with the number of its line.
 #[derive(Drop)]
@@ -65,16 +52,11 @@ impl Parts {
     {
         match Schema::read(alloc, self.parts.as_slice()) {
             Ok(schema) => Ok(schema),
-            Err(fault) => match fault {
-                SchemaFault::At { part, .. } => Err(ScriptFault::At {
-                    line: match self.numbers.get(part) {
-                        Some(number) => *number,
-                        None => 0,
-                    },
-                    kind: ScriptKind::Schema,
-                }),
-                SchemaFault::Memory => Err(ScriptFault::Memory),
-            },
+            Err(SchemaFault::At { part, .. }) => Err(ScriptFault::At {
+                line: self.numbers[part],
+                kind: ScriptKind::Schema,
+            }),
+            Err(SchemaFault::Memory) => Err(ScriptFault::Memory),
         }
     }
 }

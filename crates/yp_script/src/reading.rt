@@ -22,7 +22,7 @@ fn read_text(alloc: Global, text: &[u8]) -> Result<Script, ScriptFault>
     ensures schema { IfOk result (λ script. IsSchema script.schema) }
 {
     let mut lines = Lines::of_text(text);
-    let mut reader = Reader::new(alloc)?;
+    let mut reader = Reader::new(alloc);
     while let Some(line) = lines.next(alloc)? {
         reader.take(alloc, &line)?;
     }

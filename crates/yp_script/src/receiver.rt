@@ -1,17 +1,17 @@
 //! Receiver lines.
 ghost use Rattle.std.specs.Prelude.{◌≡◌, ◌<◌, ◌≤◌, None, IfOk, OnOk, IfSome, length, option_map, codes};
-ghost use Rattle.serde_json.specs.View.{view, members_view};
-ghost use Rattle.yp_base.specs.Json.{text_member};
-ghost use Rattle.yp_script.specs.Forms.{is_receiver_name, is_user_name, is_new_name, number_of, places_said, receiver_in, receiver_said};
+ghost use Rattle.serde_json.specs.View.{view};
 ghost use Rattle.yp_script.specs.Readings.{Tells};
-ghost use Rattle.yp_script.specs.Words.{where_true};
+ghost use Rattle.yp_script.specs.Values.{is_receiver_name, is_user_name, is_new_name, receiver_number, queue_said, places_said, receiver_said};
+ghost use Rattle.yp_script.specs.Words.{where_true, text_at};
 
 use crate::fault::ScriptKind;
-use crate::members::{count, has_text, member_in, object_by, text_in, whole};
+use crate::halt::{Halt, least};
 use crate::receivers::Receivers;
-use crate::said::{Halt, least};
-use serde_json::{Map, Value as Json};
+use crate::words::{has_count, says, text_in, whole};
+use serde_json::Value as Json;
 use std::alloc::Global;
+use yp_base::json::member;
 use yp_base::memory::NoMemory;
 use yp_base::txt::Txt;
 use yp_journal::receiver::ReceiverInfo;
@@ -34,12 +34,12 @@ fn is_name(text: &str) -> bool
     true
 }
 
-/// A member that is the name of a receiver that isn't declared yet.
-fn new_name<'a>(receivers: &Receivers, members: &'a Map<String, Json>) -> Option<&'a str>
-    ensures new { IfSome result (λ text. number_of receivers.now text.now ≡ None) }
-    ensures read { option_map (λ text. text.now) result ≡ where_true (is_new_name receivers.now) (text_member (codes "name") (members_view members.now.entries)) }
+/// The member that is the name of a receiver that isn't declared yet.
+fn new_name<'a>(receivers: &Receivers, json: &'a Json) -> Option<&'a str>
+    ensures new { IfSome result (λ text. receiver_number receivers.now text.now ≡ None) }
+    ensures read { option_map (λ text. text.now) result ≡ where_true (is_new_name receivers.now) (text_at (codes "name") (view json.now)) }
 {
-    match text_in(members, "name") {
+    match text_in(json, "name") {
         Some(text) => {
             if is_name(text) && receivers.number_of(text).is_none() {
                 Some(text)
@@ -51,11 +51,11 @@ fn new_name<'a>(receivers: &Receivers, members: &'a Map<String, Json>) -> Option
     }
 }
 
-/// A member that is the name of a user.
-fn user_name(members: &Map<String, Json>) -> Option<&str>
-    ensures { option_map (λ text. text.now) result ≡ where_true is_user_name (text_member (codes "user") (members_view members.now.entries)) }
+/// The member that is the name of a user.
+fn user_name(json: &Json) -> Option<&str>
+    ensures { option_map (λ text. text.now) result ≡ where_true is_user_name (text_at (codes "user") (view json.now)) }
 {
-    match text_in(members, "user") {
+    match text_in(json, "user") {
         Some(text) => {
             if 1 <= text.len() && text.len() <= 64 {
                 Some(text)
@@ -67,27 +67,30 @@ fn user_name(members: &Map<String, Json>) -> Option<&str>
     }
 }
 
+/// How many packets a queue holds.
+fn queue_of(queue: Option<&Json>) -> Result<u64, ScriptKind>
+    ensures read { result ≡ queue_said (option_map (λ json. view json.now) queue.entry) }
+    ensures most { IfOk result (λ places. places ≤ 32) }
+{
+    match queue {
+        Some(json) => whole(json, 1, 32),
+        None => Err(ScriptKind::Member),
+    }
+}
+
 /// How many packets the queue of one receiver more holds, where there is room for it.
-fn places_of(receivers: &Receivers, members: &Map<String, Json>) -> Result<u64, ScriptKind>
-    ensures read { result ≡ places_said receivers.now (members_view members.now.entries) }
+fn places_of(receivers: &Receivers, json: &Json) -> Result<u64, ScriptKind>
+    ensures read { result ≡ places_said receivers.now (view json.now) }
     ensures most { IfOk result (λ places. places ≤ 32) }
     ensures room { OnOk result (length receivers.now < 16) }
 {
-    match whole(member_in(members, "queue"), 1, 32) {
-        Ok(places) => {
-            if receivers.len() >= MOST_RECEIVERS {
-                Err(ScriptKind::Limit)
-            } else {
-                Ok(places)
-            }
-        }
-        Err(kind) => {
-            if receivers.len() < MOST_RECEIVERS {
-                Err(kind)
-            } else {
-                Err(least(ScriptKind::Limit, kind))
-            }
-        }
+    let places = queue_of(member(json, "queue"));
+    if receivers.len() < MOST_RECEIVERS {
+        return places;
+    }
+    match places {
+        Ok(_) => Err(ScriptKind::Limit),
+        Err(kind) => Err(least(ScriptKind::Limit, kind)),
     }
 }
 
@@ -98,36 +101,6 @@ fn text_of(alloc: Global, text: &str) -> Result<Txt, NoMemory>
     Ok(Txt::from_string(String::from_str(alloc, text)?))
 }
 
-/// The receiver that an object declares.
-fn receiver_of(
-    alloc: Global,
-    receivers: &Receivers,
-    members: &Map<String, Json>,
-) -> Result<ReceiverInfo, Halt>
-    ensures read { Tells result (receiver_in receivers.now (members_view members.now.entries)) }
-    ensures new { IfOk result (λ receiver. number_of receivers.now receiver.name ≡ None) }
-    ensures room { OnOk result (length receivers.now < 16) }
-{
-    if count(members) != 4 || !has_text(members, "take", "auto") {
-        return Err(Halt::Fault(ScriptKind::Member));
-    }
-    match new_name(receivers, members) {
-        Some(name) => match user_name(members) {
-            Some(user) => match places_of(receivers, members) {
-                Ok(places) => Ok(ReceiverInfo {
-                    name: text_of(alloc, name)?,
-                    user: text_of(alloc, user)?,
-                    places: places as u32,
-                    auto: true,
-                }),
-                Err(kind) => Err(Halt::Fault(kind)),
-            },
-            None => Err(Halt::Fault(ScriptKind::Member)),
-        },
-        None => Err(Halt::Fault(ScriptKind::Member)),
-    }
-}
-
 /// The receiver that a line declares beside those before it.
 pub fn read_receiver(
     alloc: Global,
@@ -135,11 +108,19 @@ pub fn read_receiver(
     json: &Json,
 ) -> Result<ReceiverInfo, Halt>
     ensures read { Tells result (receiver_said receivers.now (view json.now)) }
-    ensures new { IfOk result (λ receiver. number_of receivers.now receiver.name ≡ None) }
+    ensures new { IfOk result (λ receiver. receiver_number receivers.now receiver.name ≡ None) }
     ensures room { OnOk result (length receivers.now < 16) }
 {
-    match object_by(json, "receiver") {
-        Ok(members) => receiver_of(alloc, receivers, members),
-        Err(kind) => Err(Halt::Fault(kind)),
+    if !has_count(json, 4) || !says(json, "take", "auto") {
+        return Err(Halt::Fault(ScriptKind::Member));
     }
+    let name = new_name(receivers, json).ok_or(ScriptKind::Member)?;
+    let user = user_name(json).ok_or(ScriptKind::Member)?;
+    let places = places_of(receivers, json)?;
+    Ok(ReceiverInfo {
+        name: text_of(alloc, name)?,
+        user: text_of(alloc, user)?,
+        places: places as u32,
+        auto: true,
+    })
 }

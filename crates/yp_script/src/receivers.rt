@@ -1,6 +1,6 @@
 //! Receivers by name.
 ghost use Rattle.std.specs.Prelude.{◌≡◌, ◌++◌, ◌∷◌, [], ◌<◌, ◌≤◌, length, OnOk, OnErr, IfOk, IfSome, None, option_copied, slice_get};
-ghost use Rattle.yp_script.specs.Forms.{number_of};
+ghost use Rattle.yp_script.specs.Values.{receiver_number};
 
 use indexmap::IndexMap;
 use std::alloc::Global;
@@ -21,7 +21,7 @@ impl Model for Receivers {
     ghost use Rattle.std.specs.String.{string_bytes};
     ghost use Rattle.indexmap.specs.IndexMap.{keys, values};
     ghost use Rattle.yp_journal.specs.declared.receiver.ReceiverInfo.{ReceiverInfo};
-    ghost use Rattle.yp_script.specs.Forms.{names_of};
+    ghost use Rattle.yp_script.specs.Values.{names_of};
 
     ghost Value = { List ReceiverInfo };
 
@@ -49,7 +49,7 @@ impl Receivers {
 
     /// The number of the receiver of a name, from 0 on in the order of their declaration.
     pub fn number_of(&self, name: &str) -> Option<usize>
-        ensures number { result ≡ number_of self.now name.now }
+        ensures number { result ≡ receiver_number self.now name.now }
         ensures within { IfSome result (λ number. number < length self.now) }
         ensures few { length self.now ≤ 16 }
     {
@@ -68,7 +68,7 @@ impl Receivers {
 
     /// One receiver more, of 16 at most, whose name no other has. After want of memory nothing is changed.
     pub fn push(&mut self, alloc: Global, receiver: ReceiverInfo) -> Result<(), NoMemory>
-        requires new { number_of self.old receiver.name ≡ None }
+        requires new { receiver_number self.old receiver.name ≡ None }
         requires room { length self.old < 16 }
         ensures ok { OnOk result (self.new ≡ self.old ++ receiver ∷ []) }
         ensures err { OnErr result (self.new ≡ self.old) }

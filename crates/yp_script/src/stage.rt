@@ -1,6 +1,6 @@
 //! The order of a script's lines.
 ghost use Rattle.std.specs.Prelude.{◌≡◌};
-ghost use Rattle.yp_script.specs.Order.{may_stand, behind_command, is_complete};
+ghost use Rattle.yp_script.specs.Order.{next_stage, is_complete};
 
 use crate::form::Form;
 
@@ -9,45 +9,36 @@ use crate::form::Form;
 pub enum Stage {
     /// Before the start.
     Opening,
-    /// Behind the start, before the first part of the schema.
+    /// After the start, before the first part of the schema.
     Started,
-    /// Behind a part of the schema.
+    /// After a part of the schema.
     Schemas,
-    /// Behind a receiver.
+    /// After a receiver.
     Receivers,
-    /// Behind a command before the lanes.
+    /// After a command before the lanes.
     Before,
     /// In the lanes.
     Within,
-    /// Behind the lanes.
+    /// After the lanes.
     After,
 }
 
-/// Whether a line of a form may stand at a stage.
-pub fn may_stand(stage: Stage, form: Form) -> bool
-    ensures { result ≡ may_stand stage form }
+/// The stage to which a line of a form leads, where it may stand at this one.
+pub fn next_stage<V>(stage: Stage, form: &Form<V>) -> Option<Stage>
+    ensures { result ≡ next_stage stage form.now }
 {
-    match stage {
-        Stage::Opening => matches!(form, Form::Start),
-        Stage::Started => matches!(form, Form::Schema),
-        Stage::Schemas => matches!(
-            form,
-            Form::Schema | Form::Receiver | Form::Command(_) | Form::Lanes
-        ),
-        Stage::Receivers => matches!(form, Form::Receiver | Form::Command(_) | Form::Lanes),
-        Stage::Before => matches!(form, Form::Command(_) | Form::Lanes),
-        Stage::Within => matches!(form, Form::Lane(_) | Form::Join),
-        Stage::After => matches!(form, Form::Command(_)),
-    }
-}
-
-/// The stage behind a command that stands outside the lanes.
-pub fn behind_command(stage: Stage) -> Stage
-    ensures { result ≡ behind_command stage }
-{
-    match stage {
-        Stage::Schemas | Stage::Receivers => Stage::Before,
-        _ => stage,
+    match (stage, form) {
+        (Stage::Opening, Form::Start(_)) => Some(Stage::Started),
+        (Stage::Started | Stage::Schemas, Form::Schema(_)) => Some(Stage::Schemas),
+        (Stage::Schemas | Stage::Receivers, Form::Receiver(_)) => Some(Stage::Receivers),
+        (Stage::Schemas | Stage::Receivers | Stage::Before, Form::Command(_)) => {
+            Some(Stage::Before)
+        }
+        (Stage::Schemas | Stage::Receivers | Stage::Before, Form::Lanes(_)) => Some(Stage::Within),
+        (Stage::Within, Form::Lane(_, _)) => Some(Stage::Within),
+        (Stage::Within, Form::Join(_)) => Some(Stage::After),
+        (Stage::After, Form::Command(_)) => Some(Stage::After),
+        _ => None,
     }
 }
 

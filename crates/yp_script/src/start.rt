@@ -2,12 +2,11 @@
 ghost use Rattle.std.specs.Prelude.{◌≡◌, IfOk};
 ghost use Rattle.serde_json.specs.View.{view};
 ghost use Rattle.yp_time.specs.Instants.{IsStart};
-ghost use Rattle.yp_script.specs.Forms.{start_said};
 ghost use Rattle.yp_script.specs.Readings.{Tells};
+ghost use Rattle.yp_script.specs.Values.{start_said};
 
 use crate::fault::ScriptKind;
-use crate::members::only;
-use crate::said::Halt;
+use crate::halt::Halt;
 use serde_json::Value as Json;
 use std::alloc::Global;
 use yp_time::instant::InstantFault;
@@ -18,13 +17,12 @@ pub fn read_start(alloc: Global, json: &Json) -> Result<Start, Halt>
     ensures read { Tells result (start_said (view json.now)) }
     ensures within { IfOk result IsStart }
 {
-    match only(json, "start") {
-        Some(Json::String(text)) => match Start::read(alloc, text.as_str()) {
+    match json {
+        Json::String(text) => match Start::read(alloc, text.as_str()) {
             Ok(start) => Ok(start),
             Err(InstantFault::BadInstant) => Err(Halt::Fault(ScriptKind::Instant)),
             Err(InstantFault::Memory) => Err(Halt::Memory),
         },
-        Some(_) => Err(Halt::Fault(ScriptKind::Member)),
-        None => Err(Halt::Fault(ScriptKind::UnknownCommand)),
+        _ => Err(Halt::Fault(ScriptKind::Member)),
     }
 }

@@ -21,5 +21,5 @@ on_ok (Err e) P Q is then = tt
 pub returns : goal.returns
 returns c =
     let lanes = c.args.lanes.now.items in
-    on_ok c.push.result (kept c.push.new.self ≡ kept c.index_mut-lane.result.now ++ c.args.command ∷ []) (map kept (set lanes (c.args.number - 1) c.push.new.self) ≡ in_lane c.args.number c.args.command (map kept lanes)) c.push.ensures.ok
-    (λ more. put lanes c.args.number c.args.command c.index_mut-lane.result.now c.push.new.self (omega (arith, c.args.lanes.now.ok.0)) c.index_mut-lane.ensures.value more)
+    on_ok c.push.result (kept c.push.new.self ≡ kept c.index_mut.result.now ++ c.args.laned.command ∷ []) (map kept (set lanes (c.args.laned.lane - 1) c.push.new.self) ≡ in_lane c.args.laned.lane c.args.laned.command (map kept lanes)) c.push.ensures.ok
+    (λ more. put lanes c.args.laned.lane c.args.laned.command c.index_mut.result.now c.push.new.self (omega (arith, c.args.lanes.now.ok.0)) c.index_mut.ensures.value more)

@@ -1,5 +1,5 @@
 use Rattle.std.proofs.Common.{◌≡◌, drop}
-use Rattle.yp_script.specs.Forms.{are_name_bytes}
+use Rattle.yp_script.specs.Values.{are_name_bytes}
 use Rattle.yp_script.proofs.receiver.is_name.Given as goal
 
 abbrev pub invariant-loop-byte : goal.invariant-loop-byte

@@ -5,7 +5,7 @@ use Rattle.std.specs.List.{position}
 use Rattle.indexmap.proofs.CallerLemmas.{insert_entry-new}
 use Rattle.yp_base.specs.Types.{same_text}
 use Rattle.yp_journal.specs.declared.receiver.ReceiverInfo.{ReceiverInfo}
-use Rattle.yp_script.specs.Forms.{number_of, names_of}
+use Rattle.yp_script.specs.Values.{receiver_number, names_of}
 use Rattle.yp_script.proofs.NameLaws.{no_key, names_more, values_more}
 use Rattle.yp_script.proofs.receivers.Receivers.push.Goals as goal
 
@@ -16,7 +16,7 @@ returns-clause-ok c =
     let receiver = c.args.receiver in
     let same : string_bytes name ≡ receiver.name = c.in_ok-name.ensures.ok ∙ c.as_str.ensures in
     let new : position (same_text (string_bytes name)) (names_of (values_of m.entries)) ≡ None =
-    ap (λ text. position (same_text text) (names_of (values_of m.entries))) same ∙ ap (λ (receivers : List ReceiverInfo). number_of receivers receiver.name) c.self.view_is ∙ c.requires.new in
+    ap (λ text. position (same_text text) (names_of (values_of m.entries))) same ∙ ap (λ (receivers : List ReceiverInfo). receiver_number receivers receiver.name) c.self.view_is ∙ c.requires.new in
     let none : lookup (λ k. same_text (string_bytes name) (string_bytes k)) m.entries ≡ None =
     no_key string_bytes (λ (r : ReceiverInfo). r.name) (same_text (string_bytes name)) m.entries c.self.invariant.0 new in
     ap values_of (c.in_ok-insert.ensures.entries ∙ insert_entry-new string_eq m name receiver none)
@@ -29,7 +29,7 @@ invariant_of-self-2 c =
     let receiver = c.args.receiver in
     let same : string_bytes name ≡ receiver.name = c.in_ok-name.ensures.ok ∙ c.as_str.ensures in
     let new : position (same_text (string_bytes name)) (names_of (values_of m.entries)) ≡ None =
-    ap (λ text. position (same_text text) (names_of (values_of m.entries))) same ∙ ap (λ (receivers : List ReceiverInfo). number_of receivers receiver.name) c.self.view_is ∙ c.requires.new in
+    ap (λ text. position (same_text text) (names_of (values_of m.entries))) same ∙ ap (λ (receivers : List ReceiverInfo). receiver_number receivers receiver.name) c.self.view_is ∙ c.requires.new in
     let none : lookup (λ k. same_text (string_bytes name) (string_bytes k)) m.entries ≡ None =
     no_key string_bytes (λ (r : ReceiverInfo). r.name) (same_text (string_bytes name)) m.entries c.self.invariant.0 new in
     let entries : c.insert.new.self.entries ≡ m.entries ++ (name, receiver) ∷ [] = c.in_ok-insert.ensures.entries ∙ insert_entry-new string_eq m name receiver none in

@@ -1,9 +1,9 @@
 //! What stops the reading of a line.
 ghost use Rattle.std.specs.Prelude.{◌≡◌};
 ghost use Rattle.yp_script.specs.Faults.{least};
-ghost use Rattle.yp_script.specs.Readings.{fault_of};
+ghost use Rattle.yp_script.specs.Readings.{beside};
 
-use crate::fault::{ScriptFault, ScriptKind};
+use crate::fault::ScriptKind;
 use std::alloc::AllocError;
 use yp_base::memory::NoMemory;
 
@@ -14,9 +14,20 @@ pub enum Halt {
     Memory,
 }
 
+impl From<ScriptKind> for Halt {
+    ghost use Rattle.std.specs.Prelude.{◌≡◌};
+    ghost use Rattle.yp_script.specs.declared.halt.Halt.TheVariants.{Fault};
+
+    ghost from_gives = { λ kind e. e ≡ Fault kind };
+
+    fn from(kind: ScriptKind) -> Halt {
+        Halt::Fault(kind)
+    }
+}
+
 impl From<NoMemory> for Halt {
     ghost use Rattle.std.specs.Prelude.{◌≡◌};
-    ghost use Rattle.yp_script.specs.declared.said.Halt.TheVariants.{Memory};
+    ghost use Rattle.yp_script.specs.declared.halt.Halt.TheVariants.{Memory};
 
     ghost from_gives = { λ _ e. e ≡ Memory };
 
@@ -27,7 +38,7 @@ impl From<NoMemory> for Halt {
 
 impl From<AllocError> for Halt {
     ghost use Rattle.std.specs.Prelude.{◌≡◌};
-    ghost use Rattle.yp_script.specs.declared.said.Halt.TheVariants.{Memory};
+    ghost use Rattle.yp_script.specs.declared.halt.Halt.TheVariants.{Memory};
 
     ghost from_gives = { λ _ e. e ≡ Memory };
 
@@ -47,19 +58,12 @@ pub fn least(kind: ScriptKind, other: ScriptKind) -> ScriptKind
     }
 }
 
-/// A fault of a line, with that of its place.
-pub fn fault_at(line: u32, stands: bool, halt: Halt) -> ScriptFault
-    ensures { result ≡ fault_of line stands halt }
+/// What stops a part of a line that has this fault too.
+pub fn beside(kind: ScriptKind, halt: Halt) -> Halt
+    ensures { result ≡ beside kind halt }
 {
     match halt {
-        Halt::Fault(kind) => ScriptFault::At {
-            line,
-            kind: if stands {
-                kind
-            } else {
-                least(ScriptKind::Order, kind)
-            },
-        },
-        Halt::Memory => ScriptFault::Memory,
+        Halt::Fault(other) => Halt::Fault(least(kind, other)),
+        Halt::Memory => Halt::Memory,
     }
 }

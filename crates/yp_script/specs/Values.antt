@@ -1,0 +1,110 @@
+-- What the values of a line say, by its form, or the least of their faults.
+use Rattle.std.specs.Prelude.{ℕ, ◌==◌, ◌&&◌, ◌||◌, List, [], ◌∷◌, length, map, Bool, true, not, Option, Some, None, is_some, option_and_then, Err, if◌then◌else◌, nat_le, nat_lt, position, codes}
+use Rattle.serde_json.specs.Data.{Data, string}
+use Rattle.yp_base.specs.Json.{member_of}
+use Rattle.yp_base.specs.Results.{◌>>=◌, or_fault}
+use Rattle.yp_base.specs.Types.{same_text}
+use Rattle.yp_edit.specs.Shapes.{patch_in}
+use Rattle.yp_journal.specs.declared.command.Command.{Command}
+use Rattle.yp_journal.specs.declared.command.Command.TheVariants as commands
+use Rattle.yp_journal.specs.declared.receiver.ReceiverInfo.{ReceiverInfo}
+use Rattle.yp_journal.specs.History.{tick_limit}
+use Rattle.yp_time.specs.Instants.{start_in}
+use Rattle.yp_script.specs.declared.command.Laned.{Laned}
+use Rattle.yp_script.specs.declared.fault.ScriptKind.TheVariants as kinds
+use Rattle.yp_script.specs.declared.form.Request.{Request}
+use Rattle.yp_script.specs.declared.form.Request.TheVariants.{Tick, Patch, Establish}
+use Rattle.yp_script.specs.Faults.{Said, said_map, holding, together}
+use Rattle.yp_script.specs.Words.{has_count, text_at, says, where_true, whole_said, has_no_terms}
+
+-- ---- {"start":T}
+
+abbrev pub start_said : Data → Said ℕ
+start_said (string text) = or_fault kinds.Instant (start_in text)
+start_said other = Err kinds.Member
+
+-- ---- {"receiver":{"name":N,"user":U,"queue":Q,"take":"auto"}}
+
+-- letters, digits, `_`, `-` and `.`
+abbrev pub is_name_byte : ℕ → Bool
+is_name_byte b = (nat_le 97 b && nat_le b 122) || (nat_le 65 b && nat_le b 90) || (nat_le 48 b && nat_le b 57) || b == 95 || b == 45 || b == 46
+
+abbrev pub are_name_bytes : List ℕ → Bool
+are_name_bytes [] = true
+are_name_bytes (b ∷ bytes) = is_name_byte b && are_name_bytes bytes
+
+abbrev pub is_receiver_name : List ℕ → Bool
+is_receiver_name text = nat_le 1 (length text) && nat_le (length text) 32 && are_name_bytes text
+
+abbrev pub is_user_name : List ℕ → Bool
+is_user_name text = nat_le 1 (length text) && nat_le (length text) 64
+
+abbrev pub names_of : List ReceiverInfo → List (List ℕ)
+names_of receivers = map (λ receiver. receiver.name) receivers
+
+-- the number of the receiver of a name, from 0 on in the order of their declaration
+abbrev pub receiver_number : List ReceiverInfo → List ℕ → Option ℕ
+receiver_number receivers name = position (same_text name) (names_of receivers)
+
+-- a receiver's own name, which none of those before it has
+abbrev pub is_new_name : List ReceiverInfo → List ℕ → Bool
+is_new_name receivers text = is_receiver_name text && not (is_some (receiver_number receivers text))
+
+abbrev pub has_receiver_form : Data → Bool
+has_receiver_form json = has_count 4 json && says (codes "take") (codes "auto") json
+
+abbrev pub name_said : List ReceiverInfo → Data → Said (List ℕ)
+name_said receivers json = or_fault kinds.Member (where_true (is_new_name receivers) (text_at (codes "name") json))
+
+abbrev pub user_said : Data → Said (List ℕ)
+user_said json = or_fault kinds.Member (where_true is_user_name (text_at (codes "user") json))
+
+abbrev pub queue_said : Option Data → Said ℕ
+queue_said None = Err kinds.Member
+queue_said (Some json) = whole_said 1 32 json
+
+-- how many packets the queue of one receiver more, of 16 at most, holds
+abbrev pub places_said : List ReceiverInfo → Data → Said ℕ
+places_said receivers json = holding kinds.Limit (nat_lt (length receivers) 16) (queue_said (member_of (codes "queue") json))
+
+abbrev pub receiver_of : List ℕ → List ℕ → ℕ → ReceiverInfo
+receiver_of name user places = record { name = name; user = user; places = places; auto = true }
+
+-- one receiver more; a wrong member is the least fault of its line, so it is looked for first
+abbrev pub receiver_said : List ReceiverInfo → Data → Said ReceiverInfo
+receiver_said receivers json =
+    if has_receiver_form json
+    then name_said receivers json >>= (λ name. user_said json >>= (λ user. said_map (receiver_of name user) (places_said receivers json)))
+    else Err kinds.Member
+
+-- ---- {"tick":T}, {"patch":D} (RFC 8072), {"establish":{"by":N,"datastore":"ietf-datastores:operational","on-change":{}}} (RFC 8641 section 3.1)
+
+abbrev pub is_of_everything : Data → Bool
+is_of_everything json = has_count 3 json && says (codes "datastore") (codes "ietf-datastores:operational") json && has_no_terms (member_of (codes "on-change") json)
+
+abbrev pub everything_said : List ReceiverInfo → Data → Said Command
+everything_said receivers json =
+    if is_of_everything json then said_map commands.Everything (or_fault kinds.Member (option_and_then (receiver_number receivers) (text_at (codes "by") json))) else Err kinds.Member
+
+abbrev pub patch_said : Data → Said Command
+patch_said json = said_map commands.Edit (or_fault kinds.Patch (patch_in json))
+
+-- of the subscriptions that are asked for so many are read
+abbrev pub subscription_limit : ℕ
+subscription_limit = 256
+
+-- a command, where so many subscriptions are asked for before it
+abbrev pub command_said : List ReceiverInfo → ℕ → Request Data → Said Command
+command_said receivers established (Tick json) = said_map commands.Tick (whole_said 0 tick_limit json)
+command_said receivers established (Patch json) = patch_said json
+command_said receivers established (Establish json) = if nat_lt established subscription_limit then everything_said receivers json else Err kinds.UnknownCommand
+
+-- ---- {"lanes":K}, {"lane":k,"do":C}
+
+abbrev pub lanes_said : Data → Said ℕ
+lanes_said json = whole_said 1 64 json
+
+-- a command of one of so many lanes
+abbrev pub laned_said : List ReceiverInfo → ℕ → ℕ → Data → Request Data → Said Laned
+laned_said receivers established count place request =
+    together (λ lane command. record { lane = lane; command = command }) (whole_said 1 count place) (command_said receivers established request)
