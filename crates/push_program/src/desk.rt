@@ -2,6 +2,7 @@
 ghost use Rattle.std.specs.Prelude.{◌≡◌, ◌≤◌, ◌∷◌, [], IfOk, OnOk, false};
 ghost use Rattle.std.specs.List.{AllByRecursion};
 ghost use Rattle.yp_base.specs.declared.notice.Notice.TheVariants.{Changes as ChangeUpdate};
+ghost use Rattle.yp_time.specs.Ticks.{tick_limit};
 ghost use Rattle.yp_encode.specs.Sendable.{IsSendable, IsSendableChange};
 ghost use Rattle.push_program.specs.Desks.{with_lines, changes_for, notice_for, changes_in};
 
@@ -89,7 +90,7 @@ impl Desk {
         stamp: u64,
         notice: &Notice,
     ) -> Result<(), NoMemory>
-        requires tick { stamp ≤ 1000000000000 }
+        requires tick { stamp ≤ tick_limit }
         requires sendable { IsSendable schema.now notice.now }
         ensures { OnOk result (self.new ≡ with_lines schema.now start.now (record { position = position; stamp = stamp; notice = notice.now } ∷ []) self.old) }
     {
@@ -116,7 +117,7 @@ impl Desk {
         stamp: u64,
         notice: &Notice,
     ) -> Result<(), NoMemory>
-        requires tick { stamp ≤ 1000000000000 }
+        requires tick { stamp ≤ tick_limit }
         requires sendable { IsSendable schema.now notice.now }
         ensures { OnOk result (self.new ≡ with_lines schema.now start.now (notice_for by position stamp self.old.number notice.now) self.old) }
     {
@@ -137,7 +138,7 @@ impl Desk {
         stamp: u64,
         changes: Changes,
     ) -> Result<Changes, NoMemory>
-        requires tick { stamp ≤ 1000000000000 }
+        requires tick { stamp ≤ tick_limit }
         requires sendable { AllByRecursion (IsSendableChange schema.now) changes }
         ensures sent { OnOk result (self.new ≡ with_lines schema.now start.now (record { position = position; stamp = stamp; notice = ChangeUpdate id position changes false } ∷ []) self.old) }
         ensures changes { IfOk result (λ given. given ≡ changes) }
@@ -164,7 +165,7 @@ impl Desk {
         stamp: u64,
         changes: Changes,
     ) -> Result<Changes, NoMemory>
-        requires tick { stamp ≤ 1000000000000 }
+        requires tick { stamp ≤ tick_limit }
         requires sendable { AllByRecursion (IsSendableChange schema.now) changes }
         ensures sent { OnOk result (self.new ≡ with_lines schema.now start.now (changes_for self.old.number position stamp changes subscriptions.now) self.old) }
         ensures changes { IfOk result (λ given. given ≡ changes) }

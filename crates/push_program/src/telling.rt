@@ -5,6 +5,7 @@ ghost use Rattle.serde_json.specs.View.{view};
 ghost use Rattle.serde_json.specs.Written.{has_float, compact_text};
 ghost use Rattle.yp_data_json.specs.Writing.{rows_json};
 ghost use Rattle.yp_schema.specs.Datastore.{AreWritable};
+ghost use Rattle.yp_time.specs.Ticks.{tick_limit};
 ghost use Rattle.yp_encode.specs.Sendable.{IsSendable};
 ghost use Rattle.push_program.specs.Report.{tag_word, reply_data, reply_line, sent_line, tree_line};
 
@@ -142,7 +143,7 @@ pub fn push_sent(
     stamp: u64,
     notice: &Notice,
 ) -> Result<(), NoMemory>
-    requires tick { stamp ≤ 1000000000000 }
+    requires tick { stamp ≤ tick_limit }
     requires sendable { IsSendable schema.now notice.now }
     ensures { OnOk result (string_bytes sent.new ≡ string_bytes sent.old ++ sent_line schema.now start.now name.now stamp notice.now) }
 {

@@ -2,6 +2,7 @@
 ghost use Rattle.std.specs.Prelude.{◌≡◌, ◌≤◌, [], IfOk, OnOk, map};
 ghost use Rattle.std.specs.List.{AllByRecursion};
 ghost use Rattle.yp_schema.specs.Datastore.{IsRowOf, AreWritable};
+ghost use Rattle.yp_time.specs.Ticks.{tick_limit};
 ghost use Rattle.yp_encode.specs.Sendable.{IsSendable, IsSendableChange};
 ghost use Rattle.push_program.specs.Access.{visible_rows};
 ghost use Rattle.push_program.specs.Desks.{with_lines, changes_for, notice_for};
@@ -61,7 +62,7 @@ pub fn send_one(
     notice: &Notice,
     desks: &mut [Desk],
 ) -> Result<(), NoMemory>
-    requires tick { stamp ≤ 1000000000000 }
+    requires tick { stamp ≤ tick_limit }
     requires sendable { IsSendable schema.now notice.now }
     ensures { OnOk result (desks.new ≡ map (λ desk. with_lines schema.now start.now (notice_for by position stamp desk.number notice.now) desk) desks.old) }
 {
@@ -82,7 +83,7 @@ pub fn send_all(
     changes: Changes,
     desks: &mut [Desk],
 ) -> Result<Changes, NoMemory>
-    requires tick { stamp ≤ 1000000000000 }
+    requires tick { stamp ≤ tick_limit }
     requires sendable { AllByRecursion (IsSendableChange schema.now) changes }
     ensures sent { OnOk result (desks.new ≡ map (λ desk. with_lines schema.now start.now (changes_for desk.number position stamp changes subscriptions.now) desk) desks.old) }
     ensures changes { IfOk result (λ given. given ≡ changes) }

@@ -7,6 +7,7 @@ ghost use Rattle.serde_json.specs.View.{view};
 ghost use Rattle.serde_json.specs.Written.{has_float, compact_text, comma_if, items_text, members_text};
 ghost use Rattle.yp_data_json.specs.Writing.{rows_json};
 ghost use Rattle.yp_schema.specs.Datastore.{is_path_of, AreWritable};
+ghost use Rattle.yp_time.specs.Ticks.{tick_limit};
 ghost use Rattle.yp_encode.specs.Lines.{operation_word, carries_value, edit_data, edits_from, mark, patch_data, name_of, body_of, id_member, reason_member, line_of};
 ghost use Rattle.yp_encode.specs.Texts.{stands_for_itself, head_text};
 ghost use Rattle.yp_encode.specs.Sendable.{IsSendable, IsSendableChange};
@@ -337,7 +338,7 @@ fn text_of(
     tick: u64,
     notice: &Notice,
 ) -> Result<String, NoMemory>
-    requires tick { tick ≤ 1000000000000 }
+    requires tick { tick ≤ tick_limit }
     requires sendable { IsSendable schema.now notice.now }
     ensures { IfOk result (λ text. string_bytes text ≡ line_of schema.now start.now tick notice.now) }
 {
@@ -365,7 +366,7 @@ pub fn line(
     tick: u64,
     notice: &Notice,
 ) -> Result<Txt, NoMemory>
-    requires tick { tick ≤ 1000000000000 }
+    requires tick { tick ≤ tick_limit }
     requires sendable { IsSendable schema.now notice.now }
     ensures { IfOk result (λ text. text ≡ line_of schema.now start.now tick notice.now) }
 {

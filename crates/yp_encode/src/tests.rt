@@ -1,6 +1,7 @@
 //! Lines of each kind of notification.
 ghost use Rattle.std.specs.Prelude.{◌≡◌, ◌≤◌, IfOk, true};
 ghost use Rattle.yp_schema.specs.Datastore.{AreWritable, ends_in_key, is_path_of, is_place};
+ghost use Rattle.yp_time.specs.Ticks.{tick_limit};
 ghost use Rattle.yp_encode.specs.Sendable.{IsSendable, IsSendableChange};
 
 use crate::line::line;
@@ -135,10 +136,10 @@ fn tells(
     notice: &Notice,
     expected: &str,
 ) -> Result<(), Fail>
-    requires tick { tick ≤ 1000000000000 }
+    requires tick { tick ≤ tick_limit }
     requires sendable { IsSendable schema.now notice.now }
 {
-    let start = Start::read(alloc, "2026-01-01T00:00:00Z")?;
+    let start = Start::read("2026-01-01T00:00:00Z")?;
     let text = line(alloc, schema, &start, tick, notice)?;
     assert_eq!(rt; text.as_str(), expected);
     Ok(())

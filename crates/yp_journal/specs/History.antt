@@ -7,6 +7,7 @@ use Rattle.yp_edit.specs.declared.patch.Edit.{Edit as PatchEdit}
 use Rattle.yp_edit.specs.declared.patch.Patch.{Patch}
 use Rattle.yp_edit.specs.Patches.{RefusedEdit, applied}
 use Rattle.yp_edit.specs.Shapes.{ids_of, patch_in}
+use Rattle.yp_time.specs.Ticks.{tick_limit}
 use Rattle.yp_journal.specs.declared.command.Command.{Command}
 use Rattle.yp_journal.specs.declared.command.Command.TheVariants.{Tick, Edit, Everything}
 use Rattle.yp_journal.specs.declared.entry.Entry.{Entry}
@@ -99,10 +100,6 @@ commands_of entries = map (λ entry. entry.command) entries
 -- the state after the entries of a journal
 abbrev pub state_of : List SchemaNode → JournalState → List Entry → JournalState
 state_of nodes state entries = state_after nodes state (commands_of entries)
-
--- the last tick
-abbrev pub tick_limit : ℕ
-tick_limit = 1000000000000
 
 -- a patch that can be read from JSON, with fewer edits than numbers of 32 bits
 pub record IsRead (patch : Patch) : Type 0 where

@@ -5,7 +5,8 @@ ghost use Rattle.yp_edit.specs.Answers.{LeavesAll, NamesOneOf};
 ghost use Rattle.yp_edit.specs.Changes.{changed_rows};
 ghost use Rattle.yp_edit.specs.Patches.{applied};
 ghost use Rattle.yp_journal.specs.declared.command.Command.TheVariants.{Edit};
-ghost use Rattle.yp_journal.specs.History.{first_state, one_further, with_tick, with_subscription, id_at, next_id, next_state, reply_to, is_refusal, tick_limit, MayCome};
+ghost use Rattle.yp_journal.specs.History.{first_state, one_further, with_tick, with_subscription, id_at, next_id, next_state, reply_to, is_refusal, MayCome};
+ghost use Rattle.yp_time.specs.Ticks.{tick_limit};
 
 use crate::command::Command;
 use crate::receiver::{ReceiverInfo, Receivers};
@@ -39,7 +40,8 @@ pub struct State {
 
 impl Model for State {
     ghost use Rattle.std.specs.Prelude.{◌≤◌};
-    ghost use Rattle.yp_journal.specs.History.{JournalState, tick_limit};
+    ghost use Rattle.yp_journal.specs.History.{JournalState};
+    ghost use Rattle.yp_time.specs.Ticks.{tick_limit};
 
     ghost Value = { JournalState };
 

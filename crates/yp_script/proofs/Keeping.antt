@@ -17,7 +17,8 @@ use Rattle.yp_edit.specs.Shapes.{patch_in}
 use Rattle.yp_journal.specs.declared.command.Command.{Command}
 use Rattle.yp_journal.specs.declared.command.Command.TheVariants as commands
 use Rattle.yp_journal.specs.declared.receiver.ReceiverInfo.{ReceiverInfo}
-use Rattle.yp_journal.specs.History.{MayCome, tick_limit}
+use Rattle.yp_journal.specs.History.{MayCome}
+use Rattle.yp_time.specs.Ticks.{tick_limit}
 use Rattle.yp_script.specs.declared.command.Laned.{Laned}
 use Rattle.yp_script.specs.declared.fault.ScriptKind.TheVariants as kinds
 use Rattle.yp_script.specs.declared.fault.ScriptFault.{ScriptFault}

@@ -8,7 +8,7 @@ use Rattle.yp_edit.specs.Shapes.{patch_in}
 use Rattle.yp_journal.specs.declared.command.Command.{Command}
 use Rattle.yp_journal.specs.declared.command.Command.TheVariants as commands
 use Rattle.yp_journal.specs.declared.receiver.ReceiverInfo.{ReceiverInfo}
-use Rattle.yp_journal.specs.History.{tick_limit}
+use Rattle.yp_time.specs.Ticks.{tick_limit}
 use Rattle.yp_time.specs.Instants.{start_in}
 use Rattle.yp_script.specs.declared.command.Laned.{Laned}
 use Rattle.yp_script.specs.declared.fault.ScriptKind.TheVariants as kinds

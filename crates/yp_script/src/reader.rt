@@ -76,10 +76,10 @@ impl Reader {
     }
 
     /// Takes the start.
-    fn take_start(&mut self, alloc: Global, json: &Json) -> Result<(), Halt>
+    fn take_start(&mut self, json: &Json) -> Result<(), Halt>
         ensures { Adds result self.old self.new (forms.Start (view json.now)) }
     {
-        self.start = Some(read_start(alloc, json)?);
+        self.start = Some(read_start(json)?);
         Ok(())
     }
 
@@ -166,7 +166,7 @@ impl Reader {
         ensures { Takes result self.old self.new line (seen_form form.entry) }
     {
         match form {
-            Form::Start(json) => self.take_start(alloc, json),
+            Form::Start(json) => self.take_start(json),
             Form::Schema(json) => self.take_part(line, json),
             Form::Receiver(json) => self.take_receiver(alloc, json),
             Form::Command(request) => self.take_command(alloc, request),

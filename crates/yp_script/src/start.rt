@@ -8,20 +8,18 @@ ghost use Rattle.yp_script.specs.Values.{start_said};
 use crate::fault::ScriptKind;
 use crate::halt::Halt;
 use serde_json::Value as Json;
-use std::alloc::Global;
 use yp_time::instant::InstantFault;
 use yp_time::start::Start;
 
 /// The start that a line gives.
-pub fn read_start(alloc: Global, json: &Json) -> Result<Start, Halt>
+pub fn read_start(json: &Json) -> Result<Start, Halt>
     ensures read { Tells result (start_said (view json.now)) }
     ensures within { IfOk result IsStart }
 {
     match json {
-        Json::String(text) => match Start::read(alloc, text.as_str()) {
+        Json::String(text) => match Start::read(text.as_str()) {
             Ok(start) => Ok(start),
             Err(InstantFault::BadInstant) => Err(Halt::Fault(ScriptKind::Instant)),
-            Err(InstantFault::Memory) => Err(Halt::Memory),
         },
         _ => Err(Halt::Fault(ScriptKind::Member)),
     }

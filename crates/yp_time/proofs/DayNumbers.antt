@@ -1,13 +1,10 @@
 -- Day numbers from 1970 on.
-use Rattle.std.proofs.Common.{◌≡◌, ℕ, ◌+◌, ◌<◌, ◌≤◌, refl, arith, ℤ, pos, ◌≤ℤ◌, unsigned_abs}
+use Rattle.std.proofs.Common.{◌≡◌, ℕ, ◌+◌, ◌<◌, ◌≤◌, refl, arith, ℤ, pos, ◌≤ℤ◌}
 use Rattle.std.proofs.lemmas.Int.{by_lt_z}
 use Rattle.jiff_core.specs.Calendar.{IsCivilDate, day_count, days_from_civil}
-use Rattle.jiff_core.specs.declared.civil.date.Date.{Date}
-use Rattle.jiff_core.specs.Date.{epoch_day}
 use Rattle.jiff_core.proofs.SignedLemmas.{signed_arith, unsigned_abs-parts, one_part}
 use Rattle.jiff_core.proofs.CalendarLemmas.{days_from_civil-day_count, day_count-epoch, day_count-later_year, day_count-day_of_year, day_count-lt_year}
 use Rattle.jiff_core.proofs.MarchLemmas.{day_count-early}
-use Rattle.jiff_core.proofs.DateLemmas.{civil}
 use Rattle.yp_time.specs.Days.{day_number, year_start}
 
 -- no year from 1970 on begins before 1970-01-01
@@ -21,9 +18,6 @@ first_of_year y from =
 pub not_negative : (y : ℤ) (m d : ℕ) → 1 ≤ d → pos 1970 ≤ℤ y → pos 0 ≤ℤ days_from_civil y m d
 not_negative y m d first from =
     omega (arith, signed_arith, days_from_civil-day_count, day_count-epoch, first_of_year y from, day_count-day_of_year y m d first)
-
-pub date_not_negative : (d : Date) → pos 1970 ≤ℤ d.year → pos 0 ≤ℤ epoch_day d
-date_not_negative d from = not_negative d.year d.month d.day d.day_in.0 from
 
 -- a day number is the calendar's count of days less that of 1970-01-01
 pub day_number-day_count : (year month day : ℕ) → 1970 ≤ year → 1 ≤ day → day_number year month day + 4_371_953 ≡ day_count (pos year) month day
@@ -46,12 +40,6 @@ before_later_year year month day last from there within =
       day_number-day_count (last + 1) 1 1 (omega arith) (omega arith),
       day_count-lt_year (pos year) month day (pos (last + 1)) 1 1 there (omega arith) (omega (arith, signed_arith)),
     )
-
--- the same of jiff's date
-pub date_before_later_year : (d : Date) (year last : ℕ) → d.year ≡ pos year → 1970 ≤ year → year ≤ last → unsigned_abs (epoch_day d) < day_number (last + 1) 1 1
-date_before_later_year d year last same from within =
-    let there : IsCivilDate (pos year) d.month d.day = rw same at (civil d) in
-    rw same (before_later_year year d.month d.day last from there within)
 
 year_2200 : day_count (pos 2200) 1 1 ≡ 4_455_959
 year_2200 = day_count-early (pos 2200) 12199 1 1 refl (omega arith) (omega arith) (omega arith)

@@ -1,3 +1,5 @@
+pub mod Clocks
+pub mod Dates
 pub mod DayNumbers
 pub mod DaysInOrder
 pub mod Multiples

@@ -1,6 +1,7 @@
 -- Days of the calendar and times of day (RFC 3339 section 5.7), by jiff's words for dates; seconds are counted from 1970-01-01T00:00:00Z, without leap seconds.
 use Rattle.std.specs.Prelude.{ℕ, zero, suc, ◌+◌, ◌*◌, ◌&&◌, Bool, if◌then◌else◌, nat_lt, nat_le, Option, Some, None, pos, unsigned_abs}
-use Rattle.jiff_core.specs.Calendar.{days_from_civil, days_in_month}
+use Rattle.jiff_core.specs.Calendar.{days_from_civil}
+use Rattle.jiff.specs.Words.{days_in_month}
 
 -- the calendar has this day
 abbrev pub is_date : ℕ → ℕ → ℕ → Bool

@@ -6,13 +6,13 @@ use Rattle.std.specs.Char.{is_ascii_digit}
 abbrev pub fits_place : ℕ → ℕ → Bool
 fits_place place byte = if place == 100 then is_ascii_digit byte else place == byte
 
--- what stands behind a form in front of a text
+-- what follows a form that a text begins with
 abbrev pub after_form : List ℕ → List ℕ → Option (List ℕ)
 after_form [] text = Some text
 after_form (place ∷ form) [] = None
 after_form (place ∷ form) (byte ∷ text) = if fits_place place byte then after_form form text else None
 
--- a form stands in front, and nothing behind it
+-- nothing follows the form
 abbrev pub is_nothing_more : Option (List ℕ) → Bool
 is_nothing_more None = false
 is_nothing_more (Some text) = length text == 0
@@ -29,9 +29,9 @@ digit_at text place = get_or text place 0 - 48
 abbrev pub pair_at : List ℕ → ℕ → ℕ
 pair_at text place = digit_at text place * 10 + digit_at text (place + 1)
 
--- the number that the four digits in front spell
-abbrev pub year_in_front : List ℕ → ℕ
-year_in_front text = pair_at text 0 * 100 + pair_at text 2
+-- the number that the first four digits spell
+abbrev pub leading_year : List ℕ → ℕ
+leading_year text = pair_at text 0 * 100 + pair_at text 2
 
 -- a number below 100 in two digits
 abbrev pub pair_text : ℕ → List ℕ

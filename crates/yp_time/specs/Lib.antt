@@ -2,3 +2,4 @@ pub mod Days
 pub mod Due
 pub mod Forms
 pub mod Instants
+pub mod Ticks

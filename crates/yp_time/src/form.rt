@@ -3,7 +3,7 @@ ghost use Rattle.std.specs.Prelude.{◌≡◌, ◌+◌, ◌*◌, ◌<◌, ◌≤
 ghost use Rattle.std.specs.Bool.{OnTrue};
 ghost use Rattle.std.specs.Char.{is_ascii_digit};
 ghost use Rattle.std.specs.List.{prefix_len};
-ghost use Rattle.yp_time.specs.Forms.{fits_place as fits, after_form as behind, has_form as is_whole, digit_at as digit, pair_at as pair, year_in_front as year};
+ghost use Rattle.yp_time.specs.Forms.{fits_place as fits, after_form as rest_after, has_form as is_whole, digit_at as digit, pair_at as pair, leading_year as year};
 
 fn fits_place(place: u8, byte: u8) -> bool
     ensures { result ≡ fits place byte }
@@ -15,9 +15,9 @@ fn fits_place(place: u8, byte: u8) -> bool
     }
 }
 
-/// What stands behind a form in front of a text. In the form `d` stands for a digit.
+/// What follows a form that a text begins with. In the form `d` stands for a digit.
 pub(crate) fn after_form<'a>(form: &[u8], text: &'a [u8]) -> Option<&'a [u8]>
-    ensures value { option_map (λ rest. rest.now) result ≡ behind form.now text.now }
+    ensures value { option_map (λ rest. rest.now) result ≡ rest_after form.now text.now }
     ensures long { IfSome result (λ rest. length text.now ≡ length form.now + length rest.now) }
 {
     match form.split_first() {
@@ -63,16 +63,16 @@ pub(crate) fn pair_at(text: &[u8], place: usize) -> u16
     digit_at(text, place) * 10 + digit_at(text, place + 1)
 }
 
-/// The number that the four digits in front spell.
-pub(crate) fn year_in_front(text: &[u8]) -> u32
+/// The number that the first four digits spell.
+pub(crate) fn leading_year(text: &[u8]) -> u32
     requires { 4 ≤ length text.now }
     ensures { result ≡ year text.now }
 {
     u32::from(pair_at(text, 0)) * 100 + u32::from(pair_at(text, 2))
 }
 
-/// How many digits stand in front.
-pub(crate) fn digits_in_front(text: &[u8]) -> usize
+/// How many digits a text begins with.
+pub(crate) fn leading_digits(text: &[u8]) -> usize
     ensures value { result ≡ prefix_len is_ascii_digit text.now }
     ensures within { result ≤ length text.now }
 {

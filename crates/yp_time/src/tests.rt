@@ -1,16 +1,18 @@
 //! Examples of texts, ticks and due ticks.
 ghost use Rattle.std.specs.Prelude.{◌≤◌};
+ghost use Rattle.yp_time.specs.Ticks.{tick_limit};
 
 use crate::due::next_due;
-use crate::instant::{Instant, InstantFault, anchor_ticks, event_instant};
+use crate::instant::{InstantFault, anchor_ticks, event_instant};
 use crate::start::Start;
 use crate::writing::event_time;
+use jiff::Timestamp;
 use std::alloc::Global;
 use std::process::Abort;
 
 // The seconds of a start.
-fn second_of(alloc: Global, text: &str) -> Option<u64> {
-    match Start::read(alloc, text) {
+fn second_of(text: &str) -> Option<u64> {
+    match Start::read(text) {
         Ok(start) => Some(start.second()),
         Err(_) => None,
     }
@@ -35,7 +37,7 @@ fn a_start_is_a_second_of_the_years_1970_to_2199(rt: HostRuntime) {
         ("2024-00-01T00:00:00Z", None),
         ("2024-01-00T00:00:00Z", None),
     ] {
-        assert_eq!(rt; second_of(rt.alloc(), text), second, "{text}");
+        assert_eq!(rt; second_of(text), second, "{text}");
     }
 }
 
@@ -57,16 +59,16 @@ fn a_start_has_one_form(rt: HostRuntime) {
         "+026-01-01T00:00:00Z",
         "2026/01/01T00:00:00Z",
     ] {
-        assert_eq!(rt; second_of(rt.alloc(), text), None, "{text}");
+        assert_eq!(rt; second_of(text), None, "{text}");
     }
-    let fault = Start::read(rt.alloc(), "2026");
+    let fault = Start::read("2026");
     assert!(rt; matches!(fault, Err(InstantFault::BadInstant)));
 }
 
 // The ticks from 2026-01-01T00:00:00Z to an anchor.
-fn ticks_to(rt: &impl Abort, alloc: Global, text: &str) -> Option<i64> {
-    match Start::read(alloc, "2026-01-01T00:00:00Z") {
-        Ok(start) => anchor_ticks(alloc, &start, text).ok(),
+fn ticks_to(rt: &impl Abort, text: &str) -> Option<i64> {
+    match Start::read("2026-01-01T00:00:00Z") {
+        Ok(start) => anchor_ticks(&start, text).ok(),
         Err(_) => panic!(rt; "no start"),
     }
 }
@@ -85,7 +87,7 @@ fn an_anchor_is_rounded_down(rt: HostRuntime) {
         ("1970-01-01T00:00:00Z", Some(-176_722_560_000)),
         ("2199-12-31T23:59:59.99Z", Some(549_089_279_999)),
     ] {
-        assert_eq!(rt; ticks_to(&rt, rt.alloc(), text), ticks, "{text}");
+        assert_eq!(rt; ticks_to(&rt, text), ticks, "{text}");
     }
 }
 
@@ -110,17 +112,14 @@ fn a_clock_that_is_ahead_shows_an_earlier_instant(rt: HostRuntime) {
         ("2199-12-31T22:59:59-01:00", Some(549_089_279_900)),
         ("2200-01-01T00:30:00+01:00", None),
     ] {
-        assert_eq!(rt; ticks_to(&rt, rt.alloc(), text), ticks, "{text}");
+        assert_eq!(rt; ticks_to(&rt, text), ticks, "{text}");
     }
 }
 
 #[test]
 fn an_event_time_goes_to_the_year_2999(rt: HostRuntime) {
-    let last = Instant {
-        second: 32_503_679_999,
-        nanosecond: 5_000_000,
-    };
-    assert!(rt; event_instant("2999-12-31T23:59:59.005Z") == Some(last));
+    let last = Timestamp::new(32_503_679_999, 5_000_000).ok();
+    assert!(rt; event_instant("2999-12-31T23:59:59.005Z") == last);
     assert!(rt; event_instant("3000-01-01T00:00:00Z") == None);
     assert!(rt; event_instant("2999-12-31T23:59:59-00:01") == None);
     assert!(rt; event_instant("1969-12-31T23:59:59Z") == None);
@@ -128,9 +127,9 @@ fn an_event_time_goes_to_the_year_2999(rt: HostRuntime) {
 
 // Whether the event time of a tick after a start is this text.
 fn is_written(alloc: Global, start: &str, tick: u64, text: &str) -> bool
-    requires { tick ≤ 1_000_000_000_000 }
+    requires { tick ≤ tick_limit }
 {
-    match Start::read(alloc, start) {
+    match Start::read(start) {
         Ok(start) => match event_time(alloc, &start, tick) {
             Ok(written) => written.as_str() == text,
             Err(_) => false,

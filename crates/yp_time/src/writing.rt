@@ -1,12 +1,15 @@
 //! Event times, written (RFC 5277 section 4).
-ghost use Rattle.std.specs.Prelude.{◌≡◌, ◌+◌, [], ◌∷◌, ◌++◌, ◌<◌, ◌≤◌, ℕ, ◌*◌, Some, pos, IfOk, OnOk};
+ghost use Rattle.std.specs.Prelude.{◌≡◌, ◌+◌, [], ◌∷◌, ◌++◌, ◌<◌, ◌≤◌, ℕ, ◌*◌, ◌/◌, ◌≤ℤ◌, Some, pos, unsigned_abs, IfOk, OnOk};
 ghost use Rattle.std.specs.String.{string_bytes};
+ghost use Rattle.jiff.specs.Words.{time_nanos};
 ghost use Rattle.yp_time.specs.Days.{day_in, day_after_epoch as counted};
 ghost use Rattle.yp_time.specs.Forms.{pair_text};
 ghost use Rattle.yp_time.specs.Instants.{event_text, date_text, time_text, event_in, event_year, anchor_in, instant_of, IsStart};
+ghost use Rattle.yp_time.specs.Ticks.{tick_limit};
 
-use crate::day::day_after_epoch;
+use crate::clock::clock_at;
 use crate::start::Start;
+use jiff::civil::{Date, Time};
 use std::alloc::Global;
 use yp_base::memory::NoMemory;
 use yp_base::txt::Txt;
@@ -17,56 +20,53 @@ const LENGTH: usize = 23;
 /// The event time of a tick, `YYYY-MM-DDThh:mm:ss.ccZ`.
 #[tactic(auto, unfolding(crate::specs::Instants::event_text))]
 pub fn event_time(alloc: Global, start: &Start, tick: u64) -> Result<Txt, NoMemory>
-    requires { tick ≤ 1_000_000_000_000 }
+    requires { tick ≤ tick_limit }
     ensures { IfOk result (λ text. text ≡ event_text start.now tick) }
 {
-    let ticks = start.second() * 100 + tick;
-    let second = ticks / 100;
-    let date = day_after_epoch((second / 86_400) as u32);
+    let hundredths = start.second() * 100 + tick;
+    let clock = clock_at(hundredths);
     let mut text = String::with_capacity(alloc, LENGTH)?;
-    push_date(
-        &mut text,
-        date.year as u16,
-        u16::from(date.month),
-        u16::from(date.day),
-    )?;
+    push_date(&mut text, clock.date())?;
     text.push('T')?;
-    push_time(&mut text, (second % 86_400) as u32)?;
+    push_time(&mut text, clock.time())?;
     text.push('.')?;
-    push_pair(&mut text, (ticks % 100) as u16)?;
+    push_pair(&mut text, (hundredths % 100) as u16)?;
     text.push('Z')?;
     Ok(Txt::from_string(text))
 }
 
-// A date behind a text.
-fn push_date(text: &mut String, year: u16, month: u16, day: u16) -> Result<(), NoMemory>
-    requires year_in { year < 10_000 }
-    requires month_in { month < 100 }
-    requires day_in { day < 100 }
-    ensures { OnOk result (string_bytes text.new
-        ≡ string_bytes text.old ++ date_text (record { year = year; month = month; day = day })) }
+// Appends a date.
+fn push_date(text: &mut String, date: Date) -> Result<(), NoMemory>
+    requires { pos 0 ≤ℤ date.year }
+    ensures { OnOk result (string_bytes text.new ≡ string_bytes text.old ++ date_text (record {
+      year = unsigned_abs date.year;
+      month = date.month;
+      day = date.day;
+    }
+        )) }
 {
+    let year = date.year() as u16;
     push_pair(text, year / 100)?;
     push_pair(text, year % 100)?;
     text.push('-')?;
-    push_pair(text, month)?;
+    push_pair(text, date.month() as u16)?;
     text.push('-')?;
-    push_pair(text, day)
+    push_pair(text, date.day() as u16)
 }
 
-// A time of day behind a text.
-fn push_time(text: &mut String, second: u32) -> Result<(), NoMemory>
-    requires { second < 86_400 }
-    ensures { OnOk result (string_bytes text.new ≡ string_bytes text.old ++ time_text second) }
+// Appends a time of day.
+fn push_time(text: &mut String, time: Time) -> Result<(), NoMemory>
+    ensures { OnOk result
+        (string_bytes text.new ≡ string_bytes text.old ++ time_text (time_nanos time / 1_000_000_000)) }
 {
-    push_pair(text, (second / 3600) as u16)?;
+    push_pair(text, time.hour() as u16)?;
     text.push(':')?;
-    push_pair(text, (second % 3600 / 60) as u16)?;
+    push_pair(text, time.minute() as u16)?;
     text.push(':')?;
-    push_pair(text, (second % 60) as u16)
+    push_pair(text, time.second() as u16)
 }
 
-// A number in two digits behind a text.
+// Appends a number in two digits.
 fn push_pair(text: &mut String, number: u16) -> Result<(), NoMemory>
     requires { number < 100 }
     ensures { OnOk result (string_bytes text.new ≡ string_bytes text.old ++ pair_text number) }
@@ -93,7 +93,7 @@ pub fn each_day_has_its_number()
 /// start.
 #[tactic(auto, using(crate::proofs::Written::event_again))]
 pub fn what_is_written_is_an_event_time()
-    ensures { (start tick : ℕ) → IsStart start → tick ≤ 1_000_000_000_000
+    ensures { (start tick : ℕ) → IsStart start → tick ≤ tick_limit
         → event_in (event_text start tick) ≡ Some (instant_of (start * 100 + tick)) }
 {}
 

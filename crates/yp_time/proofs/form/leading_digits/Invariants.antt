@@ -1,7 +1,7 @@
 use Rattle.std.proofs.Common.{◌≡◌, ◌+◌, drop}
 use Rattle.std.specs.Char.{is_ascii_digit}
 use Rattle.std.specs.List.{prefix_len}
-use Rattle.yp_time.proofs.form.digits_in_front.Given as goal
+use Rattle.yp_time.proofs.form.leading_digits.Given as goal
 
 abbrev pub invariant-loop-place : goal.invariant-loop-place
 invariant-loop-place l = prefix_len is_ascii_digit l.text ≡ l.place + prefix_len is_ascii_digit (drop l.place l.text)
