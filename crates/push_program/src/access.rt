@@ -58,6 +58,7 @@ pub fn may_read(schema: &Schema, path: &Path) -> bool
 }
 
 /// Of these rows those that may be read.
+#[tactic(auto, using(yp_schema::specs::SchemaLaws::row_path))]
 pub fn read_visible(alloc: Global, schema: &Schema, rows: Rows) -> Result<Rows, NoMemory>
     requires { AllByRecursion (IsRowOf schema.now) rows }
     ensures { IfOk result (λ seen. seen ≡ visible_rows schema.now rows) }
