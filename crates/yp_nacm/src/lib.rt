@@ -12,3 +12,5 @@ pub mod decide;
 pub mod execute;
 pub mod policy;
 pub mod readable;
+#[cfg(test)]
+mod tests;

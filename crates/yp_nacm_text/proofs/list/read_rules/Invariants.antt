@@ -1,0 +1,16 @@
+use Rattle.std.proofs.Common.{◌≡◌, ℕ, List, [], drop}
+use Rattle.std.specs.Prelude.{All}
+use Rattle.serde_json.specs.View.{items_view}
+use Rattle.yp_base.specs.Types.{is_among}
+use Rattle.yp_nacm_text.specs.Members.{each_in}
+use Rattle.yp_nacm_text.specs.Rules.{IsSubjectOf}
+use Rattle.yp_nacm_text.specs.Policies.{names_rule, next_rule}
+use Rattle.yp_nacm_text.proofs.list.read_rules.Given as goal
+
+-- the rules so far, and after them the others, are all; their names are taken, and their paths are of the schema
+abbrev pub invariant-loop-item : goal.invariant-loop-item
+invariant-loop-item l = record {
+  read : each_in (next_rule l.schema l.list) l.rules.items (items_view (drop l.item-index l.items)) ≡ each_in (next_rule l.schema l.list) [] (items_view l.fn.items);
+  names : (text : List ℕ) → is_among text l.names ≡ names_rule l.rules.items text;
+  paths : All (λ rule. IsSubjectOf l.schema rule.subject) l.rules.items;
+}
