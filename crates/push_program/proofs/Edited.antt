@@ -19,7 +19,7 @@ use Rattle.yp_edit.proofs.Alike.{are_one}
 use Rattle.yp_base.specs.PathLaws.{within_itself}
 use Rattle.yp_encode.specs.Sendable.{IsSendableChange}
 use Rattle.push_program.specs.Access.{is_readable, visible_rows}
-use Rattle.push_program.specs.Roots.{kind_of, carried_below, edit_of}
+use Rattle.push_program.specs.Roots.{kind_of, carried_below, row_edit}
 use Rattle.push_program.proofs.Selected.{value_picked}
 use Rattle.push_program.proofs.Selections.{all_picked, all_pass}
 
@@ -47,10 +47,11 @@ writable_below nodes path value rows order all may there =
       leaf = λ ends. ap is_some (value_picked (is_within path) path seen (within_itself path) ∙ value_picked (is_readable nodes) path rows may ∙ there);
     }
 
-sendable_of : (nodes : List SchemaNode) (rows : List Row) (row : ChangedRow) → AreInOrder rows → AllByRecursion (IsRowOf nodes) rows → is_path_of nodes row.path ≡ true → is_readable nodes row.path ≡ true → row.new ≡ value_at row.path rows
-    → IsSendableChange nodes (edit_of (visible_rows nodes rows) row)
+-- the edit of a changed row that may be read can be sent
+pub sendable_of : (nodes : List SchemaNode) (rows : List Row) (row : ChangedRow) → AreInOrder rows → AllByRecursion (IsRowOf nodes) rows → is_path_of nodes row.path ≡ true → is_readable nodes row.path ≡ true → row.new ≡ value_at row.path rows
+    → IsSendableChange nodes (row_edit (visible_rows nodes rows) row)
 sendable_of nodes rows row order all path may value =
-    let edit = λ (old new : Option Value). edit_of (visible_rows nodes rows) (record { path = row.path; old = old; new = new }) in
+    let edit = λ (old new : Option Value). row_edit (visible_rows nodes rows) (record { path = row.path; old = old; new = new }) in
     elim row.new as (λ new. new ≡ value_at row.path rows → IsSendableChange nodes (edit row.old new)) [
       | None ↦ λ is. record { served = refl; target = path; rows = refl; after = refl }
       | Some v ↦ λ is. elim row.old as (λ old. IsSendableChange nodes (edit old (Some v))) [
@@ -58,13 +59,6 @@ sendable_of nodes rows row order all path may value =
         | Some o ↦ record { served = refl; target = path; rows = writable_below nodes row.path v rows order all may (sym is); after = refl }
       ]
     ] value
-
--- the edit of a changed row that may be read can be sent
-pub edit_sendable : (nodes : List SchemaNode) (rows : List Row) (row : ChangedRow) (kind : ChangeKind) (target : List Seg) (carried : List Row) → kind ≡ kind_of row.old row.new → target ≡ row.path → carried ≡ carried_below (visible_rows nodes rows) row
-    → AreInOrder rows → AllByRecursion (IsRowOf nodes) rows → is_path_of nodes row.path ≡ true → is_readable nodes row.path ≡ true → row.new ≡ value_at row.path rows
-    → IsSendableChange nodes (record { kind = kind; target = target; rows = carried; after = None })
-edit_sendable nodes rows row kind target carried k t r order all path may value =
-    subst (λ (change : Change). IsSendableChange nodes change) (sym (λ i. record { kind = k i; target = t i; rows = r i; after = None })) (sendable_of nodes rows row order all path may value)
 
 -- what may be read of the rows at or below a path are the rows there of what may be read
 pub visible_within : (nodes : List SchemaNode) (path : List Seg) (rows : List Row) → visible_rows nodes (rows_within path rows) ≡ rows_within path (visible_rows nodes rows)

@@ -1,5 +1,5 @@
 -- The edits of changed rows, made one after another.
-use Rattle.std.proofs.Common.{◌≡◌, true, List, [], ◌∷◌, ◌++◌, map, Option, None, refl, sym, ap, subst, ◌∙◌, append-nil}
+use Rattle.std.proofs.Common.{◌≡◌, true, false, not, ◌&&◌, List, [], ◌∷◌, ◌++◌, map, Option, Some, None, refl, sym, ap, subst, ◌∙◌, cond, append-nil}
 use Rattle.std.specs.List.{AllByRecursion}
 use Rattle.yp_base.specs.declared.path.Seg.{Seg}
 use Rattle.yp_base.specs.declared.row.Row.{Row}
@@ -10,10 +10,12 @@ use Rattle.yp_schema.specs.Datastore.{is_path_of, IsRowOf, IsDatastore}
 use Rattle.yp_schema.specs.SchemaLaws.{row_path}
 use Rattle.yp_edit.specs.declared.changed.ChangedRow.{ChangedRow}
 use Rattle.yp_edit.specs.Changes.{changed_rows}
+use Rattle.yp_edit.specs.Drafts.{is_covered}
 use Rattle.yp_encode.specs.Sendable.{IsSendableChange}
 use Rattle.push_program.specs.Access.{is_readable, visible_rows}
 use Rattle.yp_edit.specs.Records.{change_record}
-use Rattle.push_program.specs.Roots.{edit_of}
+use Rattle.push_program.specs.Roots.{row_edit}
+use Rattle.push_program.proofs.Edited.{sendable_of}
 use Rattle.push_program.proofs.Recorded.{topmost, recorded}
 use Rattle.push_program.proofs.Selected.{IsBetween, all_between, changed_paths_keep}
 
@@ -40,18 +42,41 @@ changes_to nodes before rows changed old new are =
 
 -- the edits that are made of a selection where a root was found before
 abbrev pub edits_from : List SchemaNode → List Row → Option (List Seg) → List ChangedRow → List Change
-edits_from nodes selected root rows = map (edit_of selected) (topmost (is_readable nodes) root rows)
+edits_from nodes selected root rows = map (row_edit selected) (topmost (is_readable nodes) root rows)
+
+-- ---- each can be sent
+
+all_sendable : (nodes : List SchemaNode) (rows : List Row) (root : Option (List Seg)) (changed : List ChangedRow) → IsDatastore nodes rows → AllByRecursion (IsChangeTo nodes rows) changed
+    → AllByRecursion (IsSendableChange nodes) (edits_from nodes (visible_rows nodes rows) root changed)
+all_sendable nodes rows root [] datastore all = tt
+all_sendable nodes rows root (row ∷ changed) datastore all =
+    elim (is_readable nodes row.path) as (λ b. is_readable nodes row.path ≡ b → AllByRecursion (IsSendableChange nodes) (map (row_edit (visible_rows nodes rows))
+    (cond (b && not (is_covered root row.path)) (row ∷ topmost (is_readable nodes) (Some row.path) changed) (topmost (is_readable nodes) root changed)))) [
+      | true ↦ λ may. elim (is_covered root row.path) as (λ k. AllByRecursion (IsSendableChange nodes) (map (row_edit (visible_rows nodes rows))
+          (cond (not k) (row ∷ topmost (is_readable nodes) (Some row.path) changed) (topmost (is_readable nodes) root changed)))) [
+            | true ↦ all_sendable nodes rows root changed datastore all.1
+            | false ↦ (sendable_of nodes rows row datastore.in_order datastore.of_schema all.0.path may all.0.value, all_sendable nodes rows (Some row.path) changed datastore all.1)
+          ]
+      | false ↦ λ may. all_sendable nodes rows root changed datastore all.1
+    ] refl
+
+-- each edit of the record of a step can be sent
+pub record_sendable : (nodes : List SchemaNode) (before after : List Row) → IsDatastore nodes before → IsDatastore nodes after → AllByRecursion (IsSendableChange nodes) (change_record (visible_rows nodes before) (visible_rows nodes after))
+record_sendable nodes before after old new =
+    subst (λ (changes : List Change). AllByRecursion (IsSendableChange nodes) changes) (recorded (is_readable nodes) before after old.in_order)
+    (all_sendable nodes after None (changed_rows before after) new (changes_to nodes before after (changed_rows before after) old new refl))
+
+-- ---- one after another
 
 -- edits made so far, where a root was found last and these rows of all changed ones are left
 pub record Makes (nodes : List SchemaNode) (rows : List Row) (changed left : List ChangedRow) (root : Option (List Seg)) (made : List Change) : Type 0 where
   pub changes : AllByRecursion (IsChangeTo nodes rows) left
   pub edits : made ++ edits_from nodes (visible_rows nodes rows) root left ≡ edits_from nodes (visible_rows nodes rows) None changed
-  pub sendable : AllByRecursion (IsSendableChange nodes) made
 
 module _ (nodes : List SchemaNode) (rows : List Row) (changed : List ChangedRow) where
   -- before the first row
   pub none_made : (made : List Change) → made ≡ [] → AllByRecursion (IsChangeTo nodes rows) changed → Makes nodes rows changed changed None made
-  none_made made none all = subst (λ (made : List Change). Makes nodes rows changed changed None made) (sym none) (record { changes = all; edits = refl; sendable = tt })
+  none_made made none all = subst (λ (made : List Change). Makes nodes rows changed changed None made) (sym none) (record { changes = all; edits = refl })
 
   -- the edits of all changed rows are the record
   pub all_made : (before : List Row) (left : List ChangedRow) (root : Option (List Seg)) (made : List Change) → Makes nodes rows changed left root made → left ≡ [] → IsDatastore nodes before → changed ≡ changed_rows before rows

@@ -7,7 +7,9 @@ use Rattle.yp_journal.specs.declared.command.Command.{Command}
 use Rattle.yp_journal.specs.History.{JournalState, first_state, next_state}
 use Rattle.yp_script.specs.declared.script.Script.{Script}
 use Rattle.push_program.specs.Journal.{turn_of, of_lane, IsJournalOf}
-use Rattle.push_program.specs.Turns.{Turn, turns_of, lane_turns, turns_in, entries_from, journal_of}
+use Rattle.push_program.specs.declared.turns.Turn.{Turn}
+use Rattle.push_program.specs.Turns.{turns_of, lane_turns, serial_turns, entries_from, journal_of}
+use Rattle.push_program.proofs.Everywhere.{all_joined}
 
 -- the entries of turns have these turns
 turns_kept : (nodes : List SchemaNode) (state : JournalState) (turns : List Turn) → map turn_of (entries_from nodes state turns) ≡ turns
@@ -66,20 +68,16 @@ of_one : (n lane index : ℕ) (commands : List Command) → 0 < lane → lane �
 of_one n lane index [] some most = tt
 of_one n lane index (command ∷ commands) some most = ((some, most), of_one n lane (index + 1) commands some most)
 
-of_both : (n : ℕ) (turns more : List Turn) → IsOfLanes n turns → IsOfLanes n more → IsOfLanes n (turns ++ more)
-of_both n [] more here later = later
-of_both n (turn ∷ turns) more here later = (here.0, of_both n turns more here.1 later)
-
 of_all : (n first : ℕ) (lanes : List (List Command)) → 0 < first → first + length lanes ≤ n + 1 → IsOfLanes n (lane_turns first lanes)
 of_all n first [] some most = tt
 of_all n first (commands ∷ lanes) some most =
-    of_both n (turns_of first 1 commands) (lane_turns (first + 1) lanes) (of_one n first 1 commands some (omega (arith, most))) (of_all n (first + 1) lanes (omega (arith, some)) (omega (arith, most)))
+    all_joined (λ (turn : Turn). (0 < turn.lane) × (turn.lane ≤ n)) (turns_of first 1 commands) (lane_turns (first + 1) lanes) (of_one n first 1 commands some (omega (arith, most))) (of_all n (first + 1) lanes (omega (arith, some)) (omega (arith, most)))
 
 -- the journal of a script has its commands
 pub journal_is : (script : Script) → IsJournalOf script (journal_of script)
 journal_is script = record {
   middle = lane_turns 1 script.lanes;
-  turns = turns_kept script.schema (first_state script.receivers) (turns_in script);
+  turns = turns_kept script.schema (first_state script.receivers) (serial_turns script.before script.lanes script.after);
   lanes = record {
     each = λ place commands there. lane_at 1 place (place + 1) script.lanes commands there (omega arith);
     others = of_all (length script.lanes) 1 script.lanes (omega arith) (omega arith);

@@ -12,14 +12,19 @@ use Rattle.yp_journal.specs.declared.entry.Entry.{Entry}
 use Rattle.yp_journal.specs.declared.receiver.ReceiverInfo.{ReceiverInfo}
 use Rattle.yp_journal.specs.declared.subscription.Subscription.{Subscription}
 use Rattle.yp_journal.specs.History.{JournalState, first_state, next_state, state_of}
+use Rattle.yp_journal.proofs.Journals.{position_of}
 use Rattle.yp_journal.proofs.Keeping.{opening_datastore, command_keeps}
-use Rattle.push_program.specs.Access.{visible_rows}
+use Rattle.push_program.specs.Access.{is_readable, visible_rows}
 use Rattle.push_program.specs.Concealed.{RisesPast, NeverFall}
-use Rattle.push_program.specs.Notices.{of_id, Made, is_given, change_update, updates_of, made_of, made_at, made_from, made_by, state_at, want}
-use Rattle.push_program.specs.Progress.{Fits}
-use Rattle.yp_base.specs.Rows.{changed_by}
-use Rattle.push_program.specs.Received.{heard, received, updates, IsFresh, Mirrors, Opens}
+use Rattle.push_program.specs.declared.made.Made.{Made}
+use Rattle.push_program.specs.Notices.{of_id, is_given, change_update, updates_of, attempts_at, attempts_from, made_for, made_by, state_at, want}
+use Rattle.push_program.specs.Runs.{Fits}
+use Rattle.yp_base.specs.Rows.{changed_by, put_rows}
+use Rattle.yp_base.specs.RowLaws.{put_to_none, some_keep_order}
+use Rattle.push_program.specs.Received.{held_of, received, updates, IsFresh, Mirrors}
 use Rattle.yp_edit.specs.Records.{change_record}
+use Rattle.push_program.proofs.Attempts.{made_of, made_joined}
+use Rattle.push_program.proofs.Held.{heard_of, received_of, held_received}
 use Rattle.push_program.proofs.Own.{own, own_update, own_at, received_own, own_split}
 use Rattle.push_program.proofs.RecordLaws.{record_mirrors, no_record}
 use Rattle.push_program.proofs.Subscriptions.{given_is, given_kept, ids_kept, given_stays, has_id}
@@ -30,10 +35,14 @@ fits_first nodes receivers schema = record { schema = schema; datastore = openin
 pub fits_next : (nodes : List SchemaNode) (state : JournalState) (command : Command) → Fits nodes state → Fits nodes (next_state nodes state command)
 fits_next nodes state command fits = record { schema = fits.schema; datastore = command_keeps nodes state command fits.datastore; given = given_kept nodes state command fits.given; ids = ids_kept nodes state command fits.given fits.ids }
 
-pub next_position : (nodes : List SchemaNode) (state : JournalState) (command : Command) → (next_state nodes state command).position ≡ state.position + 1
-next_position nodes state (commands.Tick tick) = refl
-next_position nodes state (commands.Edit patch) = refl
-next_position nodes state (commands.Everything by) = refl
+-- what all steps make of a subscription's updates is what the first makes, and then what the others make
+own_on : (nodes : List SchemaNode) (receiver id : ℕ) (state : JournalState) (entry : Entry) (entries : List Entry)
+    → own id (made_for receiver (attempts_from nodes state (entry ∷ entries)))
+    ≡ own id (made_for receiver (attempts_at nodes state (next_state nodes state entry.command))) ++ own id (made_for receiver (attempts_from nodes (next_state nodes state entry.command) entries))
+own_on nodes receiver id state entry entries =
+    let here = attempts_at nodes state (next_state nodes state entry.command) in
+    let later = attempts_from nodes (next_state nodes state entry.command) entries in
+    ap (own id) (made_joined receiver here later) ∙ filter-append (λ (m : Made). updates id m.notice) (made_for receiver here) (made_for receiver later)
 
 -- ---- one step
 
@@ -44,7 +53,7 @@ Holds nodes receiver id state held = (s : Subscription) → of_id id state.subsc
 -- what a step makes for a subscription: nothing where nothing has to be heard, or one update that leaves fresh selection
 abbrev IsStep : List SchemaNode → ℕ → ℕ → JournalState → Option (List Row) → List Made → Type 0
 IsStep nodes receiver id after held [] = Holds nodes receiver id after held
-IsStep nodes receiver id after held (made ∷ []) = (made.position ≡ after.position) × IsFresh nodes after receiver id (heard id made.notice held)
+IsStep nodes receiver id after held (made ∷ []) = (made.position ≡ after.position) × IsFresh nodes after receiver id (heard_of id made.notice held)
 IsStep nodes receiver id after held (made ∷ other ∷ more) = ⊥
 
 none_held : (nodes : List SchemaNode) (receiver id : ℕ) (after : JournalState) (held : Option (List Row)) (s : Subscription) → of_id id after.subscriptions ≡ Some s → (s.receiver == receiver) ≡ false → Holds nodes receiver id after held
@@ -88,30 +97,30 @@ was_given nodes receiver id before after held s true mine was is fits next holds
 
 -- one that the step establishes hears all
 is_new : (nodes : List SchemaNode) (receiver id : ℕ) (before after : JournalState) (held : Option (List Row)) (s : Subscription) (r : Bool)
-    → (s.receiver == receiver) ≡ r → of_id id before.subscriptions ≡ None → of_id id after.subscriptions ≡ Some s
+    → (s.receiver == receiver) ≡ r → of_id id before.subscriptions ≡ None → of_id id after.subscriptions ≡ Some s → Fits nodes after
     → IsStep nodes receiver id after held (cond r (made_of after (updates_of nodes before after s)) [])
-is_new nodes receiver id before after held s false mine was is = none_held nodes receiver id after held s is mine
-is_new nodes receiver id before after held s true mine was is =
+is_new nodes receiver id before after held s false mine was is next = none_held nodes receiver id after held s is mine
+is_new nodes receiver id before after held s true mine was is next =
     let same : s.id ≡ id = has_id id after.subscriptions s is in
     let given : is_given s.id before.subscriptions ≡ false = ap (λ n. is_given n before.subscriptions) same ∙ given_is id before.subscriptions ∙ ap (λ (o : Option Subscription). is_some o) was in
     subst (λ (b : Bool). IsStep nodes receiver id after held (made_of after (cond b (change_update s.id after.position (change_record (visible_rows nodes before.rows) (visible_rows nodes after.rows))) (Full s.id (visible_rows nodes after.rows) ∷ [])))) (sym given)
-    (refl, record { subscription = s; given = is; mine = same_one s.receiver receiver mine; rows = ap (λ b. cond b (Some (visible_rows nodes after.rows)) held) (itself id s.id same) })
+    (refl, record { subscription = s; given = is; mine = same_one s.receiver receiver mine; rows = ap (λ b. cond b (Some (put_rows (visible_rows nodes after.rows) [])) held) (itself id s.id same) ∙ ap (λ (rows : List Row). Some rows) (put_to_none (visible_rows nodes after.rows) (some_keep_order (is_readable nodes) after.rows next.datastore.in_order)) })
 
 new_or_none : (nodes : List SchemaNode) (receiver id : ℕ) (before after : JournalState) (held : Option (List Row)) (now : Option Subscription)
-    → of_id id before.subscriptions ≡ None → of_id id after.subscriptions ≡ now → IsStep nodes receiver id after held (own_update nodes receiver before after now)
-new_or_none nodes receiver id before after held None was is = λ s there mine. let never : None ≡ Some s = sym is ∙ there in cc
-new_or_none nodes receiver id before after held (Some s) was is = is_new nodes receiver id before after held s (s.receiver == receiver) refl was is
+    → of_id id before.subscriptions ≡ None → of_id id after.subscriptions ≡ now → Fits nodes after → IsStep nodes receiver id after held (own_update nodes receiver before after now)
+new_or_none nodes receiver id before after held None was is next = λ s there mine. let never : None ≡ Some s = sym is ∙ there in cc
+new_or_none nodes receiver id before after held (Some s) was is next = is_new nodes receiver id before after held s (s.receiver == receiver) refl was is next
 
 one_step : (nodes : List SchemaNode) (receiver id : ℕ) (before : JournalState) (command : Command) (held : Option (List Row)) (was : Option Subscription) → of_id id before.subscriptions ≡ was → Fits nodes before → Holds nodes receiver id before held
     → IsStep nodes receiver id (next_state nodes before command) held (own_update nodes receiver before (next_state nodes before command) (of_id id (next_state nodes before command).subscriptions))
-one_step nodes receiver id before command held None was fits holds = new_or_none nodes receiver id before (next_state nodes before command) held (of_id id (next_state nodes before command).subscriptions) was refl
+one_step nodes receiver id before command held None was fits holds = new_or_none nodes receiver id before (next_state nodes before command) held (of_id id (next_state nodes before command).subscriptions) was refl (fits_next nodes before command fits)
 one_step nodes receiver id before command held (Some s) was fits holds =
     let is : of_id id (next_state nodes before command).subscriptions ≡ Some s = given_stays nodes before command id s was in
     subst (λ (o : Option Subscription). IsStep nodes receiver id (next_state nodes before command) held (own_update nodes receiver before (next_state nodes before command) o)) (sym is)
     (was_given nodes receiver id before (next_state nodes before command) held s (s.receiver == receiver) refl was is fits (fits_next nodes before command fits) holds)
 
 step_own : (nodes : List SchemaNode) (receiver id : ℕ) (before : JournalState) (command : Command) (held : Option (List Row)) → Fits nodes before → Holds nodes receiver id before held
-    → IsStep nodes receiver id (next_state nodes before command) held (own id (made_at nodes receiver before (next_state nodes before command)))
+    → IsStep nodes receiver id (next_state nodes before command) held (own id (made_for receiver (attempts_at nodes before (next_state nodes before command))))
 step_own nodes receiver id before command held fits holds =
     subst (λ (made : List Made). IsStep nodes receiver id (next_state nodes before command) held made) (sym (own_at nodes receiver id before (next_state nodes before command) (fits_next nodes before command fits).ids))
     (one_step nodes receiver id before command held (of_id id before.subscriptions) refl fits holds)
@@ -122,26 +131,26 @@ step_own nodes receiver id before command held fits holds =
 record IsMirrored (nodes : List SchemaNode) (receiver id : ℕ) (state : JournalState) (held : Option (List Row)) (entries : List Entry) (before : List Made) (update : Made) : Type 0 where
   count : ℕ
   position : update.position ≡ state.position + count
-  fresh : IsFresh nodes (state_of nodes state (take count entries)) receiver id (received id held (before ++ update ∷ []))
+  fresh : IsFresh nodes (state_of nodes state (take count entries)) receiver id (received_of id held (before ++ update ∷ []))
 
 -- a step that made an update leaves what each subscription of the id selects
 fresh_holds : (nodes : List SchemaNode) (state : JournalState) (receiver id : ℕ) (held : Option (List Row)) → IsFresh nodes state receiver id held → Holds nodes receiver id state held
 fresh_holds nodes state receiver id held fresh s there mine = fresh.rows
 
 further : (nodes : List SchemaNode) (receiver id : ℕ) (state : JournalState) (entry : Entry) (entries : List Entry) (held was : Option (List Row)) (before all : List Made) (update : Made)
-    → received id was (all ++ update ∷ []) ≡ received id held (before ++ update ∷ [])
+    → received_of id was (all ++ update ∷ []) ≡ received_of id held (before ++ update ∷ [])
     → IsMirrored nodes receiver id (next_state nodes state entry.command) held entries before update → IsMirrored nodes receiver id state was (entry ∷ entries) all update
 further nodes receiver id state entry entries held was before all update same is = record {
   count = suc is.count;
-  position = omega (arith, is.position, next_position nodes state entry.command);
+  position = omega (arith, is.position, position_of nodes state (entry ∷ []));
   fresh = subst (λ (rows : Option (List Row)). IsFresh nodes (state_of nodes (next_state nodes state entry.command) (take is.count entries)) receiver id rows) (sym same) is.fresh;
 }
 
 -- what one step makes stands in front
 mirrored_at : (nodes : List SchemaNode) (receiver id : ℕ) (state : JournalState) (held : Option (List Row)) (entry : Entry) (entries : List Entry) (made before : List Made) (update : Made) (after : List Made)
     → IsStep nodes receiver id (next_state nodes state entry.command) held made
-    → made ++ own id (made_from nodes receiver (next_state nodes state entry.command) entries) ≡ before ++ update ∷ after
-    → ((now : Option (List Row)) (front : List Made) → Holds nodes receiver id (next_state nodes state entry.command) now → own id (made_from nodes receiver (next_state nodes state entry.command) entries) ≡ front ++ update ∷ after
+    → made ++ own id (made_for receiver (attempts_from nodes (next_state nodes state entry.command) entries)) ≡ before ++ update ∷ after
+    → ((now : Option (List Row)) (front : List Made) → Holds nodes receiver id (next_state nodes state entry.command) now → own id (made_for receiver (attempts_from nodes (next_state nodes state entry.command) entries)) ≡ front ++ update ∷ after
     → IsMirrored nodes receiver id (next_state nodes state entry.command) now entries front update)
     → IsMirrored nodes receiver id state held (entry ∷ entries) before update
 mirrored_at nodes receiver id state held entry entries [] before update after step is later =
@@ -150,23 +159,23 @@ mirrored_at nodes receiver id state held entry entries (made ∷ []) [] update a
     let one : made ≡ update = cc in
     record {
       count = 1;
-      position = ap (λ (m : Made). m.position) (sym one) ∙ step.0 ∙ next_position nodes state entry.command;
-      fresh = subst (λ (m : Made). IsFresh nodes (next_state nodes state entry.command) receiver id (heard id m.notice held)) one step.1;
+      position = ap (λ (m : Made). m.position) (sym one) ∙ step.0 ∙ position_of nodes state (entry ∷ []);
+      fresh = subst (λ (m : Made). IsFresh nodes (next_state nodes state entry.command) receiver id (heard_of id m.notice held)) one step.1;
     }
 mirrored_at nodes receiver id state held entry entries (made ∷ []) (m ∷ before) update after step is later =
     let one : made ≡ m = cc in
-    let rest : own id (made_from nodes receiver (next_state nodes state entry.command) entries) ≡ before ++ update ∷ after = cc in
-    further nodes receiver id state entry entries (heard id made.notice held) held before (m ∷ before) update (ap (λ (x : Made). received id (heard id x.notice held) (before ++ update ∷ [])) (sym one))
-    (later (heard id made.notice held) before (fresh_holds nodes (next_state nodes state entry.command) receiver id (heard id made.notice held) step.1) rest)
+    let rest : own id (made_for receiver (attempts_from nodes (next_state nodes state entry.command) entries)) ≡ before ++ update ∷ after = cc in
+    further nodes receiver id state entry entries (heard_of id made.notice held) held before (m ∷ before) update (ap (λ (x : Made). received_of id (heard_of id x.notice held) (before ++ update ∷ [])) (sym one))
+    (later (heard_of id made.notice held) before (fresh_holds nodes (next_state nodes state entry.command) receiver id (heard_of id made.notice held) step.1) rest)
 mirrored_at nodes receiver id state held entry entries (made ∷ other ∷ more) before update after step is later = absurd step
 
 mirrored : (nodes : List SchemaNode) (receiver id : ℕ) (state : JournalState) (held : Option (List Row)) (entries : List Entry) (before : List Made) (update : Made) (after : List Made) → Fits nodes state → Holds nodes receiver id state held
-    → own id (made_from nodes receiver state entries) ≡ before ++ update ∷ after → IsMirrored nodes receiver id state held entries before update
+    → own id (made_for receiver (attempts_from nodes state entries)) ≡ before ++ update ∷ after → IsMirrored nodes receiver id state held entries before update
 mirrored nodes receiver id state held [] [] update after fits holds is = absurd cc
 mirrored nodes receiver id state held [] (m ∷ before) update after fits holds is = absurd cc
 mirrored nodes receiver id state held (entry ∷ entries) before update after fits holds is =
-    mirrored_at nodes receiver id state held entry entries (own id (made_at nodes receiver state (next_state nodes state entry.command))) before update after (step_own nodes receiver id state entry.command held fits holds)
-    (sym (filter-append (λ (m : Made). updates id m.notice) (made_at nodes receiver state (next_state nodes state entry.command)) (made_from nodes receiver (next_state nodes state entry.command) entries)) ∙ is)
+    mirrored_at nodes receiver id state held entry entries (own id (made_for receiver (attempts_at nodes state (next_state nodes state entry.command)))) before update after (step_own nodes receiver id state entry.command held fits holds)
+    (sym (own_on nodes receiver id state entry entries) ∙ is)
     (λ now front holds_now. mirrored nodes receiver id (next_state nodes state entry.command) now entries front update after (fits_next nodes state entry.command fits) holds_now)
 
 -- before any command nothing is given
@@ -179,36 +188,10 @@ mirrors nodes receivers entries receiver schema id before update after is mine =
     (ap (own id) is ∙ own_split id before update after mine) in
     let position : update.position ≡ 0 + m.count = m.position in
     let at : m.count ≡ update.position = omega (arith, position) in
-    let same : received id None (before ++ update ∷ []) ≡ received id None (own id before ++ update ∷ []) =
-    received_own id (before ++ update ∷ []) None ∙ ap (λ made. received id None made) (own_split id before update [] mine) in
+    let same : held_of id (received [] (before ++ update ∷ [])) ≡ received_of id None (own id before ++ update ∷ []) =
+    held_received id (before ++ update ∷ []) [] ∙ received_own id (before ++ update ∷ []) None ∙ ap (λ made. received_of id None made) (own_split id before update [] mine) in
     subst (λ (rows : Option (List Row)). IsFresh nodes (state_at nodes receivers entries update.position) receiver id rows) (sym same)
-    (subst (λ (n : ℕ). IsFresh nodes (state_of nodes (first_state receivers) (take n entries)) receiver id (received id None (own id before ++ update ∷ []))) at m.fresh)
-
--- ---- at the end
-
-held_at : (nodes : List SchemaNode) (receiver id : ℕ) (state : JournalState) (held : Option (List Row)) (entry : Entry) (entries : List Entry) (made : List Made) → IsStep nodes receiver id (next_state nodes state entry.command) held made
-    → ((now : Option (List Row)) → Holds nodes receiver id (next_state nodes state entry.command) now
-    → Holds nodes receiver id (state_of nodes (next_state nodes state entry.command) entries) (received id now (own id (made_from nodes receiver (next_state nodes state entry.command) entries))))
-    → Holds nodes receiver id (state_of nodes (next_state nodes state entry.command) entries) (received id held (made ++ own id (made_from nodes receiver (next_state nodes state entry.command) entries)))
-held_at nodes receiver id state held entry entries [] step later = later held step
-held_at nodes receiver id state held entry entries (made ∷ []) step later = later (heard id made.notice held) (fresh_holds nodes (next_state nodes state entry.command) receiver id (heard id made.notice held) step.1)
-held_at nodes receiver id state held entry entries (made ∷ other ∷ more) step later = absurd step
-
-held_on : (nodes : List SchemaNode) (receiver id : ℕ) (state : JournalState) (held : Option (List Row)) (entries : List Entry) → Fits nodes state → Holds nodes receiver id state held
-    → Holds nodes receiver id (state_of nodes state entries) (received id held (own id (made_from nodes receiver state entries)))
-held_on nodes receiver id state held [] fits holds = holds
-held_on nodes receiver id state held (entry ∷ entries) fits holds =
-    subst (λ (made : List Made). Holds nodes receiver id (state_of nodes (next_state nodes state entry.command) entries) (received id held made))
-    (sym (filter-append (λ (m : Made). updates id m.notice) (made_at nodes receiver state (next_state nodes state entry.command)) (made_from nodes receiver (next_state nodes state entry.command) entries)))
-    (held_at nodes receiver id state held entry entries (own id (made_at nodes receiver state (next_state nodes state entry.command))) (step_own nodes receiver id state entry.command held fits holds)
-    (λ now holds_now. held_on nodes receiver id (next_state nodes state entry.command) now entries (fits_next nodes state entry.command fits) holds_now))
-
--- a subscription that was given has fresh selection held of it
-pub held_at_end : (nodes : List SchemaNode) (receivers : List ReceiverInfo) (entries : List Entry) (receiver : ℕ) (s : Subscription) → IsSchema nodes → of_id s.id (state_of nodes (first_state receivers) entries).subscriptions ≡ Some s → (s.receiver == receiver) ≡ true
-    → received s.id None (made_by nodes receivers entries receiver) ≡ Some (visible_rows nodes (state_of nodes (first_state receivers) entries).rows)
-held_at_end nodes receivers entries receiver s schema there mine =
-    received_own s.id (made_by nodes receivers entries receiver) None
-    ∙ held_on nodes receiver s.id (first_state receivers) None entries (fits_first nodes receivers schema) (none_given nodes receiver s.id receivers) s there mine
+    (subst (λ (n : ℕ). IsFresh nodes (state_of nodes (first_state receivers) (take n entries)) receiver id (received_of id None (own id before ++ update ∷ []))) at m.fresh)
 
 -- ---- positions
 
@@ -217,22 +200,22 @@ sooner n k [] less all = tt
 sooner n k (m ∷ made) less all = (omega (arith, less, all.0), all.1)
 
 rise_at : (nodes : List SchemaNode) (receiver id : ℕ) (state : JournalState) (held : Option (List Row)) (entry : Entry) (entries : List Entry) (made : List Made) → IsStep nodes receiver id (next_state nodes state entry.command) held made
-    → ((now : Option (List Row)) → Holds nodes receiver id (next_state nodes state entry.command) now → RisesPast (next_state nodes state entry.command).position (own id (made_from nodes receiver (next_state nodes state entry.command) entries)))
-    → RisesPast state.position (made ++ own id (made_from nodes receiver (next_state nodes state entry.command) entries))
+    → ((now : Option (List Row)) → Holds nodes receiver id (next_state nodes state entry.command) now → RisesPast (next_state nodes state entry.command).position (own id (made_for receiver (attempts_from nodes (next_state nodes state entry.command) entries))))
+    → RisesPast state.position (made ++ own id (made_for receiver (attempts_from nodes (next_state nodes state entry.command) entries)))
 rise_at nodes receiver id state held entry entries [] step later =
-    let past : state.position < (next_state nodes state entry.command).position = omega (arith, next_position nodes state entry.command) in
-    sooner state.position (next_state nodes state entry.command).position (own id (made_from nodes receiver (next_state nodes state entry.command) entries)) past (later held step)
+    let past : state.position < (next_state nodes state entry.command).position = omega (arith, position_of nodes state (entry ∷ [])) in
+    sooner state.position (next_state nodes state entry.command).position (own id (made_for receiver (attempts_from nodes (next_state nodes state entry.command) entries))) past (later held step)
 rise_at nodes receiver id state held entry entries (made ∷ []) step later =
-    let past : state.position < made.position = omega (arith, step.0, next_position nodes state entry.command) in
-    (past, subst (λ (n : ℕ). RisesPast n (own id (made_from nodes receiver (next_state nodes state entry.command) entries))) (sym step.0) (later (heard id made.notice held) (fresh_holds nodes (next_state nodes state entry.command) receiver id (heard id made.notice held) step.1)))
+    let past : state.position < made.position = omega (arith, step.0, position_of nodes state (entry ∷ [])) in
+    (past, subst (λ (n : ℕ). RisesPast n (own id (made_for receiver (attempts_from nodes (next_state nodes state entry.command) entries)))) (sym step.0) (later (heard_of id made.notice held) (fresh_holds nodes (next_state nodes state entry.command) receiver id (heard_of id made.notice held) step.1)))
 rise_at nodes receiver id state held entry entries (made ∷ other ∷ more) step later = absurd step
 
-rise : (nodes : List SchemaNode) (receiver id : ℕ) (state : JournalState) (held : Option (List Row)) (entries : List Entry) → Fits nodes state → Holds nodes receiver id state held → RisesPast state.position (own id (made_from nodes receiver state entries))
+rise : (nodes : List SchemaNode) (receiver id : ℕ) (state : JournalState) (held : Option (List Row)) (entries : List Entry) → Fits nodes state → Holds nodes receiver id state held → RisesPast state.position (own id (made_for receiver (attempts_from nodes state entries)))
 rise nodes receiver id state held [] fits holds = tt
 rise nodes receiver id state held (entry ∷ entries) fits holds =
     subst (λ (made : List Made). RisesPast state.position made)
-    (sym (filter-append (λ (m : Made). updates id m.notice) (made_at nodes receiver state (next_state nodes state entry.command)) (made_from nodes receiver (next_state nodes state entry.command) entries)))
-    (rise_at nodes receiver id state held entry entries (own id (made_at nodes receiver state (next_state nodes state entry.command))) (step_own nodes receiver id state entry.command held fits holds)
+    (sym (own_on nodes receiver id state entry entries))
+    (rise_at nodes receiver id state held entry entries (own id (made_for receiver (attempts_at nodes state (next_state nodes state entry.command)))) (step_own nodes receiver id state entry.command held fits holds)
     (λ now holds_now. rise nodes receiver id (next_state nodes state entry.command) now entries (fits_next nodes state entry.command fits) holds_now))
 
 pub never_fall : (nodes : List SchemaNode) (receivers : List ReceiverInfo) (entries : List Entry) (receiver : ℕ) → IsSchema nodes → NeverFall (made_by nodes receivers entries receiver)

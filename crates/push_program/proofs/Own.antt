@@ -1,4 +1,5 @@
 -- What is made for one subscription: an update at most for each step.
+use Rattle.std.specs.List.{flat_map}
 use Rattle.std.proofs.Common.{◌≡◌, ℕ, ◌+◌, ◌==◌, ◌<◌, Bool, true, false, List, [], ◌∷◌, ◌++◌, filter, Option, Some, None, unwrap_or, refl, ap, ◌∙◌, cond, arith, append-nil}
 use Rattle.std.proofs.lemmas.List.Elements.{filter-append}
 use Rattle.yp_base.specs.declared.notice.Change.{Change}
@@ -9,11 +10,14 @@ use Rattle.yp_schema.specs.declared.schema.SchemaNode.{SchemaNode}
 use Rattle.yp_journal.specs.declared.subscription.Subscription.{Subscription}
 use Rattle.yp_journal.specs.History.{JournalState, next_id}
 use Rattle.push_program.specs.Access.{visible_rows}
-use Rattle.push_program.specs.Notices.{of_id, Made, is_given, change_update, updates_of, made_of, made_for, made_at}
-use Rattle.yp_base.specs.Rows.{changed_by}
-use Rattle.push_program.specs.Received.{heard, received, updates}
+use Rattle.push_program.specs.declared.made.Made.{Made}
+use Rattle.push_program.specs.Notices.{of_id, is_given, change_update, updates_of, attempts_for, attempts_at, made_for}
+use Rattle.yp_base.specs.Rows.{changed_by, put_rows}
+use Rattle.push_program.specs.Received.{updates}
 use Rattle.yp_edit.specs.Records.{change_record}
-use Rattle.push_program.specs.Progress.{AreIds}
+use Rattle.push_program.specs.Runs.{AreIds}
+use Rattle.push_program.proofs.Attempts.{made_of, made_joined, made_mine}
+use Rattle.push_program.proofs.Held.{heard_of, received_of}
 use Rattle.push_program.proofs.Subscriptions.{none_of_id}
 
 -- those of some notices that are updates of a subscription
@@ -47,36 +51,40 @@ one_own false true nodes id before after subscription is = refl
 one_own false false nodes id before after subscription is = refl
 
 own_for : (n : ℕ) (nodes : List SchemaNode) (receiver id : ℕ) (before after : JournalState) (subscriptions : List Subscription) → AreIds n subscriptions
-    → own id (made_for nodes receiver before after subscriptions) ≡ own_update nodes receiver before after (of_id id subscriptions)
+    → own id (made_for receiver (flat_map (attempts_for nodes before after) subscriptions)) ≡ own_update nodes receiver before after (of_id id subscriptions)
 own_for n nodes receiver id before after [] ids = refl
 own_for n nodes receiver id before after (subscription ∷ subscriptions) ids =
-    filter-append (λ (m : Made). updates id m.notice) (cond (subscription.receiver == receiver) (made_of after (updates_of nodes before after subscription)) []) (made_for nodes receiver before after subscriptions)
+    ap (own id) (made_joined receiver (attempts_for nodes before after subscription) (flat_map (attempts_for nodes before after) subscriptions) ∙ ap (λ made. made ++ others) (made_mine receiver after subscription (updates_of nodes before after subscription)))
+    ∙ filter-append (λ (m : Made). updates id m.notice) mine others
     ∙ at (subscription.id == id) refl (own_for (n + 1) nodes receiver id before after subscriptions ids.1)
   where
     mine : List Made
     mine = cond (subscription.receiver == receiver) (made_of after (updates_of nodes before after subscription)) []
 
-    at : (b : Bool) → (subscription.id == id) ≡ b → own id (made_for nodes receiver before after subscriptions) ≡ own_update nodes receiver before after (of_id id subscriptions)
-        → own id mine ++ own id (made_for nodes receiver before after subscriptions) ≡ own_update nodes receiver before after (cond b (Some subscription) (of_id id subscriptions))
+    others : List Made
+    others = made_for receiver (flat_map (attempts_for nodes before after) subscriptions)
+
+    at : (b : Bool) → (subscription.id == id) ≡ b → own id others ≡ own_update nodes receiver before after (of_id id subscriptions)
+        → own id mine ++ own id others ≡ own_update nodes receiver before after (cond b (Some subscription) (of_id id subscriptions))
     at true is rest =
         let past : id < next_id (n + 1) = grind (arith, ids.0, is) in
         let none : of_id id subscriptions ≡ None = none_of_id (n + 1) id subscriptions ids.1 past in
-        let others : own id (made_for nodes receiver before after subscriptions) ≡ [] = rest ∙ ap (own_update nodes receiver before after) none in
+        let nothing : own id others ≡ [] = rest ∙ ap (own_update nodes receiver before after) none in
         let here : own id mine ≡ mine = one_own (subscription.receiver == receiver) true nodes id before after subscription is in
-        (λ i. here i ++ others i) ∙ append-nil mine
+        (λ i. here i ++ nothing i) ∙ append-nil mine
     at false is rest =
         let here : own id mine ≡ [] = one_own (subscription.receiver == receiver) false nodes id before after subscription is in
-        ap (λ made. made ++ own id (made_for nodes receiver before after subscriptions)) here ∙ rest
+        ap (λ made. made ++ own id others) here ∙ rest
 
 -- what a step makes of a subscription's updates
 pub own_at : (nodes : List SchemaNode) (receiver id : ℕ) (before after : JournalState) → AreIds 0 after.subscriptions
-    → own id (made_at nodes receiver before after) ≡ own_update nodes receiver before after (of_id id after.subscriptions)
+    → own id (made_for receiver (attempts_at nodes before after)) ≡ own_update nodes receiver before after (of_id id after.subscriptions)
 own_at nodes receiver id before after ids = own_for 0 nodes receiver id before after after.subscriptions ids
 
 -- ---- other notices change nothing of what is held
 
-heard_other : (id : ℕ) (notice : Notice) (held : Option (List Row)) → updates id notice ≡ false → heard id notice held ≡ held
-heard_other id (Full other new) held is = ap (λ b. cond b (Some new) held) is
+heard_other : (id : ℕ) (notice : Notice) (held : Option (List Row)) → updates id notice ≡ false → heard_of id notice held ≡ held
+heard_other id (Full other new) held is = ap (λ b. cond b (Some (put_rows new [])) held) is
 heard_other id (Changes other patch_id changes incomplete) held is = ap (λ b. cond b (Some (changed_by changes (unwrap_or held []))) held) is
 heard_other id (Started other) held is = refl
 heard_other id (Modified other) held is = refl
@@ -84,13 +92,13 @@ heard_other id (Suspended other) held is = refl
 heard_other id (Resumed other) held is = refl
 heard_other id (Terminated other) held is = refl
 
-pub received_own : (id : ℕ) (made : List Made) (held : Option (List Row)) → received id held made ≡ received id held (own id made)
+pub received_own : (id : ℕ) (made : List Made) (held : Option (List Row)) → received_of id held made ≡ received_of id held (own id made)
 received_own id [] held = refl
 received_own id (m ∷ made) held = at (updates id m.notice) refl (received_own id made)
   where
-    at : (b : Bool) → updates id m.notice ≡ b → ((h : Option (List Row)) → received id h made ≡ received id h (own id made)) → received id (heard id m.notice held) made ≡ received id held (cond b (m ∷ own id made) (own id made))
-    at true is rest = rest (heard id m.notice held)
-    at false is rest = ap (λ h. received id h made) (heard_other id m.notice held is) ∙ rest held
+    at : (b : Bool) → updates id m.notice ≡ b → ((h : Option (List Row)) → received_of id h made ≡ received_of id h (own id made)) → received_of id (heard_of id m.notice held) made ≡ received_of id held (cond b (m ∷ own id made) (own id made))
+    at true is rest = rest (heard_of id m.notice held)
+    at false is rest = ap (λ h. received_of id h made) (heard_other id m.notice held is) ∙ rest held
 
 -- those up to an update
 pub own_split : (id : ℕ) (before : List Made) (update : Made) (after : List Made) → updates id update.notice ≡ true → own id (before ++ update ∷ after) ≡ own id before ++ update ∷ own id after

@@ -9,11 +9,12 @@ use Rattle.yp_base.specs.Rows.{AreInOrder, value_at}
 use Rattle.yp_base.specs.RowLaws.{picked, some_keep_order}
 use Rattle.yp_edit.specs.declared.changed.ChangedRow.{ChangedRow}
 use Rattle.yp_edit.specs.Changes.{changed_rows}
+use Rattle.yp_edit.specs.Drafts.{is_covered}
 use Rattle.yp_edit.proofs.Alike.{keys}
 use Rattle.yp_edit.proofs.Differing.{changed_entries, changed_sorted}
 use Rattle.yp_base.specs.Paths.{topmost as roots_of}
 use Rattle.yp_edit.specs.Records.{change_at, changed_paths, change_record}
-use Rattle.push_program.specs.Roots.{is_covered, edit_of}
+use Rattle.push_program.specs.Roots.{row_edit}
 use Rattle.push_program.proofs.Selected.{IsBetween, all_between, value_picked, chosen, changed_picked}
 use Rattle.push_program.proofs.Topmost.{tops, roots_found}
 
@@ -44,18 +45,18 @@ module _ (p : List Seg → Bool) where
         | false ↦ paths_topmost root rows
       ]
 
-  one_edit : (old new : List Row) (row : ChangedRow) → p row.path ≡ true → IsBetween old new row → change_at (picked p old) (picked p new) row.path ≡ edit_of (picked p new) row
+  one_edit : (old new : List Row) (row : ChangedRow) → p row.path ≡ true → IsBetween old new row → change_at (picked p old) (picked p new) row.path ≡ row_edit (picked p new) row
   one_edit old new row may values =
       let before : value_at row.path (picked p old) ≡ row.old = value_picked p row.path old may ∙ sym values.before in
       let after : value_at row.path (picked p new) ≡ row.new = value_picked p row.path new may ∙ sym values.after in
-      λ i. edit_of (picked p new) (record { path = row.path; old = before i; new = after i })
+      λ i. row_edit (picked p new) (record { path = row.path; old = before i; new = after i })
 
   edits_of : (old new : List Row) (root : Option (List Seg)) (rows : List ChangedRow) → AllByRecursion (IsBetween old new) rows
-      → map (change_at (picked p old) (picked p new)) (paths_in (topmost root rows)) ≡ map (edit_of (picked p new)) (topmost root rows)
+      → map (change_at (picked p old) (picked p new)) (paths_in (topmost root rows)) ≡ map (row_edit (picked p new)) (topmost root rows)
   edits_of old new root [] all = refl
   edits_of old new root (row ∷ rows) all =
       let change = change_at (picked p old) (picked p new) in
-      let edit = edit_of (picked p new) in
+      let edit = row_edit (picked p new) in
       elim (p row.path) as (λ b. p row.path ≡ b → map change (paths_in (cond (b && not (is_covered root row.path)) (row ∷ topmost (Some row.path) rows) (topmost root rows))) ≡ map edit (cond (b && not (is_covered root row.path)) (row ∷ topmost (Some row.path) rows) (topmost root rows))) [
         | true ↦ λ may. elim (is_covered root row.path) as (λ k. map change (paths_in (cond (not k) (row ∷ topmost (Some row.path) rows) (topmost root rows))) ≡ map edit (cond (not k) (row ∷ topmost (Some row.path) rows) (topmost root rows))) [
           | true ↦ edits_of old new root rows all.1
@@ -65,7 +66,7 @@ module _ (p : List Seg → Bool) where
       ] refl
 
   -- the edits of the topmost changed rows that are picked are the record of what is picked
-  pub recorded : (old new : List Row) → AreInOrder old → map (edit_of (picked p new)) (topmost None (changed_rows old new)) ≡ change_record (picked p old) (picked p new)
+  pub recorded : (old new : List Row) → AreInOrder old → map (row_edit (picked p new)) (topmost None (changed_rows old new)) ≡ change_record (picked p old) (picked p new)
   recorded old new order =
       let change = change_at (picked p old) (picked p new) in
       let paths : changed_paths (picked p old) (picked p new) ≡ paths_in (chosen p (changed_rows old new)) = ap paths_in (changed_picked p old new order) in

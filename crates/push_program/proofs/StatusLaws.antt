@@ -1,5 +1,5 @@
 -- What each status tells a caller follows from the one relation of a call.
-use Rattle.std.proofs.Common.{◌≡◌, ℕ, true, true≢false, List, [], Option, Some, None, drop, Result, Ok, Err, refl, sym, ap, ◌∙◌, subst}
+use Rattle.std.proofs.Common.{◌≡◌, ℕ, ◌+◌, true, true≢false, List, [], Option, Some, None, drop, Result, Ok, Err, refl, sym, ap, ◌∙◌, subst}
 use Rattle.std.specs.Prelude.{IfSome, ◌++◌}
 use Rattle.yp_script.specs.declared.fault.ScriptKind.{ScriptKind}
 use Rattle.yp_script.specs.declared.script.Script.{Script}
@@ -8,6 +8,7 @@ use Rattle.push_program.specs.declared.top.Status.TheVariants.{Done, BadWords, B
 use Rattle.push_program.specs.Answers.{Streams, Answers, is_run, tells_good_words, tells_whole_reading, TellsReading, TellsWriting, tells_no_writing, FitsScript, IsComplete}
 use Rattle.push_program.specs.Promise.{WritesTold, WritesPrefix}
 use Rattle.yp_script.specs.Faults.{LineFault}
+use Rattle.yp_script.specs.Lines.{byte_limit}
 use Rattle.yp_script.specs.Script.{script_in}
 use Rattle.yp_script.proofs.Limits.{nothing_behind}
 
@@ -35,7 +36,7 @@ done_told words s ReadFault h is = absurd cc
 done_told words s WriteFault h is = absurd cc
 done_told words s NoMemory h is = absurd cc
 
-ended : (left before after written : Option (List ℕ)) → IfSome left (λ bytes. after ≡ Some (drop 67108865 bytes))
+ended : (left before after written : Option (List ℕ)) → IfSome left (λ bytes. after ≡ Some (drop (byte_limit + 1) bytes))
     → WritesTold left before written
     → IfSome left (λ bytes. after ≡ Some [])
 ended None before after written read h = h
@@ -49,7 +50,7 @@ end_told words s ReadFault h is = absurd cc
 end_told words s WriteFault h is = absurd cc
 end_told words s NoMemory h is = absurd cc
 
-pub read_told : (words : List (List ℕ)) (s : Streams) (status : Status) → Answers words s status → tells_whole_reading status ≡ true → IfSome s.left_before (λ bytes. s.left_after ≡ Some (drop 67108865 bytes))
+pub read_told : (words : List (List ℕ)) (s : Streams) (status : Status) → Answers words s status → tells_whole_reading status ≡ true → IfSome s.left_before (λ bytes. s.left_after ≡ Some (drop (byte_limit + 1) bytes))
 read_told words s Done h is = h.1.0
 read_told words s BadWords h is = absurd (true≢false (sym is))
 read_told words s (BadScript line kind) h is = h.1.0

@@ -6,7 +6,7 @@ use Rattle.yp_journal.specs.declared.command.Command.TheVariants.{Tick, Edit, Ev
 use Rattle.yp_journal.specs.declared.subscription.Subscription.{Subscription}
 use Rattle.yp_journal.specs.History.{JournalState, next_id, next_state}
 use Rattle.push_program.specs.Notices.{of_id, is_given}
-use Rattle.push_program.specs.Progress.{AreIds}
+use Rattle.push_program.specs.Runs.{AreIds}
 
 pub given_is : (id : ℕ) (subscriptions : List Subscription) → is_given id subscriptions ≡ is_some (of_id id subscriptions)
 given_is id [] = refl

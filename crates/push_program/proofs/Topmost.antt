@@ -12,7 +12,7 @@ use Rattle.yp_base.specs.Prefixes.{fronts_together, front_not_after}
 use Rattle.yp_edit.proofs.Alike.{IsBefore}
 use Rattle.yp_base.specs.PathLaws.{within_itself, within_through}
 use Rattle.yp_base.specs.Paths.{is_above, topmost as roots_of}
-use Rattle.push_program.specs.Roots.{is_covered}
+use Rattle.yp_edit.specs.Drafts.{is_covered}
 
 -- what comes before a path isn't at or below it
 outside : (path other : List Seg) → path_cmp path other ≡ Greater → is_within path other ≡ false

@@ -1,13 +1,12 @@
 -- What a status says of the words, the source and the sink.
-use Rattle.std.specs.Prelude.{◌≡◌, ℕ, List, [], ◌∷◌, drop, Bool, true, false, codes, nat_eq, Option, Some, IfSome, Result, Ok, Err}
+use Rattle.std.specs.Prelude.{◌≡◌, ℕ, ◌+◌, List, [], ◌∷◌, drop, Bool, true, false, codes, nat_eq, Option, Some, IfSome, Result, Ok, Err}
 use Rattle.std.specs.Cmp.Lexicographic.{pointwise}
 use Rattle.yp_io.specs.Causes.{Rose}
-use Rattle.yp_script.specs.declared.fault.ScriptFault.{ScriptFault}
-use Rattle.yp_script.specs.declared.fault.ScriptFault.TheVariants.{At, Memory}
 use Rattle.yp_script.specs.declared.script.Script.{Script}
 use Rattle.yp_script.specs.Faults.{LineFault}
 use Rattle.push_program.specs.declared.top.Status.{Status}
 use Rattle.push_program.specs.declared.top.Status.TheVariants.{Done, BadWords, BadScript, ReadFault, WriteFault, NoMemory}
+use Rattle.yp_script.specs.Lines.{byte_limit}
 use Rattle.yp_script.specs.Script.{script_in}
 use Rattle.push_program.specs.Promise.{WritesTold, WritesPrefix}
 
@@ -30,16 +29,11 @@ pub record Streams : Type 0 where
 
 -- the source was read to its end, or one byte past the most that a script has; that byte is a fault of its line
 abbrev pub ReadsAll : Streams → Type 0
-ReadsAll s = IfSome s.left_before (λ bytes. s.left_after ≡ Some (drop 67108865 bytes)) × (s.read_faults_after ≡ s.read_faults_before)
+ReadsAll s = IfSome s.left_before (λ bytes. s.left_after ≡ Some (drop (byte_limit + 1) bytes)) × (s.read_faults_after ≡ s.read_faults_before)
 
 -- nothing was written
 abbrev pub WritesNothing : Streams → Type 0
 WritesNothing s = (s.written_after ≡ s.written_before) × (s.write_faults_after ≡ s.write_faults_before)
-
--- a fault is that of the script, but where memory ran out
-abbrev pub Fails : ScriptFault → Result Script LineFault → Type 0
-Fails (At line kind) read = read ≡ Err (record { line = line; kind = kind })
-Fails Memory read = Unit {0}
 
 abbrev pub Answers : List (List ℕ) → Streams → Status → Type 0
 Answers words s Done = (is_run words ≡ true) × ReadsAll s × WritesTold s.left_before s.written_before s.written_after × (s.write_faults_after ≡ s.write_faults_before)

@@ -7,7 +7,7 @@ use Rattle.yp_base.specs.declared.notice.Notice.{Notice}
 use Rattle.yp_base.specs.declared.notice.Notice.TheVariants.{Full, Changes, Started, Modified, Suspended, Resumed, Terminated}
 use Rattle.yp_schema.specs.declared.schema.SchemaNode.{SchemaNode}
 use Rattle.push_program.specs.Access.{is_readable}
-use Rattle.push_program.specs.Notices.{Made}
+use Rattle.push_program.specs.declared.made.Made.{Made}
 use Rattle.push_program.specs.Received.{updates}
 
 -- each of these rows may be read

@@ -4,7 +4,8 @@ use Rattle.std.specs.List.{AllByRecursion, slice_get}
 use Rattle.yp_journal.specs.declared.command.Command.{Command}
 use Rattle.yp_journal.specs.declared.entry.Entry.{Entry}
 use Rattle.yp_script.specs.declared.script.Script.{Script}
-use Rattle.push_program.specs.Turns.{Turn, turns_of}
+use Rattle.push_program.specs.declared.turns.Turn.{Turn}
+use Rattle.push_program.specs.Turns.{turns_of}
 
 -- the command of an entry, with its lane and its number there
 abbrev pub turn_of : Entry → Turn

@@ -4,9 +4,9 @@ pub mod Concealed
 pub mod Desks
 pub mod Journal
 pub mod Notices
-pub mod Progress
 pub mod Promise
 pub mod Received
 pub mod Report
 pub mod Roots
+pub mod Runs
 pub mod Turns

@@ -1,17 +1,18 @@
 -- The updates of subscriptions of everything (RFC 8641 sections 3.7 and 3.9): a full update where a subscription is established, and then the record of each step that changes what its receiver may read.
-use Rattle.std.specs.Prelude.{ℕ, ◌+◌, ◌==◌, List, [], ◌∷◌, ◌++◌, map, take, Bool, false, Option, if◌then◌else◌}
-use Rattle.std.specs.List.{find, list_any}
+use Rattle.std.specs.Prelude.{ℕ, ◌+◌, ◌==◌, List, [], ◌∷◌, ◌++◌, map, filter, take, Bool, false, Option, if◌then◌else◌}
+use Rattle.std.specs.List.{find, flat_map, list_any}
 use Rattle.yp_base.specs.declared.row.Row.{Row}
 use Rattle.yp_base.specs.declared.notice.Change.{Change}
 use Rattle.yp_base.specs.declared.notice.Notice.{Notice}
 use Rattle.yp_base.specs.declared.notice.Notice.TheVariants.{Full, Changes}
 use Rattle.yp_schema.specs.declared.schema.SchemaNode.{SchemaNode}
+use Rattle.yp_edit.specs.Records.{change_record}
 use Rattle.yp_journal.specs.declared.entry.Entry.{Entry}
 use Rattle.yp_journal.specs.declared.receiver.ReceiverInfo.{ReceiverInfo}
 use Rattle.yp_journal.specs.declared.subscription.Subscription.{Subscription}
 use Rattle.yp_journal.specs.History.{JournalState, first_state, next_state, state_of}
+use Rattle.push_program.specs.declared.made.Made.{Made}
 use Rattle.push_program.specs.Access.{visible_rows}
-use Rattle.yp_edit.specs.Records.{change_record}
 
 -- the state that the entries of a journal up to a position leave
 abbrev pub state_at : List SchemaNode → List ReceiverInfo → List Entry → ℕ → JournalState
@@ -20,12 +21,6 @@ state_at nodes receivers entries n = state_of nodes (first_state receivers) (tak
 -- what a subscription selects at a state: all that its receiver may read
 abbrev pub want : List SchemaNode → JournalState → Subscription → List Row
 want nodes state subscription = visible_rows nodes state.rows
-
--- a notice, with the position of the journal and the tick at which it was made
-pub record Made : Type 0 where
-  pub position : ℕ
-  pub stamp : ℕ
-  pub notice : Notice
 
 -- the subscription of an id
 abbrev pub of_id : ℕ → List Subscription → Option Subscription
@@ -46,29 +41,44 @@ updates_of nodes before after subscription =
     then change_update subscription.id after.position (change_record (want nodes before subscription) (want nodes after subscription))
     else Full subscription.id (want nodes after subscription) ∷ []
 
--- notices that are made at the position and the tick of a state
-abbrev pub made_of : JournalState → List Notice → List Made
-made_of state notices = map (λ notice. record { position = state.position; stamp = state.stamp; notice = notice }) notices
+-- ---- attempts
 
--- the same for these subscriptions in order, where they are the receiver's of this number
-abbrev pub made_for : List SchemaNode → ℕ → JournalState → JournalState → List Subscription → List Made
-made_for nodes receiver before after [] = []
-made_for nodes receiver before after (subscription ∷ subscriptions) =
-    (if subscription.receiver == receiver then made_of after (updates_of nodes before after subscription) else []) ++ made_for nodes receiver before after subscriptions
+-- a notice that is made for the receiver of this number
+pub record Attempt : Type 0 where
+  pub receiver : ℕ
+  pub made : Made
 
--- all that is made for a receiver by a step
-abbrev pub made_at : List SchemaNode → ℕ → JournalState → JournalState → List Made
-made_at nodes receiver before after = made_for nodes receiver before after after.subscriptions
+-- a notice of a subscription, made at the position and the tick of a state for the subscription's receiver
+abbrev pub attempt_of : JournalState → Subscription → Notice → Attempt
+attempt_of state subscription notice = record { receiver = subscription.receiver; made = record { position = state.position; stamp = state.stamp; notice = notice } }
 
--- by the entries of a journal that find this state
-abbrev pub made_from : List SchemaNode → ℕ → JournalState → List Entry → List Made
-made_from nodes receiver state [] = []
-made_from nodes receiver state (entry ∷ entries) =
-    made_at nodes receiver state (next_state nodes state entry.command) ++ made_from nodes receiver (next_state nodes state entry.command) entries
+-- what a step makes of one subscription
+abbrev pub attempts_for : List SchemaNode → JournalState → JournalState → Subscription → List Attempt
+attempts_for nodes before after subscription = map (attempt_of after subscription) (updates_of nodes before after subscription)
+
+-- what a step makes of all subscriptions that there are after it, in the order of their ids
+abbrev pub attempts_at : List SchemaNode → JournalState → JournalState → List Attempt
+attempts_at nodes before after = flat_map (attempts_for nodes before after) after.subscriptions
+
+-- what the entries of a journal make that find a state
+abbrev pub attempts_from : List SchemaNode → JournalState → List Entry → List Attempt
+attempts_from nodes state [] = []
+attempts_from nodes state (entry ∷ entries) =
+    attempts_at nodes state (next_state nodes state entry.command) ++ attempts_from nodes (next_state nodes state entry.command) entries
+
+-- all that a journal makes
+abbrev pub attempts_of : List SchemaNode → List ReceiverInfo → List Entry → List Attempt
+attempts_of nodes receivers entries = attempts_from nodes (first_state receivers) entries
+
+-- ---- what a receiver is made
+
+-- of some attempts those for the receiver of this number
+abbrev pub made_for : ℕ → List Attempt → List Made
+made_for receiver attempts = map (λ attempt. attempt.made) (filter (λ attempt. attempt.receiver == receiver) attempts)
 
 -- all that a journal makes for the receiver of this number
 abbrev pub made_by : List SchemaNode → List ReceiverInfo → List Entry → ℕ → List Made
-made_by nodes receivers entries receiver = made_from nodes receiver (first_state receivers) entries
+made_by nodes receivers entries receiver = made_for receiver (attempts_of nodes receivers entries)
 
 -- the same for receivers in order, the first of which has this number
 abbrev pub made_for_each : (ℕ → List Made) → ℕ → List ReceiverInfo → List (List Made)

@@ -10,9 +10,10 @@ use Rattle.yp_script.specs.declared.script.Script.{Script}
 use Rattle.yp_script.specs.Script.{script_in}
 use Rattle.push_program.specs.Concealed.{Conceals, NeverFall}
 use Rattle.push_program.specs.Journal.{IsJournalOf}
-use Rattle.push_program.specs.Notices.{Made, made_by}
+use Rattle.push_program.specs.declared.made.Made.{Made}
+use Rattle.push_program.specs.Notices.{made_by}
 use Rattle.push_program.specs.Received.{Mirrors, Opens}
-use Rattle.push_program.specs.Report.{report_text}
+use Rattle.push_program.specs.Report.{report_of, report_text}
 use Rattle.push_program.specs.Turns.{journal_of}
 
 -- what the receiver of this number was made by a journal
@@ -45,7 +46,7 @@ pub record Tells (bytes text : List ℕ) : Type 0 where
   pub each : length made ≡ length script.receivers
   pub serves : (receiver : ℕ) (mine : List Made) → slice_get made receiver ≡ Some mine → Serves script.schema script.receivers entries receiver mine
   -- the text is the report of just these
-  pub report : text ≡ report_text script.schema script.start script.receivers entries made
+  pub report : text ≡ report_text script.schema script.start (report_of script.receivers entries made)
 
 -- of the bytes that were left such a text was written, whole
 abbrev pub WritesTold : Option (List ℕ) → Option (List ℕ) → Option (List ℕ) → Type 0

@@ -1,9 +1,12 @@
--- What a receiver holds of a subscription: the fold of its notices (RFC 8641 section 3.7).
-use Rattle.std.specs.Prelude.{◌≡◌, ℕ, ◌+◌, ◌==◌, List, [], ◌∷◌, ◌++◌, length, filter, nat_lt, Bool, true, false, Option, Some, None, unwrap_or, if◌then◌else◌}
+-- What a receiver holds: the fold of its notices (RFC 8641 section 3.7).
+use Rattle.std.specs.Prelude.{◌≡◌, ℕ, ◌+◌, ◌==◌, List, [], ◌∷◌, ◌++◌, length, Bool, true, false, Option, Some, unwrap_or}
+use Rattle.std.specs.BTreeMap.{insert_entry, is_at}
+use Rattle.std.specs.Map.{lookup}
+use Rattle.std.specs.Ordering.{nat_cmp}
 use Rattle.yp_base.specs.declared.row.Row.{Row}
 use Rattle.yp_base.specs.declared.notice.Notice.{Notice}
 use Rattle.yp_base.specs.declared.notice.Notice.TheVariants.{Full, Changes, Started, Modified, Suspended, Resumed, Terminated}
-use Rattle.yp_base.specs.Rows.{changed_by}
+use Rattle.yp_base.specs.Rows.{changed_by, put_rows}
 use Rattle.yp_schema.specs.declared.schema.SchemaNode.{SchemaNode}
 use Rattle.yp_journal.specs.declared.command.Command.TheVariants.{Everything}
 use Rattle.yp_journal.specs.declared.entry.Entry.{Entry}
@@ -11,22 +14,27 @@ use Rattle.yp_journal.specs.declared.receiver.ReceiverInfo.{ReceiverInfo}
 use Rattle.yp_journal.specs.declared.reply.Reply.TheVariants.{Id}
 use Rattle.yp_journal.specs.declared.subscription.Subscription.{Subscription}
 use Rattle.yp_journal.specs.History.{JournalState}
-use Rattle.push_program.specs.Notices.{Made, of_id, want, state_at}
+use Rattle.push_program.specs.declared.made.Made.{Made}
+use Rattle.push_program.specs.Notices.{of_id, want, state_at}
 
--- the rows that are held of a subscription, once it had an update: a full update sets them, a change update changes them, and nothing else does
-abbrev pub heard : ℕ → Notice → Option (List Row) → Option (List Row)
-heard id (Full other new) rows = if other == id then Some new else rows
-heard id (Changes other patch_id changes incomplete) rows = if other == id then Some (changed_by changes (unwrap_or rows [])) else rows
-heard id (Started other) rows = rows
-heard id (Modified other) rows = rows
-heard id (Suspended other) rows = rows
-heard id (Resumed other) rows = rows
-heard id (Terminated other) rows = rows
+-- the rows that are held of a subscription, by its id, where it had an update
+abbrev pub held_of : ℕ → List (ℕ × List Row) → Option (List Row)
+held_of id held = lookup (is_at (nat_cmp id)) held
+
+-- what is held after one notice more, in the order of ids: a full update sets the rows of its subscription, a change update changes them, and nothing else does
+abbrev pub heard : Notice → List (ℕ × List Row) → List (ℕ × List Row)
+heard (Full id rows) held = insert_entry nat_cmp held id (put_rows rows [])
+heard (Changes id patch_id changes incomplete) held = insert_entry nat_cmp held id (changed_by changes (unwrap_or (held_of id held) []))
+heard (Started id) held = held
+heard (Modified id) held = held
+heard (Suspended id) held = held
+heard (Resumed id) held = held
+heard (Terminated id) held = held
 
 -- the same after notices, in order
-abbrev pub received : ℕ → Option (List Row) → List Made → Option (List Row)
-received id rows [] = rows
-received id rows (made ∷ more) = received id (heard id made.notice rows) more
+abbrev pub received : List (ℕ × List Row) → List Made → List (ℕ × List Row)
+received held [] = held
+received held (made ∷ more) = received (heard made.notice held) more
 
 -- whether a notice is an update of a subscription
 abbrev pub updates : ℕ → Notice → Bool
@@ -38,29 +46,6 @@ updates id (Suspended other) = false
 updates id (Resumed other) = false
 updates id (Terminated other) = false
 
--- ids in ascending order with one more: those below it, it, and those above it
-abbrev pub with_id : ℕ → List ℕ → List ℕ
-with_id id ids = filter (λ other. nat_lt other id) ids ++ id ∷ filter (λ other. nat_lt id other) ids
-
--- the ids that had an update, after one notice more
-abbrev pub ids_with : Notice → List ℕ → List ℕ
-ids_with (Full id rows) ids = with_id id ids
-ids_with (Changes id patch_id changes incomplete) ids = with_id id ids
-ids_with (Started id) ids = ids
-ids_with (Modified id) ids = ids
-ids_with (Suspended id) ids = ids
-ids_with (Resumed id) ids = ids
-ids_with (Terminated id) ids = ids
-
--- the same after notices, in order
-abbrev pub ids_after : List ℕ → List Made → List ℕ
-ids_after ids [] = ids
-ids_after ids (made ∷ more) = ids_after (ids_with made.notice ids) more
-
--- the ids that had an update, in ascending order
-abbrev pub updated_ids : List Made → List ℕ
-updated_ids made = ids_after [] made
-
 -- what is held of an id is what its subscription, which is the receiver's, selects at a state
 pub record IsFresh (nodes : List SchemaNode) (state : JournalState) (receiver id : ℕ) (held : Option (List Row)) : Type 0 where
   pub subscription : Subscription
@@ -71,7 +56,7 @@ pub record IsFresh (nodes : List SchemaNode) (state : JournalState) (receiver id
 -- after each update of a subscription, all that its receiver was made up to it leaves fresh selection at the update's position
 abbrev pub Mirrors : List SchemaNode → List ReceiverInfo → List Entry → ℕ → List Made → Type 0
 Mirrors nodes receivers entries receiver made = (id : ℕ) (before : List Made) (update : Made) (after : List Made) → made ≡ before ++ update ∷ after → updates id update.notice ≡ true
-    → IsFresh nodes (state_at nodes receivers entries update.position) receiver id (received id None (before ++ update ∷ []))
+    → IsFresh nodes (state_at nodes receivers entries update.position) receiver id (held_of id (received [] (before ++ update ∷ [])))
 
 -- each subscription that was established for a receiver has its full update at the position of the command
 abbrev pub Opens : List Entry → ℕ → List Made → Type 0

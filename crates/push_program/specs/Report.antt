@@ -1,8 +1,8 @@
--- The report of a run: replies by position, then for each receiver what it was sent and its trees, and `end`.
+-- The report of a run, as a value and as a text: the replies by position, then for each receiver what it was sent and what it holds, and `end`.
 use Rattle.std.specs.Prelude.{ℕ, ◌+◌, List, [], ◌∷◌, ◌++◌, true, Option, Some, None, codes, decimal}
+use Rattle.std.specs.List.{flat_map}
 use Rattle.serde_json.specs.Data.{Data, boolean, number, unsigned, string, object, Members, no_members, member}
 use Rattle.serde_json.specs.Written.{compact_text}
-use Rattle.yp_base.specs.declared.notice.Notice.{Notice}
 use Rattle.yp_base.specs.declared.row.Row.{Row}
 use Rattle.yp_schema.specs.declared.schema.SchemaNode.{SchemaNode}
 use Rattle.yp_data_json.specs.Writing.{rows_json}
@@ -13,10 +13,41 @@ use Rattle.yp_journal.specs.declared.entry.Entry.{Entry}
 use Rattle.yp_journal.specs.declared.receiver.ReceiverInfo.{ReceiverInfo}
 use Rattle.yp_journal.specs.declared.reply.Reply.{Reply}
 use Rattle.yp_journal.specs.declared.reply.Reply.TheVariants.{Id, Done, Edit}
-use Rattle.push_program.specs.Notices.{Made}
-use Rattle.push_program.specs.Received.{received, updated_ids}
+use Rattle.yp_script.specs.declared.script.Script.{Script}
+use Rattle.push_program.specs.declared.made.Made.{Made}
+use Rattle.push_program.specs.declared.report.ReceiverReport.{ReceiverReport}
+use Rattle.push_program.specs.declared.report.ReplyLine.{ReplyLine}
+use Rattle.push_program.specs.declared.report.Report.{Report}
+use Rattle.push_program.specs.Notices.{made_by, made_for_each}
+use Rattle.push_program.specs.Received.{received}
+use Rattle.push_program.specs.Turns.{journal_of}
 
--- ---- replies
+-- ---- the value
+
+-- the replies of entries, the first of which has this position
+abbrev pub reply_lines : ℕ → List Entry → List ReplyLine
+reply_lines n [] = []
+reply_lines n (entry ∷ entries) = record { position = n; lane = entry.lane; index = entry.index; reply = entry.reply } ∷ reply_lines (n + 1) entries
+
+-- what is told of a receiver: its name, all that it was made, and what it holds of that; a queue of one place or more never fills, since a receiver that takes by itself takes each packet at once
+abbrev pub receiver_report : ReceiverInfo → List Made → ReceiverReport
+receiver_report receiver made = record { name = receiver.name; sent = made; trees = received [] made }
+
+-- the same of receivers in order
+abbrev pub receiver_reports : List (List Made) → List ReceiverInfo → List ReceiverReport
+receiver_reports [] receivers = []
+receiver_reports (mine ∷ made) [] = []
+receiver_reports (mine ∷ made) (receiver ∷ receivers) = receiver_report receiver mine ∷ receiver_reports made receivers
+
+-- the report of the entries of a journal and of what was made for each receiver
+abbrev pub report_of : List ReceiverInfo → List Entry → List (List Made) → Report
+report_of receivers entries made = record { replies = reply_lines 1 entries; receivers = receiver_reports made receivers }
+
+-- the report of a script's journal and of all that it makes
+abbrev pub report_in : Script → Report
+report_in script = report_of script.receivers (journal_of script) (made_for_each (made_by script.schema script.receivers (journal_of script)) 0 script.receivers)
+
+-- ---- its text
 
 abbrev pub tag_word : Tag → List ℕ
 tag_word UnknownElement = codes "unknown-element"
@@ -34,50 +65,22 @@ reply_data (Id id) = object (member (codes "id") (number (unsigned id)) no_membe
 reply_data Done = object (member (codes "ok") (boolean true) no_members)
 reply_data (Edit edit_id tag path) = object (member (codes "edit-id") (string edit_id) (member (codes "error") (string (tag_word tag)) (path_member path)))
 
--- the reply to the command at a position, by its lane and its number there
-unfoldable pub reply_line : ℕ → ℕ → ℕ → Reply → List ℕ
-reply_line n lane index reply = codes "reply " ++ decimal n ++ codes " " ++ decimal lane ++ codes " " ++ decimal index ++ codes " " ++ compact_text (reply_data reply) ++ codes "\n"
+-- the line of a reply
+unfoldable pub reply_text : ReplyLine → List ℕ
+reply_text line = codes "reply " ++ decimal line.position ++ codes " " ++ decimal line.lane ++ codes " " ++ decimal line.index ++ codes " " ++ compact_text (reply_data line.reply) ++ codes "\n"
 
--- the replies of entries that follow position n
-abbrev pub reply_lines : ℕ → List Entry → List ℕ
-reply_lines n [] = []
-reply_lines n (entry ∷ entries) = reply_line (n + 1) entry.lane entry.index entry.reply ++ reply_lines (n + 1) entries
+-- the line of a notice that the receiver of this name was sent
+unfoldable pub sent_text : List SchemaNode → ℕ → List ℕ → Made → List ℕ
+sent_text nodes start name made = codes "to " ++ name ++ codes " " ++ line_of nodes start made.stamp made.notice ++ codes "\n"
 
--- ---- what a receiver was sent; a queue of one place or more never fills, since a receiver that takes by itself takes each packet at once
+-- the line of what it holds of a subscription, by id
+unfoldable pub tree_text : List SchemaNode → List ℕ → ℕ × List Row → List ℕ
+tree_text nodes name tree = codes "tree " ++ name ++ codes " " ++ decimal tree.0 ++ codes " " ++ compact_text (rows_json nodes [] tree.1) ++ codes "\n"
 
-unfoldable pub sent_line : List SchemaNode → ℕ → List ℕ → ℕ → Notice → List ℕ
-sent_line nodes start name stamp notice = codes "to " ++ name ++ codes " " ++ line_of nodes start stamp notice ++ codes "\n"
+-- the lines of a receiver
+abbrev pub receiver_text : List SchemaNode → ℕ → ReceiverReport → List ℕ
+receiver_text nodes start receiver = flat_map (sent_text nodes start receiver.name) receiver.sent ++ flat_map (tree_text nodes receiver.name) receiver.trees
 
-abbrev pub sent_lines : List SchemaNode → ℕ → List ℕ → List Made → List ℕ
-sent_lines nodes start name [] = []
-sent_lines nodes start name (made ∷ more) = sent_line nodes start name made.stamp made.notice ++ sent_lines nodes start name more
-
--- ---- its trees, one for each subscription that had an update
-
-unfoldable pub tree_line : List SchemaNode → List ℕ → ℕ → List Row → List ℕ
-tree_line nodes name id rows = codes "tree " ++ name ++ codes " " ++ decimal id ++ codes " " ++ compact_text (rows_json nodes [] rows) ++ codes "\n"
-
-abbrev pub tree_if : List SchemaNode → List ℕ → ℕ → Option (List Row) → List ℕ
-tree_if nodes name id None = []
-tree_if nodes name id (Some rows) = tree_line nodes name id rows
-
--- the trees of these ids, of what was made
-abbrev pub tree_lines : List SchemaNode → List ℕ → List Made → List ℕ → List ℕ
-tree_lines nodes name made [] = []
-tree_lines nodes name made (id ∷ ids) = tree_if nodes name id (received id None made) ++ tree_lines nodes name made ids
-
--- ---- the whole
-
--- what a receiver was made, and the trees of the ids that had an update
-abbrev pub receiver_lines : List SchemaNode → ℕ → ReceiverInfo → List Made → List ℕ
-receiver_lines nodes start receiver made = sent_lines nodes start receiver.name made ++ tree_lines nodes receiver.name made (updated_ids made)
-
--- the same of receivers in order
-abbrev pub all_receiver_lines : List SchemaNode → ℕ → List ReceiverInfo → List (List Made) → List ℕ
-all_receiver_lines nodes start (receiver ∷ receivers) (mine ∷ made) = receiver_lines nodes start receiver mine ++ all_receiver_lines nodes start receivers made
-all_receiver_lines nodes start [] made = []
-all_receiver_lines nodes start (receiver ∷ receivers) [] = []
-
--- the report of the entries of a journal and of what was made for each receiver
-abbrev pub report_text : List SchemaNode → ℕ → List ReceiverInfo → List Entry → List (List Made) → List ℕ
-report_text nodes start receivers entries made = reply_lines 0 entries ++ (all_receiver_lines nodes start receivers made ++ codes "end\n")
+-- the text of a report
+abbrev pub report_text : List SchemaNode → ℕ → Report → List ℕ
+report_text nodes start report = flat_map reply_text report.replies ++ (flat_map (receiver_text nodes start) report.receivers ++ codes "end\n")

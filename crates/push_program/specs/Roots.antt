@@ -1,19 +1,13 @@
 -- Which changed rows are roots, the edit of one, and what the edits of a record cost.
-use Rattle.std.specs.Prelude.{ℕ, ◌+◌, List, [], length, map, sum, Bool, false, Option, Some, None, is_some, if◌then◌else◌}
+use Rattle.std.specs.Prelude.{ℕ, ◌+◌, List, [], length, map, sum, Option, None, is_some, if◌then◌else◌}
 use Rattle.yp_base.specs.declared.path.Seg.{Seg}
 use Rattle.yp_base.specs.declared.row.Value.{Value}
 use Rattle.yp_base.specs.declared.row.Row.{Row}
 use Rattle.yp_base.specs.declared.notice.Change.{Change}
 use Rattle.yp_base.specs.declared.notice.ChangeKind.{ChangeKind}
 use Rattle.yp_base.specs.declared.notice.ChangeKind.TheVariants as kinds
-use Rattle.yp_base.specs.Order.{is_within}
 use Rattle.yp_base.specs.Rows.{rows_within}
 use Rattle.yp_edit.specs.declared.changed.ChangedRow.{ChangedRow}
-
--- whether a path is at or below a root, where there is one
-abbrev pub is_covered : Option (List Seg) → List Seg → Bool
-is_covered None path = false
-is_covered (Some root) path = is_within root path
 
 -- the operation of the edit of a row with these values before and after
 abbrev pub kind_of : Option Value → Option Value → ChangeKind
@@ -24,8 +18,8 @@ abbrev pub carried_below : List Row → ChangedRow → List Row
 carried_below selected row = if is_some row.new then rows_within row.path selected else []
 
 -- the edit of a changed row, where this is selected afterwards
-abbrev pub edit_of : List Row → ChangedRow → Change
-edit_of selected row = record { kind = kind_of row.old row.new; target = row.path; rows = carried_below selected row; after = None }
+abbrev pub row_edit : List Row → ChangedRow → Change
+row_edit selected row = record { kind = kind_of row.old row.new; target = row.path; rows = carried_below selected row; after = None }
 
 -- the most visits of a tree that what is carried from a place takes: one for each row there, and two more
 abbrev pub visits_at : List Row → List Seg → ℕ

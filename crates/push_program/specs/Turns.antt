@@ -3,14 +3,10 @@ use Rattle.std.specs.Prelude.{ℕ, ◌+◌, List, [], ◌∷◌, ◌++◌, lengt
 use Rattle.yp_schema.specs.declared.schema.SchemaNode.{SchemaNode}
 use Rattle.yp_journal.specs.declared.command.Command.{Command}
 use Rattle.yp_journal.specs.declared.entry.Entry.{Entry}
-use Rattle.yp_journal.specs.History.{JournalState, first_state, next_state, reply_to}
+use Rattle.yp_journal.specs.declared.receiver.ReceiverInfo.{ReceiverInfo}
+use Rattle.yp_journal.specs.History.{JournalState, first_state, next_state, reply_to, MayCome}
 use Rattle.yp_script.specs.declared.script.Script.{Script}
-
--- a command, the lane by which it comes, and its number there; commands outside the lanes are of lane 0
-pub record Turn : Type 0 where
-  pub lane : ℕ
-  pub index : ℕ
-  pub command : Command
+use Rattle.push_program.specs.declared.turns.Turn.{Turn}
 
 -- commands of a lane, the first of which has this number
 abbrev pub turns_of : ℕ → ℕ → List Command → List Turn
@@ -22,9 +18,13 @@ abbrev pub lane_turns : ℕ → List (List Command) → List Turn
 lane_turns lane [] = []
 lane_turns lane (commands ∷ lanes) = turns_of lane 1 commands ++ lane_turns (lane + 1) lanes
 
--- all commands of a script; those outside the lanes are numbered through
-abbrev pub turns_in : Script → List Turn
-turns_in script = turns_of 0 1 script.before ++ (lane_turns 1 script.lanes ++ turns_of 0 (length script.before + 1) script.after)
+-- the commands before the lanes, those of the lanes, and those after them; those outside the lanes are numbered through
+abbrev pub serial_turns : List Command → List (List Command) → List Command → List Turn
+serial_turns before lanes after = turns_of 0 1 before ++ (lane_turns 1 lanes ++ turns_of 0 (length before + 1) after)
+
+-- each of these turns may come in a journal of these receivers
+abbrev pub MayTake : List SchemaNode → List ReceiverInfo → Turn → Type 0
+MayTake nodes receivers turn = MayCome nodes receivers turn.command
 
 -- ---- the journal
 
@@ -44,4 +44,4 @@ entries_from nodes state (turn ∷ turns) = entry_at nodes state turn ∷ entrie
 
 -- the journal of a script
 abbrev pub journal_of : Script → List Entry
-journal_of script = entries_from script.schema (first_state script.receivers) (turns_in script)
+journal_of script = entries_from script.schema (first_state script.receivers) (serial_turns script.before script.lanes script.after)

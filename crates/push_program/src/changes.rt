@@ -2,13 +2,13 @@
 ghost use Rattle.std.specs.Prelude.{◌≡◌, ◌+◌, ◌≤◌, ◌&&◌, List, true, not, option_copied, IfOk, OnOk};
 ghost use Rattle.std.specs.List.{AllByRecursion};
 ghost use Rattle.yp_base.specs.declared.row.Row.{Row};
-ghost use Rattle.yp_base.specs.Rows.{value_at};
 ghost use Rattle.yp_schema.specs.Datastore.{is_path_of, IsRowOf, IsDatastore};
 ghost use Rattle.yp_edit.specs.Changes.{changed_rows};
+ghost use Rattle.yp_edit.specs.Drafts.{is_covered};
+ghost use Rattle.yp_edit.specs.Records.{change_record};
 ghost use Rattle.yp_encode.specs.Sendable.{IsSendableChange};
 ghost use Rattle.push_program.specs.Access.{is_readable, visible_rows};
-ghost use Rattle.yp_edit.specs.Records.{change_record};
-ghost use Rattle.push_program.specs.Roots.{is_covered, kind_of, carried_below, edit_of, visits_at, record_visits};
+ghost use Rattle.push_program.specs.Roots.{kind_of, carried_below, row_edit, visits_at, record_visits};
 
 use crate::access::{may_read, read_visible};
 use std::alloc::Global;
@@ -75,23 +75,18 @@ fn carried_below<L: Ledger>(
     }
 }
 
-/// The edit of a changed row that may be read.
-fn edit_of<L: Ledger>(
+/// The edit of a changed row.
+fn row_edit<L: Ledger>(
     alloc: Global,
     schema: &Schema,
     row: &ChangedRow,
     rows: &Tree,
     steps: &mut Steps<L>,
 ) -> Result<Change, NoMemory>
-    requires of_schema { AllByRecursion (IsRowOf schema.now) rows.now }
-    requires path { is_path_of schema.now row.now.path ≡ true }
-    requires readable { is_readable schema.now row.now.path ≡ true }
-    requires value { row.now.new ≡ value_at row.now.path rows.now }
-    ensures edit { IfOk result (λ edit. edit ≡ edit_of (visible_rows schema.now rows.now) row.now) }
-    ensures sendable { IfOk result (λ edit. IsSendableChange schema.now edit) }
+    requires { AllByRecursion (IsRowOf schema.now) rows.now }
+    ensures edit { IfOk result (λ edit. edit ≡ row_edit (visible_rows schema.now rows.now) row.now) }
     ensures visits { OnOk result (steps.new ≤ steps.old + visits_at rows.now row.now.path) }
 {
-    let _len = rows.len();
     let carried = carried_below(alloc, schema, row, rows, steps)?;
     Ok(Change {
         kind: kind_of(row),
@@ -123,7 +118,7 @@ pub fn record_of<L: Ledger>(
     let mut root = None;
     for row in changed {
         if is_root(schema, root, &row.path) {
-            changes.push(edit_of(alloc, schema, row, rows, steps)?)?;
+            changes.push(row_edit(alloc, schema, row, rows, steps)?)?;
             root = Some(&row.path);
         }
     }

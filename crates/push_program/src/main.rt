@@ -4,14 +4,15 @@
 mod access;
 mod changes;
 pub mod desk;
-mod hearing;
-pub mod progress;
+pub mod holdings;
+pub mod made;
 pub mod report;
-mod run;
-mod telling;
+pub mod run;
 #[cfg(test)]
 mod tests;
+mod text;
 pub mod top;
+pub mod turns;
 mod updates;
 
 use crate::top::{Status, push_main};

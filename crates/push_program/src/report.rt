@@ -1,111 +1,106 @@
-//! The report of a script.
-ghost use Rattle.std.specs.Prelude.{◌≡◌, ◌≤◌, ◌<◌, ◌++◌, [], IfOk, OnOk, codes, string_bytes};
-ghost use Rattle.yp_schema.specs.Datastore.{AreWritable};
-ghost use Rattle.yp_script.specs.Script.{MayRun, count_commands};
-ghost use Rattle.push_program.specs.Notices.{made_by, made_for_each};
-ghost use Rattle.push_program.specs.Progress.{Ready, held_line, mirror_lines, desk_lines};
-ghost use Rattle.push_program.specs.Report.{report_text};
-ghost use Rattle.push_program.specs.Turns.{journal_of};
+//! The report of a run, as a value.
+ghost use Rattle.std.specs.Prelude.{◌≡◌, IfOk};
+ghost use Rattle.push_program.specs.Report.{reply_lines, receiver_report, receiver_reports, report_of};
 
 use crate::desk::Desk;
-use crate::progress::Progress;
-use crate::run::run_all;
-use crate::telling::push_tree;
-use crate::updates::all_rows;
+use crate::holdings::{Holdings, holdings_of};
+use crate::made::Made;
+use crate::run::Run;
 use std::alloc::Global;
-use std::marker::Brand;
-use std::sync::ledger::{Blank, Ledger};
-use yp_base::memory::NoMemory;
-use yp_base::steps::Steps;
-use yp_journal::subscription::Subscription;
-use yp_schema::schema::Schema;
-use yp_script::script::Script;
-use yp_tree::tree::Tree;
+use yp_base::memory::{Duplicate, NoMemory};
+use yp_base::series::Series;
+use yp_base::txt::Txt;
+use yp_journal::entry::Entry;
+use yp_journal::receiver::ReceiverInfo;
+use yp_journal::reply::Reply;
 
-/// Adds the line of what is held of a subscription, where that is the receiver's.
-fn push_held<L: Ledger>(
-    alloc: Global,
-    schema: &Schema,
-    desk: &Desk,
-    subscription: &Subscription,
-    held: &Tree,
-    text: &mut String,
-    steps: &mut Steps<L>,
-) -> Result<(), NoMemory>
-    requires { AreWritable schema.now [] held.now }
-    ensures { OnOk result (string_bytes text.new ≡ string_bytes text.old ++ held_line schema.now desk.now subscription.now held.now) }
+/// The reply to the command at a position, by its lane and its number there.
+#[derive(Drop)]
+pub struct ReplyLine {
+    pub position: u64,
+    pub lane: u32,
+    pub index: u32,
+    pub reply: Reply,
+}
+
+/// What is told of a receiver: what it was sent, and what it holds of each subscription.
+#[derive(Drop)]
+pub struct ReceiverReport {
+    pub name: Txt,
+    pub sent: Series<Made>,
+    pub trees: Holdings,
+}
+
+/// The report of a run: the replies by position, and what is told of each receiver, in the order of their
+/// declaration.
+#[derive(Drop)]
+pub struct Report {
+    pub replies: Series<ReplyLine>,
+    pub receivers: Series<ReceiverReport>,
+}
+
+/// The replies of a journal.
+fn reply_lines(alloc: Global, entries: Vec<Entry>) -> Result<Series<ReplyLine>, NoMemory>
+    ensures { IfOk result (λ lines. lines ≡ reply_lines 1 entries.items) }
 {
-    if u64::from(subscription.receiver) == desk.number() {
-        let rows = all_rows(alloc, held, steps)?;
-        push_tree(alloc, text, schema, desk.name(), subscription.id, &rows)?;
+    let mut lines = Vec::with_capacity(alloc, entries.len())?;
+    for entry in entries {
+        let Entry {
+            lane,
+            index,
+            reply,
+            ..
+        } = entry;
+        lines.push(ReplyLine {
+            position: lines.len() as u64 + 1,
+            lane,
+            index,
+            reply,
+        })?;
     }
-    Ok(())
+    Ok(Series::from_vec(lines))
 }
 
-/// Adds the lines of what a receiver holds of its subscriptions.
-#[tactic(auto, using(crate::proofs::Trees::writable, crate::proofs::Trees::held_line_at))]
-fn push_trees<L: Ledger>(
+/// What is told of one receiver.
+fn receiver_report(
     alloc: Global,
-    script: &Script,
-    desk: &Desk,
-    run: &Progress,
-    text: &mut String,
-    steps: &mut Steps<L>,
-) -> Result<(), NoMemory>
-    requires { Ready script.now run.now }
-    ensures { OnOk result (string_bytes text.new ≡ string_bytes text.old ++ mirror_lines script.now.schema desk.now run.now.state.rows run.now.state.subscriptions) }
+    receiver: &ReceiverInfo,
+    sent: Series<Made>,
+) -> Result<ReceiverReport, NoMemory>
+    ensures { IfOk result (λ report. report ≡ receiver_report receiver.now sent) }
 {
-    let mirrors = run.mirrors.as_slice();
-    let subscriptions = run.state.subscriptions();
-    for (i, subscription) in subscriptions.iter().enumerate() {
-        let held = &mirrors[i];
-        push_held(alloc, &script.schema, desk, subscription, held, text, steps)?;
-    }
-    Ok(())
+    Ok(ReceiverReport {
+        name: receiver.name.copy(alloc)?,
+        trees: holdings_of(alloc, sent.items())?,
+        sent,
+    })
 }
 
-/// Adds the lines of all receivers.
-fn push_receivers<L: Ledger>(
+/// What is told of each receiver.
+fn receiver_reports(
     alloc: Global,
-    script: &Script,
-    run: &Progress,
-    text: &mut String,
-    steps: &mut Steps<L>,
-) -> Result<(), NoMemory>
-    requires { Ready script.now run.now }
-    ensures { OnOk result (string_bytes text.new ≡ string_bytes text.old ++ desk_lines script.now.schema run.now.state.rows run.now.state.subscriptions run.now.desks.items) }
+    receivers: &[ReceiverInfo],
+    desks: Vec<Desk>,
+) -> Result<Series<ReceiverReport>, NoMemory>
+    ensures { IfOk result (λ reports. reports ≡ receiver_reports desks.items receivers.now) }
 {
-    for desk in &run.desks {
-        text.push_str(desk.sent())?;
-        push_trees(alloc, script, desk, run, text, steps)?;
+    let mut reports = Vec::new(alloc);
+    let mut left = receivers.iter();
+    for desk in desks {
+        if let Some(receiver) = left.next() {
+            reports.push(receiver_report(alloc, receiver, desk.into_sent())?)?;
+        }
     }
-    Ok(())
+    Ok(Series::from_vec(reports))
 }
 
-/// The report, with the count of steps.
-fn report_with<L: Ledger>(alloc: Global, script: &Script, blank: Blank) -> Result<String, NoMemory>
-    requires name { blank.name ≡ L.name }
-    requires parts { blank.parts ≡ L.parts }
-    requires some { 0 < L.parts }
-    requires commands { MayRun script.now }
-    requires few { count_commands script.now ≤ 100000 }
-    ensures { IfOk result (λ text. string_bytes text ≡ report_text script.now.schema script.now.start script.now.receivers (journal_of script.now) (made_for_each (made_by script.now.schema script.now.receivers (journal_of script.now)) 0 script.now.receivers)) }
+/// The report of a run of these receivers.
+pub fn report_of(alloc: Global, receivers: &[ReceiverInfo], run: Run) -> Result<Report, NoMemory>
+    ensures { IfOk result (λ report. report ≡ report_of receivers.now run.entries.items run.desks.items) }
 {
-    let mut steps = Steps::<L>::open(blank);
-    let run = run_all(alloc, script, &mut steps)?;
-    let mut text = String::with_capacity(alloc, run.replies.len())?;
-    text.push_str(run.replies.as_str())?;
-    push_receivers(alloc, script, &run, &mut text, &mut steps)?;
-    text.push_str("end\n")?;
-    Ok(text)
-}
-
-/// The report of a script: the replies by position, then for each receiver what it was sent and what it
-/// holds of its subscriptions, and `end`. An error says that memory ran out.
-pub fn report(alloc: Global, script: &Script) -> Result<String, NoMemory>
-    requires commands { MayRun script.now }
-    requires few { count_commands script.now ≤ 100000 }
-    ensures { IfOk result (λ text. string_bytes text ≡ report_text script.now.schema script.now.start script.now.receivers (journal_of script.now) (made_for_each (made_by script.now.schema script.now.receivers (journal_of script.now)) 0 script.now.receivers)) }
-{
-    report_with::<Brand>(alloc, script, Blank::new(1))
+    let Run { entries, desks, .. } = run;
+    Ok(Report {
+        replies: reply_lines(alloc, entries)?,
+        receivers: receiver_reports(alloc, receivers, desks)?,
+    })
 }

@@ -1,19 +1,29 @@
 //! The call that the program makes.
-ghost use Rattle.std.specs.Prelude.{◌≡◌, ◌≤◌, ℕ, true, not, length, take, drop, IfSome, IfOk, IfErr, Some, [], Ok, Err, string_bytes};
+ghost use Rattle.std.specs.Prelude.{◌≡◌, ◌+◌, ◌<◌, ◌≤◌, ℕ, List, true, length, drop, IfSome, IfOk, IfErr, Some, [], Ok, Err, string_bytes};
 ghost use Rattle.yp_script.specs.declared.fault.ScriptKind.{ScriptKind as Kind};
 ghost use Rattle.push_program.specs.declared.top.Status.TheVariants.{Done, BadWords, BadScript, WriteFault};
-ghost use Rattle.push_program.specs.Answers.{Answers, Fails, is_run, tells_good_words, tells_whole_reading, tells_no_writing, TellsReading, TellsWriting, IsComplete};
+ghost use Rattle.push_program.specs.Answers.{Answers, is_run, tells_good_words, tells_whole_reading, tells_no_writing, TellsReading, TellsWriting, IsComplete};
 ghost use Rattle.push_program.specs.Promise.{Tells, WritesTold, WritesPrefix};
-ghost use Rattle.yp_script.specs.Script.{script_in};
+ghost use Rattle.yp_script.specs.Lines.{byte_limit, line_limit};
+ghost use Rattle.yp_script.specs.Readings.{IsFault};
+ghost use Rattle.yp_script.specs.Script.{script_in, MayRun, count_commands};
 
-use crate::report::report;
+use crate::report::report_of;
+use crate::run::run_turns;
+use crate::text::text_of;
+use crate::turns::serial_turns;
 use std::alloc::Global;
+use std::marker::Brand;
+use std::sync::ledger::{Blank, Ledger};
+use yp_base::memory::NoMemory;
+use yp_base::steps::Steps;
 use yp_base::txt::Txt;
 use yp_io::sink::Sink;
 use yp_io::source::Source;
 use yp_io::whole::{ReadError, read_whole, write_whole};
 use yp_script::fault::{ScriptFault, ScriptKind};
-use yp_script::reading::read_script;
+use yp_script::reading::{BYTE_LIMIT, read_script};
+use yp_script::script::Script;
 
 /// How a run ended.
 #[derive(Debug, Clone, Copy, PartialEq, Eq, Drop)]
@@ -32,9 +42,6 @@ pub enum Status {
     NoMemory,
 }
 
-/// The most bytes of a script.
-const MOST_BYTES: usize = 67_108_864;
-
 /// Whether the words are the one word `run`.
 fn are_run(words: &[Txt]) -> bool
     ensures { result ≡ is_run words.now }
@@ -45,20 +52,42 @@ fn are_run(words: &[Txt]) -> bool
     }
 }
 
+/// The report of a script's run.
+fn run_script<L: Ledger>(alloc: Global, script: Script, blank: Blank) -> Result<String, NoMemory>
+    requires name { blank.name ≡ L.name }
+    requires parts { blank.parts ≡ L.parts }
+    requires some { 0 < L.parts }
+    requires commands { MayRun script }
+    requires lanes { length script.lanes ≤ 64 }
+    requires count { count_commands script ≤ line_limit }
+    ensures { IfOk result (λ text. (bytes : List ℕ) → script_in bytes ≡ Ok script → Tells bytes (string_bytes text)) }
+{
+    let Script {
+        start,
+        schema,
+        receivers,
+        before,
+        lanes,
+        after,
+    } = script;
+    let mut steps = Steps::<L>::open(blank);
+    let receivers = receivers.list(alloc)?;
+    let turns = serial_turns(alloc, before, lanes, after)?;
+    let run = run_turns(alloc, &schema, receivers.items(), turns, &mut steps)?;
+    let report = report_of(alloc, receivers.items(), run)?;
+    text_of(alloc, &schema, &start, &report, &mut steps)
+}
+
 /// The report of the script that bytes are, or its first fault.
-#[tactic(auto, using(crate::proofs::Promises::tells))]
-fn text_of(alloc: Global, bytes: &[u8]) -> Result<String, ScriptFault>
+fn report_in(alloc: Global, bytes: &[u8]) -> Result<String, ScriptFault>
     ensures text { IfOk result (λ text. Tells bytes.now (string_bytes text)) }
-    ensures fault { IfErr result (λ fault. Fails fault (script_in bytes.now)) }
+    ensures fault { IfErr result (λ fault. IsFault fault (script_in bytes.now)) }
 {
     match read_script(alloc, bytes) {
-        Ok(script) => {
-            let _count = script.schema.count();
-            match report(alloc, &script) {
-                Ok(text) => Ok(text),
-                Err(_) => Err(ScriptFault::Memory),
-            }
-        }
+        Ok(script) => match run_script::<Brand>(alloc, script, Blank::new(1)) {
+            Ok(text) => Ok(text),
+            Err(_) => Err(ScriptFault::Memory),
+        },
         Err(fault) => Err(fault),
     }
 }
@@ -79,12 +108,12 @@ fn answer<S: Source, K: Sink>(alloc: Global, words: &[Txt], source: &mut S, sink
     if !are_run(words) {
         return Status::BadWords;
     }
-    let whole = match read_whole(alloc, source, MOST_BYTES) {
+    let whole = match read_whole(alloc, source, BYTE_LIMIT) {
         Ok(whole) => whole,
         Err(ReadError::Fault) => return Status::ReadFault,
         Err(ReadError::Memory) => return Status::NoMemory,
     };
-    match text_of(alloc, whole.bytes.items()) {
+    match report_in(alloc, whole.bytes.items()) {
         Ok(text) => match write_whole(sink, text.as_bytes()) {
             Ok(()) => Status::Done,
             Err(_) => Status::WriteFault,
@@ -112,7 +141,7 @@ pub fn push_main<S: Source, K: Sink>(
     ensures unread { result ≡ BadWords → S.left source.new ≡ S.left source.old }
     ensures told { result ≡ Done → WritesTold (S.left source.old) (K.written sink.old) (K.written sink.new) }
     ensures end { result ≡ Done → IfSome (S.left source.old) (λ bytes. S.left source.new ≡ Some []) }
-    ensures read { tells_whole_reading result ≡ true → IfSome (S.left source.old) (λ bytes. S.left source.new ≡ Some (drop 67108865 bytes)) }
+    ensures read { tells_whole_reading result ≡ true → IfSome (S.left source.old) (λ bytes. S.left source.new ≡ Some (drop (byte_limit + 1) bytes)) }
     ensures script { (line : ℕ) (kind : Kind) → result ≡ BadScript line kind → IfSome (S.left source.old) (λ bytes. script_in bytes ≡ Err (record { line = line; kind = kind })) }
     ensures reading { TellsReading result (S.faults source.old) (S.faults source.new) }
     ensures writing { TellsWriting result (K.faults sink.old) (K.faults sink.new) }

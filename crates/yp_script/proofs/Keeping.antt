@@ -3,7 +3,7 @@ use Rattle.std.proofs.Common.{◌≡◌, ℕ, ◌+◌, ◌-◌, ◌<◌, ◌≤�
 use Rattle.std.specs.List.{All, list_any}
 use Rattle.std.specs.Cmp.Lexicographic.{nat_list_eq_equiv}
 use Rattle.std.proofs.lemmas.Bool.{ltb-true, not-true, cases_lt, and_parts, or_parts}
-use Rattle.std.proofs.lemmas.List.{length-map, map-append, get_or_past, take_all}
+use Rattle.std.proofs.lemmas.List.{length-map, length-replicate, length-set, map-append, get_or_past, take_all}
 use Rattle.std.proofs.lemmas.List.Elements.{All-push, All-nil, All-set, All-get_or, All-weaker, All-replicate}
 use Rattle.std.proofs.lemmas.Option.{IfSome_then}
 use Rattle.std.proofs.lemmas.Result.{IfOk-weaker}
@@ -162,6 +162,7 @@ pub record Keeps (known : List ReceiverInfo) (first : List Command) (laned : Lis
   pub before : All (IsOf known) first
   pub lanes : All (All (IsOf known)) laned
   pub after : All (IsOf known) last
+  pub few : length laned ≤ 64
 
 abbrev Keep : Progress → Type 0
 Keep progress = Keeps progress.receivers progress.before progress.lanes progress.after
@@ -175,13 +176,14 @@ keeps_receiver progress receiver keeps may = record {
   before = all_more progress.receivers receiver progress.before keeps.before;
   lanes = All-weaker (All (IsOf progress.receivers)) (All (IsOf (progress.receivers ++ receiver ∷ []))) (all_more progress.receivers receiver) progress.lanes keeps.lanes;
   after = all_more progress.receivers receiver progress.after keeps.after;
+  few = keeps.few;
 }
 
 keeps_command : (stage : Stage) (progress : Progress) (command : Command) → Keep progress → IsOf progress.receivers command → Keep (put_at stage progress command)
 keeps_command After progress command keeps is =
-    record { receivers = keeps.receivers; before = keeps.before; lanes = keeps.lanes; after = All-push (IsOf progress.receivers) progress.after command keeps.after is }
+    record { receivers = keeps.receivers; before = keeps.before; lanes = keeps.lanes; after = All-push (IsOf progress.receivers) progress.after command keeps.after is; few = keeps.few }
 keeps_command other progress command keeps is =
-    record { receivers = keeps.receivers; before = All-push (IsOf progress.receivers) progress.before command keeps.before is; lanes = keeps.lanes; after = keeps.after }
+    record { receivers = keeps.receivers; before = All-push (IsOf progress.receivers) progress.before command keeps.before is; lanes = keeps.lanes; after = keeps.after; few = keeps.few }
 
 lane_at : {X : Type 0} (P : X → Type 0) (lanes : List (List X)) (place : ℕ) → All (All P) lanes → All P (get_or lanes place [])
 lane_at P lanes place are =
@@ -199,6 +201,7 @@ keeps_laned progress laned keeps is =
       before = keeps.before;
       lanes = All-set (All (IsOf progress.receivers)) progress.lanes (laned.lane - 1) (get_or progress.lanes (laned.lane - 1) [] ++ laned.command ∷ []) lane keeps.lanes;
       after = keeps.after;
+      few = omega (arith, keeps.few, length-set progress.lanes (laned.lane - 1) (get_or progress.lanes (laned.lane - 1) [] ++ laned.command ∷ []));
     }
 
 -- values that are taken leave what is kept
@@ -211,8 +214,14 @@ keeps_taken progress (forms.Command request) keeps =
     map_is (with_command progress) (command_said progress.receivers progress.established request) (IsOf progress.receivers) Keep (command_is progress.receivers progress.established request)
     (λ command is. keeps_command progress.stage (counting command progress) command keeps is)
 keeps_taken progress (forms.Lanes value) keeps =
-    map_any (with_lanes progress) (lanes_said value) Keep
-    (λ count. record { receivers = keeps.receivers; before = keeps.before; lanes = All-replicate (All (IsOf progress.receivers)) count [] (All-nil (IsOf progress.receivers)); after = keeps.after })
+    map_is (with_lanes progress) (lanes_said value) (λ n. (1 ≤ n) × (n ≤ 64)) Keep (whole_is 1 64 value)
+    (λ count bounds. record {
+      receivers = keeps.receivers;
+      before = keeps.before;
+      lanes = All-replicate (All (IsOf progress.receivers)) count [] (All-nil (IsOf progress.receivers));
+      after = keeps.after;
+      few = omega (arith, bounds, length-replicate {A = List Command} count []);
+    })
 keeps_taken progress (forms.Lane lane request) keeps =
     map_is (with_laned progress) (laned_said progress.receivers progress.established (length progress.lanes) lane request) (λ laned. IsOf progress.receivers laned.command) Keep
     (laned_is progress.receivers progress.established (length progress.lanes) lane request) (λ laned is. keeps_laned progress laned keeps is)
@@ -249,7 +258,7 @@ no_receivers = record { few = omega arith; distinct = refl; each = All-nil IsRec
 
 script_keeps : (end : ℕ) (lines : List Line) → IfOk (script_from end no_progress lines) ScriptKeeps
 script_keeps end lines =
-    keeps_lines end no_progress lines (record { receivers = no_receivers; before = All-nil (IsOf []); lanes = All-nil (All (IsOf [])); after = All-nil (IsOf []) })
+    keeps_lines end no_progress lines (record { receivers = no_receivers; before = All-nil (IsOf []); lanes = All-nil (All (IsOf [])); after = All-nil (IsOf []); few = omega arith })
 
 -- ---- what a journal of its receivers takes
 
@@ -274,6 +283,10 @@ read_keeps (Err fault) text is = tt
 pub read_receivers : (r : Result Script ScriptFault) → IfOk r ScriptKeeps → IfOk r (λ script. AreReceivers script.receivers)
 read_receivers (Ok script) keeps = keeps.receivers
 read_receivers (Err fault) keeps = tt
+
+pub read_lanes : (r : Result Script ScriptFault) → IfOk r ScriptKeeps → IfOk r (λ script. length script.lanes ≤ 64)
+read_lanes (Ok script) keeps = keeps.few
+read_lanes (Err fault) keeps = tt
 
 pub read_commands : (r : Result Script ScriptFault) → IfOk r ScriptKeeps → IfOk r HasFew → IfOk r MayRun
 read_commands (Ok script) keeps few = may_run script keeps few

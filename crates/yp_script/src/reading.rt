@@ -7,11 +7,13 @@ ghost use Rattle.yp_script.specs.Lines.{byte_limit, line_limit, lines_from, piec
 ghost use Rattle.yp_script.specs.Readings.{Gives};
 ghost use Rattle.yp_script.specs.Script.{AreInOrder, AreReceivers, MayRun, count_commands, script_in, script_of};
 
-use crate::cursor::{BYTE_LIMIT, Lines};
+use crate::cursor::Lines;
 use crate::fault::ScriptFault;
 use crate::reader::Reader;
 use crate::script::Script;
 use std::alloc::Global;
+
+pub use crate::cursor::BYTE_LIMIT;
 
 /// Reads the script of a text.
 fn read_text(alloc: Global, text: &[u8]) -> Result<Script, ScriptFault>
@@ -41,6 +43,7 @@ pub fn read_script(alloc: Global, bytes: &[u8]) -> Result<Script, ScriptFault>
     ensures schema { IfOk result (λ script. IsSchema script.schema) }
     ensures receivers { IfOk result (λ script. AreReceivers script.receivers) }
     ensures commands { IfOk result MayRun }
+    ensures lanes { IfOk result (λ script. length script.lanes ≤ 64) }
     ensures count { IfOk result (λ script. count_commands script ≤ line_limit) }
 {
     let (text, _) = bytes.split_at(bytes.len().min(BYTE_LIMIT + 1));

@@ -3,7 +3,7 @@ use Rattle.yp_script.specs.Readings.{Gives}
 use Rattle.yp_script.specs.Lines.{lines_from, pieces_of}
 use Rattle.yp_script.specs.Script.{AreInOrder, script_of}
 use Rattle.yp_script.proofs.Counting.{read_count}
-use Rattle.yp_script.proofs.Keeping.{read_keeps, read_receivers, read_commands, take_least}
+use Rattle.yp_script.proofs.Keeping.{read_keeps, read_receivers, read_lanes, read_commands, take_least}
 use Rattle.yp_script.proofs.OrderLaws.{read_in_order}
 use Rattle.yp_script.proofs.reading.read_script.Goals as goal
 
@@ -18,6 +18,9 @@ returns-clause-order c =
 
 pub returns-clause-receivers : goal.returns-clause-receivers
 returns-clause-receivers c = read_receivers c.read_text.result (read_keeps c.read_text.result c.split_at.result.0.now c.read_text.ensures.read)
+
+pub returns-clause-lanes : goal.returns-clause-lanes
+returns-clause-lanes c = read_lanes c.read_text.result (read_keeps c.read_text.result c.split_at.result.0.now c.read_text.ensures.read)
 
 pub returns-clause-commands : goal.returns-clause-commands
 returns-clause-commands c = read_commands c.read_text.result (read_keeps c.read_text.result c.split_at.result.0.now c.read_text.ensures.read) c.read_text.ensures.few
