@@ -7,13 +7,12 @@ ghost use Rattle.yp_script.specs.Lines.{byte_limit, line_limit, lines_from, piec
 ghost use Rattle.yp_script.specs.Readings.{Gives};
 ghost use Rattle.yp_script.specs.Script.{AreInOrder, AreReceivers, MayRun, count_commands, script_in, script_of};
 
+pub use crate::cursor::BYTE_LIMIT;
 use crate::cursor::Lines;
 use crate::fault::ScriptFault;
 use crate::reader::Reader;
 use crate::script::Script;
 use std::alloc::Global;
-
-pub use crate::cursor::BYTE_LIMIT;
 
 /// Reads the script of a text.
 fn read_text(alloc: Global, text: &[u8]) -> Result<Script, ScriptFault>
