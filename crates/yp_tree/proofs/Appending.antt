@@ -1,12 +1,11 @@
 -- A row that comes past rows in order goes last.
 use Rattle.std.proofs.Common.{◌≡◌, List, [], ◌∷◌, ◌++◌, true, refl, Less}
 use Rattle.std.specs.Ordering.{is_lt}
-use Rattle.std.specs.declared.cmp.Ordering.{Ordering}
 use Rattle.yp_base.specs.declared.path.Seg.{Seg}
 use Rattle.yp_base.specs.declared.row.Row.{Row}
 use Rattle.yp_base.specs.Order.{path_cmp}
 use Rattle.yp_base.specs.OrderLaws.{paths_total}
-use Rattle.yp_base.specs.Rows.{put_row, put_rows, AreInOrder}
+use Rattle.yp_base.specs.Rows.{AreInOrder}
 use Rattle.yp_base.specs.RowLaws.{AllPast, none_order, first_order, rest_order, join_order}
 use Rattle.yp_tree.specs.Risen.{is_past}
 use Rattle.yp_base.specs.PathLaws.{less_told}
@@ -33,8 +32,3 @@ pub last_order : (rows : List Row) (row : Row) → AreInOrder rows → is_past r
 last_order [] row order past = join_order row [] tt none_order
 last_order (x ∷ rows) row order past =
     join_order x (rows ++ row ∷ []) (past_all x rows row (first_order x rows order) (before_last x rows row order past)) (last_order rows row (rest_order x rows order) (past_rest x rows row.path past))
-
--- rows put after others
-pub put_rows_last : (news : List Row) (new : Row) (rows : List Row) → put_rows (news ++ new ∷ []) rows ≡ put_row new (put_rows news rows)
-put_rows_last [] new rows = refl
-put_rows_last (first ∷ news) new rows = put_rows_last news new (put_row first rows)

@@ -1,5 +1,5 @@
 -- An ordered map's entries and their rows.
-use Rattle.std.proofs.Common.{◌≡◌, List, [], ◌∷◌, ◌++◌, map, refl, sym, ap, subst, ◌∙◌, cond, true, false, true≢false, append_assoc, Some}
+use Rattle.std.proofs.Common.{◌≡◌, List, [], ◌∷◌, map, refl, sym, ap, ◌∙◌, cond, true, false, true≢false, Some}
 use Rattle.std.specs.Prelude.{Result, Ok, Err, OnErr, is_some}
 use Rattle.std.specs.BTreeMap.{insert_entry, is_at}
 use Rattle.std.specs.Map.{lookup, remove_entry, set_value}
@@ -11,7 +11,7 @@ use Rattle.yp_base.specs.declared.row.Row.{Row}
 use Rattle.yp_base.specs.declared.row.Value.{Value}
 use Rattle.yp_base.specs.Order.{path_cmp}
 use Rattle.yp_base.specs.Rows.{path_of, value_at, put_row, AreInOrder, row_of, rows_of}
-use Rattle.yp_base.specs.RowLaws.{none_past, all_past, first_order, rest_order, put_last_row, put_keeps_order}
+use Rattle.yp_base.specs.RowLaws.{none_past, all_past, first_order, rest_order, put_keeps_order}
 use Rattle.yp_tree.specs.Listed.{set_row, without_row}
 
 pub value_at-lookup : (path : List Seg) (es : List (List Seg × Value)) → lookup (is_at (path_cmp path)) es ≡ value_at path (rows_of es)
@@ -67,13 +67,6 @@ set_order new rows order = elim (is_some (value_at new.path rows)) as (λ b. Are
 pub paths-rows : (es : List (List Seg × Value)) → map path_of (rows_of es) ≡ map (λ e. e.0) es
 paths-rows [] = refl
 paths-rows (e ∷ es) = ap (λ ps. e.0 ∷ ps) (paths-rows es)
-
--- copying goes on from what was copied
-pub copying_grows : (all done new : List Row) (e : List Seg × Value) (more : List (List Seg × Value)) → AreInOrder all → done ++ rows_of (e ∷ more) ≡ all → new ≡ put_row (row_of e) done → new ++ rows_of more ≡ all
-copying_grows all done new e more order so_far put =
-    ap (λ rows. rows ++ rows_of more) (put ∙ put_last_row done (row_of e) (rows_of more) (subst AreInOrder (sym so_far) order))
-    ∙ append_assoc done (row_of e ∷ []) (rows_of more)
-    ∙ so_far
 
 -- what holds, holds after a failure
 pub when_failed : {X E : Type 0} {P : Type 0} (r : Result X E) → P → OnErr r P

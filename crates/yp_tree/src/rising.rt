@@ -65,16 +65,17 @@ impl Kept {
 }
 
 /// A tree of rows in order.
-#[tactic(auto, using(yp_base::specs::RowLaws::put_to_none, crate::proofs::Appending::put_rows_last))]
+#[tactic(auto, using(yp_base::specs::RowLaws::put_to_none))]
 fn tree_of(alloc: Global, rows: Vec<Row>) -> Result<Tree, NoMemory>
     requires { AreInOrder rows.items }
     ensures { IfOk result (λ tree. tree ≡ rows.items) }
 {
-    let mut tree = Tree::new(alloc);
+    let mut entries = Vec::with_capacity(alloc, rows.len())?;
     for row in rows {
-        tree.put(alloc, row)?;
+        let Row { path, value } = row;
+        entries.push((path, value))?;
     }
-    Ok(tree)
+    Tree::of_entries(alloc, entries)
 }
 
 impl Rising {

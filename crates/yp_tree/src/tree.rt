@@ -1,7 +1,7 @@
 //! Rows in an ordered map.
 ghost use Rattle.std.specs.Prelude.{◌≡◌, ◌+◌, ◌^◌, ◌<◌, ◌≤◌, ◌++◌, ◌∷◌, [], Some, is_some, length, slice_get, map, take, option_map, option_copied, OnOk, OnErr, IfOk, IfSome};
 ghost use Rattle.std.specs.Bound.{bound_map};
-ghost use Rattle.yp_base.specs.Rows.{path_of, value_at, put_row, put_rows, next_row, has_within, rows_within, rows_without, AreInOrder, row_of};
+ghost use Rattle.yp_base.specs.Rows.{path_of, value_at, put_row, put_rows, next_row, has_within, rows_within, rows_without, AreInOrder, row_of, rows_of};
 ghost use Rattle.yp_tree.specs.Begins.{Begins};
 ghost use Rattle.yp_tree.specs.Listed.{given_back, set_row, undone, without_others, without_row};
 
@@ -15,6 +15,10 @@ use yp_base::path::{Path, is_prefix};
 use yp_base::row::{Row, Rows, Value};
 use yp_base::series::Series;
 use yp_base::steps::Steps;
+
+// Where the rows of a tree are at most so many times the new ones, `renew` makes the tree again; else it
+// changes it in place.
+const SHARE: usize = 4;
 
 /// The rows of a datastore, found by path.
 #[derive(Drop)]
@@ -208,7 +212,10 @@ impl Tree {
         ensures rows { OnOk result (self.new ≡ put_rows rows.now (rows_without under.now self.old)) }
         ensures unchanged { OnErr result (self.new ≡ self.old) }
     {
-        let _count = self.len();
+        if self.len() / SHARE <= rows.len() {
+            *self = self.of_others(alloc, under, rows)?;
+            return Ok(());
+        }
         let paths = self.paths_within(alloc, under)?;
         if paths.is_empty() {
             return self.put_all(alloc, rows);
@@ -249,13 +256,46 @@ impl Tree {
         Ok(Series::from_vec(rows))
     }
 
-    // A tree of copies of these rows, put one after another.
-    fn of_rows(alloc: Global, rows: &Rows) -> Result<Tree, NoMemory>
+    /// A tree of copies of rows, as they are put one after another.
+    pub fn of_rows(alloc: Global, rows: &Rows) -> Result<Tree, NoMemory>
         ensures { IfOk result (λ tree. tree ≡ put_rows rows.now []) }
     {
-        let mut tree = Tree::new(alloc);
-        tree.put_all(alloc, rows)?;
-        Ok(tree)
+        let mut entries = Vec::with_capacity(alloc, rows.len())?;
+        add_copies(alloc, rows, &mut entries)?;
+        Tree::of_entries(alloc, entries)
+    }
+
+    // A tree of entries, as they are put one after another. Entries in order are compared each with the
+    // next alone, and fill the nodes of the tree.
+    pub(crate) fn of_entries(alloc: Global, entries: Vec<(Path, Value)>) -> Result<Tree, NoMemory>
+        ensures { IfOk result (λ tree. tree ≡ put_rows (rows_of entries.items) []) }
+    {
+        let kept = entries.into_iter().collect(alloc)?;
+        Ok(Tree { kept })
+    }
+
+    // A tree of copies of the rows that aren't at or below a path, and of these.
+    fn of_others(&self, alloc: Global, under: &Path, rows: &Rows) -> Result<Tree, NoMemory>
+        ensures { IfOk result (λ tree. tree ≡ put_rows rows.now (rows_without under.now self.now)) }
+    {
+        let _count = self.len();
+        let mut entries = self.others(alloc, under)?;
+        add_copies(alloc, rows, &mut entries)?;
+        Tree::of_entries(alloc, entries)
+    }
+
+    // Copies of the rows that aren't at or below a path, in order.
+    fn others(&self, alloc: Global, under: &Path) -> Result<Vec<(Path, Value)>, NoMemory>
+        ensures { IfOk result (λ entries. rows_of entries.items ≡ rows_without under.now self.now) }
+    {
+        let mut entries = Vec::new(alloc);
+        let mut rows = self.kept.iter();
+        while let Some((path, value)) = rows.next() {
+            if !is_prefix(under, path) {
+                entries.push((path.copy(alloc)?, value.copy(alloc)?))?;
+            }
+        }
+        Ok(entries)
     }
 
     // Puts copies of rows, one after another. After `NoMemory` the tree is as it was.
@@ -397,13 +437,23 @@ impl Tree {
 
 impl Duplicate for Tree {
     fn copy(&self, alloc: Global) -> Result<Tree, NoMemory> {
-        let mut copied = Tree::new(alloc);
+        let mut entries = Vec::with_capacity(alloc, self.len())?;
         let mut rows = self.kept.iter();
         while let Some((path, value)) = rows.next() {
-            copied.put(alloc, row_copy(alloc, path, value)?)?;
+            entries.push((path.copy(alloc)?, value.copy(alloc)?))?;
         }
-        Ok(copied)
+        Tree::of_entries(alloc, entries)
     }
+}
+
+// Adds copies of rows to entries.
+fn add_copies(alloc: Global, rows: &Rows, entries: &mut Vec<(Path, Value)>) -> Result<(), NoMemory>
+    ensures { OnOk result (rows_of entries.new.items ≡ rows_of entries.old.items ++ rows.now) }
+{
+    for row in rows.items() {
+        entries.push((row.path.copy(alloc)?, row.value.copy(alloc)?))?;
+    }
+    Ok(())
 }
 
 fn row_copy(alloc: Global, path: &Path, value: &Value) -> Result<Row, NoMemory>

@@ -19,4 +19,4 @@ returns-clause-rows c =
     let paths : c.as_slice.result.now ≡ map path_of (rows_within c.args.under.now c.args.self.now) = c.as_slice.ensures.value ∙ c.in_ok-paths.ensures in
     c.leave_out_others.ensures
     ∙ (λ i. without_others (paths i) (c.in_ok-news.ensures i) (c.in_ok-put_all.ensures.rows i))
-    ∙ renewed c.args.rows.now c.args.under.now (map path_of (rows_within c.args.under.now c.args.self.now)) c.args.self.now c.len-count.ensures.order refl
+    ∙ renewed c.args.rows.now c.args.under.now (map path_of (rows_within c.args.under.now c.args.self.now)) c.args.self.now c.len.ensures.order refl

@@ -1,13 +1,12 @@
-use Rattle.std.proofs.Common.{◌++◌, ap, sym, ◌∙◌}
-use Rattle.yp_base.specs.Rows.{put_row, rows_of}
-use Rattle.yp_tree.proofs.Rows.{copying_grows}
+use Rattle.std.proofs.Common.{List, [], ◌++◌, append-nil, ap, sym, subst, ◌∙◌, ◌≡◌}
+use Rattle.std.proofs.lemmas.Result.{IfOk-weaker}
+use Rattle.yp_base.specs.declared.row.Row.{Row}
+use Rattle.yp_base.specs.RowLaws.{put_to_none}
+use Rattle.yp_base.specs.Rows.{AreInOrder, put_rows, rows_of}
 use Rattle.yp_tree.proofs.tree.TreeDuplicate.copy.Goals as goal
 
-pub loop-path-preserved : goal.loop-path-preserved
-loop-path-preserved c =
-    let so_far = ap (λ es. c.loop-path.copied ++ rows_of es) (sym c.in-Some.ensures.steps) ∙ c.loop-path.invariant.so_far in
-    let put = c.in_ok-put.ensures.rows ∙ ap (λ row. put_row row c.loop-path.copied) c.in_ok-row_copy.ensures in
-    record {
-      order = c.loop-path.invariant.order;
-      so_far = copying_grows c.args.self.now c.loop-path.copied c.put.new.self (c.in-Some.path.now, c.in-Some.value.now) c.next.new.self c.loop-path.invariant.order so_far put;
-    }
+pub returns : goal.returns
+returns c =
+    let copied = rows_of c.loop-path.entries.items in
+    let all : copied ≡ c.args.self.now = sym (append-nil copied) ∙ ap (λ es. copied ++ rows_of es) (sym c.in_default.ensures.steps.0) ∙ c.loop-path.invariant in
+    IfOk-weaker c.of_entries.result _ _ (λ tree is. is ∙ ap (λ (rows : List Row). put_rows rows []) all ∙ put_to_none c.args.self.now (subst AreInOrder c.self.view_is c.self.invariant)) c.of_entries.ensures
