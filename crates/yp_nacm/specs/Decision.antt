@@ -1,5 +1,5 @@
 -- The decisions of access control: on one place, on a path, and on an operation (RFC 8341 sections 3.4.4 and 3.4.5).
-use Rattle.std.specs.Prelude.{◌≡◌, ℕ, List, [], ◌∷◌, ◌++◌, map, filter, find, option_map, unwrap_or, Bool, true, false, not, ◌&&◌, nat_eq, Option, Some, None, if◌then◌else◌, codes}
+use Rattle.std.specs.Prelude.{◌≡◌, ℕ, List, [], ◌∷◌, ◌++◌, filter, find, option_map, unwrap_or, Bool, true, false, not, ◌&&◌, nat_eq, Option, Some, None, if◌then◌else◌, codes}
 use Rattle.std.specs.Ordering.{is_eq}
 use Rattle.yp_base.specs.declared.atom.Atom.{Atom}
 use Rattle.yp_base.specs.declared.path.Seg.{Seg}

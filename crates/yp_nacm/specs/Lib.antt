@@ -2,3 +2,4 @@ pub mod AccessLaws
 pub mod Decision
 pub mod Own
 pub mod Policies
+pub mod Same

@@ -4,6 +4,7 @@ ghost use Rattle.std.specs.List.{list_any};
 ghost use Rattle.yp_base.specs.Types.{is_among};
 ghost use Rattle.yp_nacm.specs.Own.{decides_reading, own_rule, own_rules, path_in};
 ghost use Rattle.yp_nacm.specs.Policies.{groups_of, is_for, rules_in};
+ghost use Rattle.yp_nacm.specs.Same.{are_same_rules};
 
 use crate::policy::{Group, Policy, Rule, RuleList, Subject};
 use std::alloc::Global;
@@ -139,7 +140,8 @@ pub fn compile(alloc: Global, policy: &Policy, user: &str) -> Result<UserRules, 
 
 /// Whether two users' own rules are the same.
 pub fn same_rules(one: &UserRules, other: &UserRules) -> bool
-    ensures { IsTrue result ↔ (one.now ≡ other.now) }
+    ensures same { result ≡ are_same_rules one.now other.now }
+    ensures one { IsTrue result ↔ (one.now ≡ other.now) }
 {
     one == other
 }

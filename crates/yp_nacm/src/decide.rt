@@ -1,5 +1,5 @@
 //! The decision on reading one place (RFC 8341 section 3.4.5).
-ghost use Rattle.std.specs.Prelude.{◌≡◌, ◌<◌, ◌≤◌, ◌++◌, ◌&&◌, IfSome, Some, length, take, true, nat_eq};
+ghost use Rattle.std.specs.Prelude.{◌≡◌, ◌<◌, ◌≤◌, ◌++◌, ◌&&◌, IfSome, Some, length, take, true, false, nat_eq};
 ghost use Rattle.yp_base.specs.Paths.{last_node};
 ghost use Rattle.yp_schema.specs.Datastore.{is_path_of};
 ghost use Rattle.yp_nacm.specs.Decision.{covers, decision, gives_keys, is_of_module, leaf_step, names_place, said};
@@ -63,12 +63,32 @@ fn is_at_or_above(steps: &[RuleSeg], segments: &[Seg], leaf: Option<u32>) -> boo
     }
 }
 
-/// Whether a rule's path names a place or one above it; a rule without a path is about each place.
+/// Whether the nodes of a rule's path are those of a place or of one above it, whatever keys are given.
+fn has_nodes_of(steps: &[RuleSeg], segments: &[Seg], leaf: Option<u32>) -> bool
+    ensures { result ≡ false → names_place steps.now (segments.now ++ leaf_step leaf) ≡ false }
+{
+    let Some((step, more)) = steps.split_first() else {
+        return true;
+    };
+    match segments.split_first() {
+        Some((segment, rest)) => step.node == segment.node && has_nodes_of(more, rest, leaf),
+        None => match leaf {
+            Some(leaf) => step.node == leaf,
+            None => false,
+        },
+    }
+}
+
+/// Whether a rule's path names a place or one above it; a rule without a path is about each place. Most
+/// paths name other nodes, so these are looked at before any key.
 fn covers_place(rule: &UserRule, segments: &[Seg], leaf: Option<u32>) -> bool
     ensures { result ≡ covers rule.now.path (segments.now ++ leaf_step leaf) }
 {
     match &rule.path {
-        Some(path) => is_at_or_above(path.items(), segments, leaf),
+        Some(path) => {
+            has_nodes_of(path.items(), segments, leaf)
+                && is_at_or_above(path.items(), segments, leaf)
+        }
         None => true,
     }
 }
@@ -102,8 +122,8 @@ pub(crate) fn node_of_place(schema: &Schema, path: &Path, depth: usize, leaf: Op
 }
 
 /// Whether a user with these rules may read the node at the first `depth` segments of a path, or at the
-/// leaf below it (RFC 8341 section 3.4.5). It takes no memory, and at most as many steps as there are
-/// rules, times the depth.
+/// leaf below it (RFC 8341 section 3.4.5). It takes no memory, and a number of steps in proportion to
+/// the rules and the depth.
 pub fn permits(
     rules: &UserRules,
     schema: &Schema,

@@ -1,3 +1,4 @@
 pub mod Items
+pub mod Paths
 pub mod TakenNames
 pub mod Words

@@ -1,5 +1,5 @@
 -- A policy in JSON (RFC 8341 section 3.5), and its first fault.
-use Rattle.std.specs.Prelude.{ℕ, List, [], Bool, Option, Some, option_and_then, Result, Ok, codes, length, All}
+use Rattle.std.specs.Prelude.{ℕ, List, [], Bool, Option, Some, option_and_then, Result, Ok, codes, length}
 use Rattle.std.specs.List.{list_any}
 use Rattle.serde_json.specs.Data.{Data, Items, no_items, Members}
 use Rattle.serde_json.specs.Find.{get_member, as_array}
@@ -18,7 +18,7 @@ use Rattle.yp_nacm_text.specs.declared.members.Part.TheVariants.{Document, Polic
 use Rattle.yp_nacm_text.specs.declared.switches.Switches.{Switches}
 use Rattle.yp_nacm_text.specs.Faults.{Fault}
 use Rattle.yp_nacm_text.specs.Members.{members_as, member_or, switch, default_word, texts_of, items_of, each_in}
-use Rattle.yp_nacm_text.specs.Rules.{unless_taken, rule_in, IsSubjectOf}
+use Rattle.yp_nacm_text.specs.Rules.{unless_taken, rule_in}
 
 -- ---- groups
 
@@ -94,10 +94,3 @@ policy_in nodes d =
     each_in next_group [] groups >>= λ groups.
     each_in (next_list nodes) [] lists >>= λ lists.
     Ok (record { enabled = switches.enabled; read_permit = switches.read_permit; exec_permit = switches.exec_permit; groups = groups; lists = lists })
-
--- each rule path of a policy is one of the schema
-abbrev pub IsListOf : List SchemaNode → RuleList → Type 0
-IsListOf nodes list = All (λ rule. IsSubjectOf nodes rule.subject) list.rules
-
-abbrev pub IsPolicyOf : List SchemaNode → Policy → Type 0
-IsPolicyOf nodes policy = All (IsListOf nodes) policy.lists

@@ -8,7 +8,6 @@ use Rattle.yp_base.specs.Results.{◌>>=◌, or_fault}
 use Rattle.yp_base.specs.Types.{same_text, is_among}
 use Rattle.yp_schema.specs.declared.rule_path.RuleSeg.{RuleSeg}
 use Rattle.yp_schema.specs.declared.schema.SchemaNode.{SchemaNode}
-use Rattle.yp_schema.specs.RulePaths.{IsRulePathOf}
 use Rattle.yp_path.specs.declared.fault.PathFault.{PathFault}
 use Rattle.yp_path.specs.RulePaths.{rule_path_in}
 use Rattle.yp_nacm.specs.declared.policy.Rule.{Rule}
@@ -103,10 +102,3 @@ rule_in nodes place taken d =
     or_fault (place, Action) (option_and_then permits_by (text_member (codes "action") ms)) >>= λ permit.
     unless_taken taken place name
     (Ok (record { name = name; «module» = unless_all (text_member (codes "module-name") ms); read = operations.read; exec = operations.exec; subject = subject; permit = permit }))
-
--- a subject's path, where it has one, is a rule path of the schema
-abbrev pub IsSubjectOf : List SchemaNode → Subject → Type 0
-IsSubjectOf nodes Any = Unit {0}
-IsSubjectOf nodes (OfPath path) = IsRulePathOf nodes path
-IsSubjectOf nodes (OfOperation name) = Unit {0}
-IsSubjectOf nodes Other = Unit {0}

@@ -8,6 +8,7 @@
 
 pub mod fault;
 mod group;
+pub mod laws;
 mod list;
 mod members;
 mod names;
@@ -15,5 +16,3 @@ mod operations;
 pub mod policy;
 mod rule;
 mod switches;
-#[cfg(test)]
-mod tests;

@@ -5,8 +5,8 @@ ghost use Rattle.yp_base.specs.Types.{is_among};
 ghost use Rattle.yp_nacm_text.specs.Faults.{Reads};
 ghost use Rattle.yp_nacm_text.specs.Members.{each_in};
 ghost use Rattle.yp_nacm_text.specs.NameSets.{AddsName};
-ghost use Rattle.yp_nacm_text.specs.Rules.{IsSubjectOf};
-ghost use Rattle.yp_nacm_text.specs.Policies.{next_rule, list_in, next_list, IsListOf};
+ghost use Rattle.yp_nacm.specs.Policies.{IsSubjectOf, IsListOf};
+ghost use Rattle.yp_nacm_text.specs.Policies.{next_rule, list_in, next_list};
 
 use crate::fault::{Place, PolicyFault, PolicyKind};
 use crate::members::{Part, items_in, members_as, text_in, text_of, texts_of};

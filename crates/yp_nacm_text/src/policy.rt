@@ -2,7 +2,8 @@
 ghost use Rattle.std.specs.Prelude.{◌≡◌, IfOk, option_map};
 ghost use Rattle.serde_json.specs.View.{view, items_view, members_view};
 ghost use Rattle.yp_nacm_text.specs.Faults.{Reads};
-ghost use Rattle.yp_nacm_text.specs.Policies.{policy_members, group_items, policy_in, IsPolicyOf};
+ghost use Rattle.yp_nacm.specs.Policies.{IsPolicyOf};
+ghost use Rattle.yp_nacm_text.specs.Policies.{policy_members, group_items, policy_in};
 
 use crate::fault::{Place, PolicyFault, PolicyKind};
 use crate::group::read_groups;

@@ -6,7 +6,8 @@ ghost use Rattle.yp_base.specs.Types.{is_among};
 ghost use Rattle.yp_nacm_text.specs.Faults.{Reads};
 ghost use Rattle.yp_nacm_text.specs.Members.{permits_by};
 ghost use Rattle.yp_nacm_text.specs.NameSets.{AddsName};
-ghost use Rattle.yp_nacm_text.specs.Rules.{are_texts, has, has_one_type, rule_members, unless_all, subject_named, subject_in, rule_in, IsSubjectOf};
+ghost use Rattle.yp_nacm.specs.Policies.{IsSubjectOf};
+ghost use Rattle.yp_nacm_text.specs.Rules.{are_texts, has, has_one_type, rule_members, unless_all, subject_named, subject_in, rule_in};
 
 use crate::fault::{Place, PolicyFault, PolicyKind};
 use crate::members::{Part, member_in, members_as, permits_by, text_in, text_of};

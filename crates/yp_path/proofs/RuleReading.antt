@@ -1,5 +1,5 @@
 -- What is read of a text is a rule path of the schema.
-use Rattle.std.proofs.Common.{◌≡◌, ℕ, ◌<◌, List, [], ◌∷◌, length, true, false, refl, sym, ap, subst, ◌∙◌, Option, Some, None, option_map, Result, Ok, Err, IfOk}
+use Rattle.std.proofs.Common.{◌≡◌, ℕ, ◌<◌, ◌==◌, List, [], ◌∷◌, length, Bool, true, false, if◌then◌else◌, refl, sym, ap, subst, ◌∙◌, Option, Some, None, option_map, Result, Ok, Err, IfOk}
 use Rattle.std.proofs.lemmas.Bool.{lt-ltb, and_from, cond-true, and_parts}
 use Rattle.yp_base.specs.declared.atom.Atom.{Atom}
 use Rattle.yp_base.specs.Results.{◌>>=◌, or_fault}
@@ -16,7 +16,7 @@ use Rattle.yp_path.specs.declared.fault.PathFault.TheVariants.{Syntax, UnknownNo
 use Rattle.yp_path.specs.declared.mark.Place.TheVariants.{Outside}
 use Rattle.yp_path.specs.declared.predicate.Predicate.{Predicate}
 use Rattle.yp_path.specs.Names.{child_named}
-use Rattle.yp_path.specs.RulePaths.{pieces, given_for, each_once, key_value, rule_keys, with_predicates, rule_part_in, predicates_of, is_bracket, rule_segment_in, rule_segments_in}
+use Rattle.yp_path.specs.RulePaths.{pieces, given_for, each_once, key_value, rule_keys, with_predicates, rule_part_in, predicates_of, is_bracket, rule_segment_in, rule_segments_in, rule_path_in}
 use Rattle.yp_path.specs.Targets.{some_name, value_of, asked_of_kind, asked, Gives}
 use Rattle.std.specs.List.{before_first}
 use Rattle.yp_path.proofs.Names.{named_at}
@@ -99,6 +99,14 @@ module _ (read_fits : ReadFits) (nodes : List SchemaNode) where
   path_of_pieces bs segs e =
       let cut = some_pieces 47 Outside bs in
       some_go cut.0 cut.1.0 segs (sym (ap (rule_segments_in nodes None) cut.1.1) ∙ e) (segments_go None (pieces 47 Outside bs) segs e)
+
+  pub path_of_text : (text : List ℕ) (path : List RuleSeg) → rule_path_in nodes text ≡ Ok path → IsRulePathOf nodes path
+  path_of_text [] path e = cc
+  path_of_text (b ∷ bs) path e = rooted (b == 47) e
+    where
+      rooted : (slash : Bool) → (if slash then rule_segments_in nodes None (pieces 47 Outside bs) else Err Syntax) ≡ Ok path → IsRulePathOf nodes path
+      rooted true e = path_of_pieces bs path e
+      rooted false e = cc
 
   -- the same of an answer
   pub path_answered : (bs : List ℕ) (answer : Result (List RuleSeg) PathFault) → Gives answer (rule_segments_in nodes None (pieces 47 Outside bs)) → IfOk answer (λ path. IsRulePathOf nodes path)

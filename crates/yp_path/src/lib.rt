@@ -15,6 +15,4 @@ mod name;
 mod predicate;
 pub mod rule;
 pub mod target;
-#[cfg(test)]
-mod tests;
 mod texts;

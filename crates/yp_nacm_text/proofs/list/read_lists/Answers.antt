@@ -5,7 +5,8 @@ use Rattle.serde_json.specs.View.{view}
 use Rattle.yp_base.specs.Types.{is_among}
 use Rattle.yp_schema.specs.declared.schema.SchemaNode.{SchemaNode}
 use Rattle.yp_nacm.specs.declared.policy.RuleList.{RuleList}
-use Rattle.yp_nacm_text.specs.Policies.{list_in, next_list, names_list, IsListOf}
+use Rattle.yp_nacm.specs.Policies.{IsListOf}
+use Rattle.yp_nacm_text.specs.Policies.{list_in, next_list, names_list}
 use Rattle.yp_nacm_text.proofs.Items.{each_more}
 use Rattle.yp_nacm_text.proofs.TakenNames.{named_more}
 use Rattle.yp_nacm_text.proofs.list.read_lists.Goals as goal

@@ -3,7 +3,8 @@ use Rattle.std.specs.Prelude.{All}
 use Rattle.serde_json.specs.View.{items_view}
 use Rattle.yp_base.specs.Types.{is_among}
 use Rattle.yp_nacm_text.specs.Members.{each_in}
-use Rattle.yp_nacm_text.specs.Policies.{names_list, next_list, IsListOf}
+use Rattle.yp_nacm.specs.Policies.{IsListOf}
+use Rattle.yp_nacm_text.specs.Policies.{names_list, next_list}
 use Rattle.yp_nacm_text.proofs.list.read_lists.Given as goal
 
 -- the rule lists so far, and after them the others, are all; their names are taken, and their paths are of the schema

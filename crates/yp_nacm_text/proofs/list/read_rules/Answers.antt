@@ -8,7 +8,8 @@ use Rattle.yp_schema.specs.declared.schema.SchemaNode.{SchemaNode}
 use Rattle.yp_nacm.specs.declared.policy.Rule.{Rule}
 use Rattle.yp_nacm_text.specs.declared.fault.Place.TheVariants.{Rule as OfRule}
 use Rattle.yp_nacm_text.specs.Faults.{Tells}
-use Rattle.yp_nacm_text.specs.Rules.{rule_in, IsSubjectOf}
+use Rattle.yp_nacm.specs.Policies.{IsSubjectOf}
+use Rattle.yp_nacm_text.specs.Rules.{rule_in}
 use Rattle.yp_nacm_text.specs.Policies.{next_rule, names_rule}
 use Rattle.yp_nacm_text.proofs.Items.{each_more, each_fault}
 use Rattle.yp_nacm_text.proofs.TakenNames.{named_more}

@@ -3,7 +3,7 @@ use Rattle.std.specs.Prelude.{All}
 use Rattle.serde_json.specs.View.{items_view}
 use Rattle.yp_base.specs.Types.{is_among}
 use Rattle.yp_nacm_text.specs.Members.{each_in}
-use Rattle.yp_nacm_text.specs.Rules.{IsSubjectOf}
+use Rattle.yp_nacm.specs.Policies.{IsSubjectOf}
 use Rattle.yp_nacm_text.specs.Policies.{names_rule, next_rule}
 use Rattle.yp_nacm_text.proofs.list.read_rules.Given as goal
 
