@@ -1,0 +1,5 @@
+pub mod Filters
+pub mod View
+pub mod Fits
+pub mod Reading
+pub mod Counts
