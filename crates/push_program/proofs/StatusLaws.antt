@@ -5,8 +5,7 @@ use Rattle.yp_script.specs.declared.fault.ScriptKind.{ScriptKind}
 use Rattle.yp_script.specs.declared.script.Script.{Script}
 use Rattle.push_program.specs.declared.top.Status.{Status}
 use Rattle.push_program.specs.declared.top.Status.TheVariants.{Done, BadWords, BadScript, ReadFault, WriteFault, NoMemory}
-use Rattle.push_program.specs.Answers.{Streams, Answers, is_run, tells_good_words, tells_whole_reading, TellsReading, TellsWriting, tells_no_writing, FitsScript, IsComplete}
-use Rattle.push_program.specs.Promise.{WritesTold, WritesPrefix}
+use Rattle.push_program.specs.Answers.{Streams, Answers, WritesTold, WritesPrefix, is_run, tells_good_words, tells_whole_reading, TellsReading, TellsWriting, tells_no_writing, FitsScript, IsComplete}
 use Rattle.yp_script.specs.Faults.{LineFault}
 use Rattle.yp_script.specs.Lines.{byte_limit}
 use Rattle.yp_script.specs.Script.{script_in}

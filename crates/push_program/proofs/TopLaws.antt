@@ -6,7 +6,8 @@ use Rattle.yp_script.specs.declared.script.Script.{Script}
 use Rattle.yp_script.specs.Faults.{LineFault}
 use Rattle.yp_script.specs.Lines.{byte_limit}
 use Rattle.yp_script.specs.Script.{script_of, script_in}
-use Rattle.push_program.specs.Promise.{Tells, WritesTold, WritesPrefix}
+use Rattle.yp_live.specs.Promise.{Tells}
+use Rattle.push_program.specs.Answers.{WritesTold, WritesPrefix}
 
 take_twice : (n : ℕ) (xs : List ℕ) → take n (take n xs) ≡ take n xs
 take_twice zero xs = refl

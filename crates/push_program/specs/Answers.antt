@@ -1,14 +1,23 @@
 -- What a status says of the words, the source and the sink.
-use Rattle.std.specs.Prelude.{◌≡◌, ℕ, ◌+◌, List, [], ◌∷◌, drop, Bool, true, false, codes, nat_eq, Option, Some, IfSome, Result, Ok, Err}
+use Rattle.std.specs.Prelude.{◌≡◌, ℕ, ◌+◌, List, [], ◌∷◌, ◌++◌, drop, Bool, true, false, codes, nat_eq, Option, Some, IfSome, Result, Ok, Err}
 use Rattle.std.specs.Cmp.Lexicographic.{pointwise}
 use Rattle.yp_io.specs.Causes.{Rose}
+use Rattle.yp_io.specs.Whole.{AppendsPrefix}
 use Rattle.yp_script.specs.declared.script.Script.{Script}
 use Rattle.yp_script.specs.Faults.{LineFault}
 use Rattle.push_program.specs.declared.top.Status.{Status}
 use Rattle.push_program.specs.declared.top.Status.TheVariants.{Done, BadWords, BadScript, ReadFault, WriteFault, NoMemory}
 use Rattle.yp_script.specs.Lines.{byte_limit}
 use Rattle.yp_script.specs.Script.{script_in}
-use Rattle.push_program.specs.Promise.{WritesTold, WritesPrefix}
+use Rattle.yp_live.specs.Promise.{Tells}
+
+-- of the bytes that were left such a text was written, whole
+abbrev pub WritesTold : Option (List ℕ) → Option (List ℕ) → Option (List ℕ) → Type 0
+WritesTold left before after = IfSome left (λ bytes. (text : List ℕ) × Tells bytes text × IfSome before (λ written. after ≡ Some (written ++ text)))
+
+-- a prefix of such a text was written
+abbrev pub WritesPrefix : Option (List ℕ) → Option (List ℕ) → Option (List ℕ) → Type 0
+WritesPrefix left before after = IfSome left (λ bytes. (text : List ℕ) × Tells bytes text × IfSome before (λ written. AppendsPrefix written after text))
 
 -- the words are the one word run
 abbrev pub is_run : List (List ℕ) → Bool

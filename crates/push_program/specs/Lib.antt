@@ -1,12 +1,1 @@
-pub mod Access
 pub mod Answers
-pub mod Concealed
-pub mod Desks
-pub mod Journal
-pub mod Notices
-pub mod Promise
-pub mod Received
-pub mod Report
-pub mod Roots
-pub mod Runs
-pub mod Turns

@@ -1,19 +1,9 @@
 //! The program: its words, standard input and standard output.
 #![tactic(auto)]
 
-mod access;
-mod changes;
-pub mod desk;
-pub mod holdings;
-pub mod made;
-pub mod report;
-pub mod run;
 #[cfg(test)]
 mod tests;
-mod text;
 pub mod top;
-pub mod turns;
-mod updates;
 
 use crate::top::{Status, push_main};
 use std::env::{Env, FillError};

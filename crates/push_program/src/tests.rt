@@ -23,10 +23,6 @@ const ESTABLISH: &str =
     r#"{"establish":{"by":"r1","datastore":"ietf-datastores:operational","on-change":{}}}
 "#;
 
-const CREATE: &str =
-    r#"{"patch":{"ietf-yang-patch:yang-patch":{"patch-id":"p","edit":[{"edit-id":"e","operation":"create","target":"/acme:interfaces/interface=eth0","value":{"acme:interface":[{"name":"eth0","mtu":1500}]}}]}}}
-"#;
-
 const REPORT: &str = r#"reply 1 0 1 {"id":2147483648}
 to r1 {"ietf-restconf:notification":{"eventTime":"2026-01-01T00:00:00.00Z","ietf-yang-push:push-update":{"datastore-contents":{},"id":2147483648}}}
 tree r1 2147483648 {}
@@ -50,17 +46,6 @@ fn run_words(alloc: Global) -> Result<Vec<Txt>, NoMemory> {
     Ok(words)
 }
 
-// Whether a run of these lines writes this report.
-fn reports(alloc: Global, lines: &[&str], want: &[&str]) -> Result<bool, NoMemory> {
-    let text = joined(alloc, lines)?;
-    let want = joined(alloc, want)?;
-    let mut source = MemSource::new(text.into_bytes(), 4096, Vec::new(alloc));
-    let mut sink = MemSink::with_room(alloc, 100_000, 100_000, Vec::new(alloc))?;
-    let words = run_words(alloc)?;
-    let status = push_main(alloc, words.as_slice(), &mut source, &mut sink);
-    Ok(status == Status::Done && sink.bytes() == want.as_bytes())
-}
-
 // The text of a script with one subscription.
 fn script(alloc: Global) -> Result<Vec<u8>, NoMemory> {
     Ok(joined(alloc, &[START, SCHEMA, RECEIVER, ESTABLISH])?.into_bytes())
@@ -81,8 +66,6 @@ fn reads(alloc: Global, most: usize, failing: u64, want: Status) -> Result<bool,
 #[test]
 fn pieces_of_any_length_make_the_same_script(rt: HostRuntime) -> Result<(), Fail> {
     let alloc = rt.alloc();
-    let lines = [START, SCHEMA, RECEIVER, ESTABLISH];
-    assert!(rt; reports(alloc, &lines, &[REPORT])?);
     for most in [1, 2, 3, 31, 760, 761, 5000] {
         assert!(rt;
             reads(alloc, most, 10_000, Status::Done)?,
@@ -93,7 +76,9 @@ fn pieces_of_any_length_make_the_same_script(rt: HostRuntime) -> Result<(), Fail
 }
 
 #[test]
-fn each_read_that_fails_is_told_and_nothing_is_written(rt: HostRuntime) -> Result<(), Fail> {
+fn a_read_that_fails_is_told_before_the_script_and_nothing_is_written(
+    rt: HostRuntime,
+) -> Result<(), Fail> {
     let alloc = rt.alloc();
     assert_eq!(rt; script(alloc)?.len(), 761);
     for call in 1..=9 {
@@ -104,6 +89,17 @@ fn each_read_that_fails_is_told_and_nothing_is_written(rt: HostRuntime) -> Resul
     assert!(rt; reads(alloc, 761, 3, Status::Done)?);
     assert!(rt; reads(alloc, 1, 762, Status::ReadFault)?);
     assert!(rt; reads(alloc, 1, 763, Status::Done)?);
+    let words = run_words(alloc)?;
+    let text = joined(alloc, &["x\n", START])?;
+    let mut source = MemSource::new(text.into_bytes(), 4096, vec![in alloc; 2u64]?);
+    let mut sink = MemSink::with_room(alloc, 0, 10, Vec::new(alloc))?;
+    let status = push_main(alloc, words.as_slice(), &mut source, &mut sink);
+    assert_eq!(rt; status, Status::ReadFault);
+    let text = joined(alloc, &[START, "x\n"])?;
+    let mut source = MemSource::new(text.into_bytes(), 4096, Vec::new(alloc));
+    let status = push_main(alloc, words.as_slice(), &mut source, &mut sink);
+    let kind = ScriptKind::NotJson;
+    assert_eq!(rt; status, Status::BadScript { line: 2, kind });
     Ok(())
 }
 
@@ -125,8 +121,20 @@ fn writes(
     Ok(status == want && bytes.len() == written && REPORT.as_bytes().starts_with(bytes))
 }
 
+// How a run ends whose sink has room for so many bytes.
+fn fits(alloc: Global, room: usize, want: Status) -> Result<bool, NoMemory> {
+    let mut source = MemSource::new(script(alloc)?, 4096, Vec::new(alloc));
+    let mut sink = MemSink::with_room(alloc, room, 1000, Vec::new(alloc))?;
+    let words = run_words(alloc)?;
+    let status = push_main(alloc, words.as_slice(), &mut source, &mut sink);
+    let bytes = sink.bytes();
+    Ok(status == want && bytes.len() == room && REPORT.as_bytes().starts_with(bytes))
+}
+
 #[test]
-fn each_write_that_fails_is_told_after_a_prefix_of_the_report(rt: HostRuntime) -> Result<(), Fail> {
+fn a_write_that_fails_or_finds_no_room_is_told_after_a_prefix_of_the_report(
+    rt: HostRuntime,
+) -> Result<(), Fail> {
     let alloc = rt.alloc();
     assert_eq!(rt; REPORT.len(), 204);
     assert!(rt; writes(alloc, 40, 3, Status::WriteFault, 80)?);
@@ -139,45 +147,10 @@ fn each_write_that_fails_is_told_after_a_prefix_of_the_report(rt: HostRuntime) -
     assert!(rt; writes(alloc, 40, 7, Status::Done, 204)?);
     assert!(rt; writes(alloc, 1, 204, Status::WriteFault, 203)?);
     assert!(rt; writes(alloc, 1, 205, Status::Done, 204)?);
-    Ok(())
-}
-
-// How a run ends whose sink has room for so many bytes.
-fn fits(alloc: Global, room: usize, want: Status) -> Result<bool, NoMemory> {
-    let mut source = MemSource::new(script(alloc)?, 4096, Vec::new(alloc));
-    let mut sink = MemSink::with_room(alloc, room, 1000, Vec::new(alloc))?;
-    let words = run_words(alloc)?;
-    let status = push_main(alloc, words.as_slice(), &mut source, &mut sink);
-    let bytes = sink.bytes();
-    Ok(status == want && bytes.len() == room && REPORT.as_bytes().starts_with(bytes))
-}
-
-#[test]
-fn a_sink_that_is_full_fails_after_what_it_took(rt: HostRuntime) -> Result<(), Fail> {
-    let alloc = rt.alloc();
     assert!(rt; fits(alloc, 0, Status::WriteFault)?);
     assert!(rt; fits(alloc, 3, Status::WriteFault)?);
     assert!(rt; fits(alloc, 203, Status::WriteFault)?);
     assert!(rt; fits(alloc, 204, Status::Done)?);
-    Ok(())
-}
-
-#[test]
-fn reading_is_told_before_the_script_and_the_script_before_writing(
-    rt: HostRuntime,
-) -> Result<(), Fail> {
-    let alloc = rt.alloc();
-    let words = run_words(alloc)?;
-    let text = joined(alloc, &["x\n", START])?;
-    let mut source = MemSource::new(text.into_bytes(), 4096, vec![in alloc; 2u64]?);
-    let mut sink = MemSink::with_room(alloc, 0, 10, Vec::new(alloc))?;
-    let status = push_main(alloc, words.as_slice(), &mut source, &mut sink);
-    assert_eq!(rt; status, Status::ReadFault);
-    let text = joined(alloc, &[START, "x\n"])?;
-    let mut source = MemSource::new(text.into_bytes(), 4096, Vec::new(alloc));
-    let status = push_main(alloc, words.as_slice(), &mut source, &mut sink);
-    let kind = ScriptKind::NotJson;
-    assert_eq!(rt; status, Status::BadScript { line: 2, kind });
     Ok(())
 }
 
@@ -208,22 +181,5 @@ fn other_arguments_are_refused_and_nothing_is_read(rt: HostRuntime) -> Result<()
     ] {
         assert!(rt; are_bad(alloc, &[word])?, "{word}");
     }
-    Ok(())
-}
-
-#[test]
-fn a_second_run_is_written_after_the_first(rt: HostRuntime) -> Result<(), Fail> {
-    let alloc = rt.alloc();
-    let words = run_words(alloc)?;
-    let mut sink = MemSink::with_room(alloc, 1000, 1000, Vec::new(alloc))?;
-    let mut source = MemSource::new(script(alloc)?, 4096, Vec::new(alloc));
-    let status = push_main(alloc, words.as_slice(), &mut source, &mut sink);
-    assert_eq!(rt; status, Status::Done);
-    let text = joined(alloc, &[START, SCHEMA, CREATE])?;
-    let mut source = MemSource::new(text.into_bytes(), 4096, Vec::new(alloc));
-    let status = push_main(alloc, words.as_slice(), &mut source, &mut sink);
-    assert_eq!(rt; status, Status::Done);
-    let want = joined(alloc, &[REPORT, "reply 1 0 1 {\"ok\":true}\n", "end\n"])?;
-    assert_eq!(rt; sink.bytes(), want.as_bytes());
     Ok(())
 }

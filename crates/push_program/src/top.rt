@@ -2,28 +2,20 @@
 ghost use Rattle.std.specs.Prelude.{◌≡◌, ◌+◌, ◌<◌, ◌≤◌, ℕ, List, true, length, drop, IfSome, IfOk, IfErr, Some, [], Ok, Err, string_bytes};
 ghost use Rattle.yp_script.specs.declared.fault.ScriptKind.{ScriptKind as Kind};
 ghost use Rattle.push_program.specs.declared.top.Status.TheVariants.{Done, BadWords, BadScript, WriteFault};
-ghost use Rattle.push_program.specs.Answers.{Answers, is_run, tells_good_words, tells_whole_reading, tells_no_writing, TellsReading, TellsWriting, IsComplete};
-ghost use Rattle.push_program.specs.Promise.{Tells, WritesTold, WritesPrefix};
-ghost use Rattle.yp_script.specs.Lines.{byte_limit, line_limit};
+ghost use Rattle.push_program.specs.Answers.{Answers, WritesTold, WritesPrefix, is_run, tells_good_words, tells_whole_reading, tells_no_writing, TellsReading, TellsWriting, IsComplete};
+ghost use Rattle.yp_live.specs.Promise.{Tells};
+ghost use Rattle.yp_script.specs.Lines.{byte_limit};
 ghost use Rattle.yp_script.specs.Readings.{IsFault};
-ghost use Rattle.yp_script.specs.Script.{script_in, MayRun, count_commands};
+ghost use Rattle.yp_script.specs.Script.{script_in};
 
-use crate::report::report_of;
-use crate::run::run_turns;
-use crate::text::text_of;
-use crate::turns::serial_turns;
 use std::alloc::Global;
-use std::marker::Brand;
-use std::sync::ledger::{Blank, Ledger};
-use yp_base::memory::NoMemory;
-use yp_base::steps::Steps;
 use yp_base::txt::Txt;
 use yp_io::sink::Sink;
 use yp_io::source::Source;
 use yp_io::whole::{ReadError, read_whole, write_whole};
+use yp_live::script::report_of_script;
 use yp_script::fault::{ScriptFault, ScriptKind};
 use yp_script::reading::{BYTE_LIMIT, read_script};
-use yp_script::script::Script;
 
 /// How a run ended.
 #[derive(Debug, Clone, Copy, PartialEq, Eq, Drop)]
@@ -52,39 +44,13 @@ fn are_run(words: &[Txt]) -> bool
     }
 }
 
-/// The report of a script's run.
-fn run_script<L: Ledger>(alloc: Global, script: Script, blank: Blank) -> Result<String, NoMemory>
-    requires name { blank.name ≡ L.name }
-    requires parts { blank.parts ≡ L.parts }
-    requires some { 0 < L.parts }
-    requires commands { MayRun script }
-    requires lanes { length script.lanes ≤ 64 }
-    requires count { count_commands script ≤ line_limit }
-    ensures { IfOk result (λ text. (bytes : List ℕ) → script_in bytes ≡ Ok script → Tells bytes (string_bytes text)) }
-{
-    let Script {
-        start,
-        schema,
-        receivers,
-        before,
-        lanes,
-        after,
-    } = script;
-    let mut steps = Steps::<L>::open(blank);
-    let receivers = receivers.list(alloc)?;
-    let turns = serial_turns(alloc, before, lanes, after)?;
-    let run = run_turns(alloc, &schema, receivers.items(), turns, &mut steps)?;
-    let report = report_of(alloc, receivers.items(), run)?;
-    text_of(alloc, &schema, &start, &report, &mut steps)
-}
-
 /// The report of the script that bytes are, or its first fault.
 fn report_in(alloc: Global, bytes: &[u8]) -> Result<String, ScriptFault>
     ensures text { IfOk result (λ text. Tells bytes.now (string_bytes text)) }
     ensures fault { IfErr result (λ fault. IsFault fault (script_in bytes.now)) }
 {
     match read_script(alloc, bytes) {
-        Ok(script) => match run_script::<Brand>(alloc, script, Blank::new(1)) {
+        Ok(script) => match report_of_script(alloc, script) {
             Ok(text) => Ok(text),
             Err(_) => Err(ScriptFault::Memory),
         },

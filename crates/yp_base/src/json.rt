@@ -193,6 +193,3 @@ pub fn read_json_fits()
     ensures { (ty : LeafType) (json : Data) (value : Value) → value_in ty json ≡ Some value
         → value_fits ty value ≡ true }
 {}
-
-#[cfg(test)]
-mod tests;

@@ -35,6 +35,3 @@ impl<T: Duplicate + Drop> Duplicate for Option<T> {
         }
     }
 }
-
-#[cfg(test)]
-mod tests;

@@ -223,6 +223,3 @@ pub fn compare(one: &Path, other: &Path) -> Ordering
 {
     one.cmp(other)
 }
-
-#[cfg(test)]
-mod tests;

@@ -115,6 +115,3 @@ impl Duplicate for Payload {
         Ok(Payload { kept })
     }
 }
-
-#[cfg(test)]
-mod tests;

@@ -188,6 +188,3 @@ pub fn fitting_value_is_writable()
     ensures { (ty : LeafType) (atom : Atom) → is_type ty ≡ true → fits ty atom ≡ true
         → is_writable atom ≡ true }
 {}
-
-#[cfg(test)]
-mod tests;

@@ -398,6 +398,3 @@ pub fn read_payload(
     let rows = read_content(alloc, schema, at, payload)?;
     Ok(rows)
 }
-
-#[cfg(test)]
-mod tests;

@@ -61,6 +61,3 @@ fn member_names_stand_once(members: &Map<String, Json>)
         names_stand_once(value);
     }
 }
-
-#[cfg(test)]
-mod tests;

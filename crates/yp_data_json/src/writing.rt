@@ -309,6 +309,3 @@ fn write_leaf(alloc: Global, schema: &Schema, node: u32, value: &Value) -> Resul
         None => Ok(Json::Null),
     }
 }
-
-#[cfg(test)]
-mod tests;

@@ -107,6 +107,3 @@ pub fn apply<L: Ledger>(
     commit(alloc, tree, &changed)?;
     Ok(changed)
 }
-
-#[cfg(test)]
-mod tests;

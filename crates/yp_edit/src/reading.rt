@@ -294,6 +294,3 @@ pub fn read_patch(alloc: Global, json: &Json) -> Result<Patch, PatchFault>
         None => Err(PatchFault::Shape),
     }
 }
-
-#[cfg(test)]
-mod tests;

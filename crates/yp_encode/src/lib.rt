@@ -6,5 +6,3 @@
 #![tactic(auto)]
 
 pub mod line;
-#[cfg(test)]
-mod tests;

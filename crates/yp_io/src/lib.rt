@@ -17,6 +17,4 @@ pub mod persistent;
 pub mod sink;
 pub mod source;
 pub mod streams;
-#[cfg(test)]
-mod tests;
 pub mod whole;

@@ -1,17 +1,24 @@
 -- Journals of one more entry.
-use Rattle.std.proofs.Common.{◌≡◌, ◌+◌, List, [], ◌∷◌, ◌++◌, length, true, Result, Ok, Err, refl, ◌∙◌, arith}
+use Rattle.std.proofs.Common.{◌≡◌, ◌+◌, List, [], ◌∷◌, ◌++◌, length, Bool, true, false, Result, Ok, Err, ◌≢◌, refl, ◌∙◌, arith}
 use Rattle.yp_base.specs.declared.row.Row.{Row}
 use Rattle.yp_schema.specs.declared.schema.SchemaNode.{SchemaNode}
+use Rattle.yp_nacm.specs.declared.execute.Operation.TheVariants.{Establish}
+use Rattle.yp_nacm.specs.declared.policy.Policy.{Policy}
 use Rattle.yp_edit.specs.Patches.{RefusedEdit, applied}
 use Rattle.yp_journal.specs.declared.command.Command.{Command}
-use Rattle.yp_journal.specs.declared.command.Command.TheVariants.{Tick, Edit, Everything}
+use Rattle.yp_journal.specs.declared.command.Command.TheVariants.{Tick, Edit, Rules, Everything}
 use Rattle.yp_journal.specs.declared.entry.Entry.{Entry}
-use Rattle.yp_journal.specs.History.{JournalState, one_further, rows_after, patch_reply, next_state, reply_to, is_refusal, state_after, state_of, MayFollow, IsLegal}
+use Rattle.yp_journal.specs.History.{JournalState, one_further, rows_after, patch_reply, may_ask, subscribed, subscription_reply, next_state, reply_to, is_refusal, state_after, state_of, MayFollow, IsLegal}
 
 -- a refused command leaves all but the position
 pub refusal_alone : (nodes : List SchemaNode) (state : JournalState) (command : Command) → is_refusal (reply_to nodes state command) ≡ true → next_state nodes state command ≡ one_further state
 refusal_alone nodes state (Tick tick) h = cc
-refusal_alone nodes state (Everything by) h = cc
+refusal_alone nodes state (Rules policy) h = cc
+refusal_alone nodes state (Everything by) h =
+    elim (may_ask state by Establish) as (λ (may : Bool). is_refusal (subscription_reply may state) ≡ true → subscribed may state by ≡ one_further state) [
+      | true ↦ λ g. cc
+      | false ↦ λ g. refl
+    ] h
 refusal_alone nodes state (Edit patch) h =
     elim (applied nodes state.rows patch) as (λ (after : Result (List Row) RefusedEdit). is_refusal (patch_reply patch after) ≡ true → record (one_further state) { rows = rows_after state.rows after } ≡ one_further state) [
       | Ok after ↦ λ g. cc
@@ -37,7 +44,12 @@ legal_more nodes state (first ∷ entries) entry legal follows = (legal.0, legal
 next_position : (nodes : List SchemaNode) (state : JournalState) (command : Command) → (next_state nodes state command).position ≡ state.position + 1
 next_position nodes state (Tick tick) = refl
 next_position nodes state (Edit patch) = refl
-next_position nodes state (Everything by) = refl
+next_position nodes state (Rules policy) = refl
+next_position nodes state (Everything by) =
+    elim (may_ask state by Establish) as (λ (may : Bool). (subscribed may state by).position ≡ state.position + 1) [
+      | true ↦ refl
+      | false ↦ refl
+    ]
 
 pub position_of : (nodes : List SchemaNode) (state : JournalState) (entries : List Entry) → (state_of nodes state entries).position ≡ state.position + length entries
 position_of nodes state [] = let same : state.position ≡ state.position + 0 = omega arith in same
@@ -50,8 +62,24 @@ position_of nodes state (entry ∷ entries) =
 next_receivers : (nodes : List SchemaNode) (state : JournalState) (command : Command) → (next_state nodes state command).receivers ≡ state.receivers
 next_receivers nodes state (Tick tick) = refl
 next_receivers nodes state (Edit patch) = refl
-next_receivers nodes state (Everything by) = refl
+next_receivers nodes state (Rules policy) = refl
+next_receivers nodes state (Everything by) =
+    elim (may_ask state by Establish) as (λ (may : Bool). (subscribed may state by).receivers ≡ state.receivers) [
+      | true ↦ refl
+      | false ↦ refl
+    ]
 
 pub receivers_stay : (nodes : List SchemaNode) (state : JournalState) (entries : List Entry) → (state_of nodes state entries).receivers ≡ state.receivers
 receivers_stay nodes state [] = refl
 receivers_stay nodes state (entry ∷ entries) = receivers_stay nodes (next_state nodes state entry.command) entries ∙ next_receivers nodes state entry.command
+
+-- a command other than a policy leaves the policy
+pub policy_stays : (nodes : List SchemaNode) (state : JournalState) (command : Command) → ((policy : Policy) → command ≢ Rules policy) → (next_state nodes state command).policy ≡ state.policy
+policy_stays nodes state (Tick tick) other = refl
+policy_stays nodes state (Edit patch) other = refl
+policy_stays nodes state (Rules policy) other = absurd (other policy refl)
+policy_stays nodes state (Everything by) other =
+    elim (may_ask state by Establish) as (λ (may : Bool). (subscribed may state by).policy ≡ state.policy) [
+      | true ↦ refl
+      | false ↦ refl
+    ]

@@ -1,17 +1,18 @@
 -- Commands leave a datastore a datastore.
-use Rattle.std.proofs.Common.{◌≡◌, List, [], ◌∷◌, true≢false, refl, sym, subst}
+use Rattle.std.proofs.Common.{◌≡◌, List, [], ◌∷◌, Bool, true, false, true≢false, refl, sym, subst}
 use Rattle.std.specs.Prelude.{Result, Ok, Err, OnOk, OnErr}
 use Rattle.yp_base.specs.declared.row.Row.{Row}
 use Rattle.yp_base.specs.RowLaws.{none_order}
 use Rattle.yp_schema.specs.declared.schema.SchemaNode.{SchemaNode}
 use Rattle.yp_schema.specs.Datastore.{IsDatastore}
+use Rattle.yp_nacm.specs.declared.execute.Operation.TheVariants.{Establish}
 use Rattle.yp_edit.specs.Patches.{RefusedEdit, applied}
 use Rattle.yp_edit.proofs.Keeping.{patch_keeps}
 use Rattle.yp_journal.specs.declared.command.Command.{Command}
-use Rattle.yp_journal.specs.declared.command.Command.TheVariants.{Tick, Edit, Everything}
+use Rattle.yp_journal.specs.declared.command.Command.TheVariants.{Tick, Edit, Rules, Everything}
 use Rattle.yp_journal.specs.declared.entry.Entry.{Entry}
 use Rattle.yp_journal.specs.declared.receiver.ReceiverInfo.{ReceiverInfo}
-use Rattle.yp_journal.specs.History.{JournalState, first_state, rows_after, next_state, state_of}
+use Rattle.yp_journal.specs.History.{JournalState, first_state, rows_after, may_ask, subscribed, next_state, state_of}
 
 -- no rows are a datastore
 pub opening_datastore : (nodes : List SchemaNode) (receivers : List ReceiverInfo) → IsDatastore nodes (first_state receivers).rows
@@ -29,7 +30,12 @@ command_keeps nodes state (Edit patch) datastore =
       | Ok after ↦ λ is. patch_keeps nodes state.rows after patch datastore is
       | Err fault ↦ λ is. datastore
     ] refl
-command_keeps nodes state (Everything by) datastore = datastore
+command_keeps nodes state (Rules policy) datastore = datastore
+command_keeps nodes state (Everything by) datastore =
+    elim (may_ask state by Establish) as (λ (may : Bool). IsDatastore nodes (subscribed may state by).rows) [
+      | true ↦ datastore
+      | false ↦ datastore
+    ]
 
 -- and so do the entries of a journal
 pub entries_keep : (nodes : List SchemaNode) (state : JournalState) (entries : List Entry) → IsDatastore nodes state.rows → IsDatastore nodes (state_of nodes state entries).rows

@@ -1,26 +1,36 @@
--- The history of a publisher: the state as the fold of its commands, the replies, and which journals are legal (RFC 8072 for patches, RFC 8639 and RFC 8641 for subscriptions).
-use Rattle.std.specs.Prelude.{◌≡◌, ℕ, ◌+◌, ◌<◌, ◌≤◌, ◌^◌, max, map, List, [], ◌∷◌, ◌++◌, length, Bool, true, false, Some, Result, Ok, Err, slice_index_or}
+-- The history of a publisher: the state as the fold of its commands, the replies, and which journals are legal (RFC 8072 for patches, RFC 8341 for access control, RFC 8639 and RFC 8641 for subscriptions).
+use Rattle.std.specs.Prelude.{◌≡◌, ℕ, ◌+◌, ◌<◌, ◌≤◌, ◌^◌, max, map, List, [], ◌∷◌, ◌++◌, length, Bool, true, false, Option, Some, None, Result, Ok, Err, slice_index_or}
+use Rattle.std.specs.List.{slice_get}
 use Rattle.serde_json.specs.Data.{Data}
+use Rattle.yp_base.specs.declared.path.Seg.{Seg}
 use Rattle.yp_base.specs.declared.row.Row.{Row}
 use Rattle.yp_schema.specs.declared.schema.SchemaNode.{SchemaNode}
+use Rattle.yp_nacm.specs.declared.compile.UserRules.{UserRules}
+use Rattle.yp_nacm.specs.declared.execute.Operation.{Operation}
+use Rattle.yp_nacm.specs.declared.execute.Operation.TheVariants.{Establish}
+use Rattle.yp_nacm.specs.declared.policy.Policy.{Policy}
+use Rattle.yp_nacm.specs.Decision.{is_readable, may_call}
+use Rattle.yp_nacm.specs.Own.{own_rules}
+use Rattle.yp_nacm.specs.Policies.{opening_policy, IsPolicyOf}
 use Rattle.yp_edit.specs.declared.patch.Edit.{Edit as PatchEdit}
 use Rattle.yp_edit.specs.declared.patch.Patch.{Patch}
 use Rattle.yp_edit.specs.Patches.{RefusedEdit, applied}
 use Rattle.yp_edit.specs.Shapes.{ids_of, patch_in}
 use Rattle.yp_time.specs.Ticks.{tick_limit}
 use Rattle.yp_journal.specs.declared.command.Command.{Command}
-use Rattle.yp_journal.specs.declared.command.Command.TheVariants.{Tick, Edit, Everything}
+use Rattle.yp_journal.specs.declared.command.Command.TheVariants.{Tick, Edit, Rules, Everything}
 use Rattle.yp_journal.specs.declared.entry.Entry.{Entry}
 use Rattle.yp_journal.specs.declared.receiver.ReceiverInfo.{ReceiverInfo}
 use Rattle.yp_journal.specs.declared.reply.Reply.{Reply}
-use Rattle.yp_journal.specs.declared.reply.Reply.TheVariants.{Done, Id, Edit as EditRefused}
+use Rattle.yp_journal.specs.declared.reply.Reply.TheVariants.{Done, Id, Denied, Edit as EditRefused}
 use Rattle.yp_journal.specs.declared.subscription.Subscription.{Subscription}
 
 -- ---- the state
 
--- what a command finds: the rows of the datastore, the tick, how many commands came before, how many ids were given so far, the subscriptions, and the receivers, which stay as they were declared
+-- what a command finds: the rows of the datastore, the policy of access control, the tick, how many commands came before, how many ids were given so far, the subscriptions, and the receivers, which stay as they were declared
 pub record JournalState : Type 0 where
   pub rows : List Row
+  pub policy : Policy
   pub stamp : ℕ
   pub position : ℕ
   pub given : ℕ
@@ -29,7 +39,7 @@ pub record JournalState : Type 0 where
 
 -- what the first command finds
 abbrev pub first_state : List ReceiverInfo → JournalState
-first_state receivers = record { rows = []; stamp = 0; position = 0; given = 0; subscriptions = []; receivers = receivers }
+first_state receivers = record { rows = []; policy = opening_policy; stamp = 0; position = 0; given = 0; subscriptions = []; receivers = receivers }
 
 -- the state one position further, with all else as it was
 abbrev pub one_further : JournalState → JournalState
@@ -55,6 +65,33 @@ abbrev pub patch_reply : Patch → Result (List Row) RefusedEdit → Reply
 patch_reply patch (Ok after) = Done
 patch_reply patch (Err refusal) = EditRefused (id_at refusal.number patch.edits) refusal.tag refusal.path
 
+-- ---- access control
+
+-- another policy in place of the old one
+abbrev pub with_policy : JournalState → Policy → JournalState
+with_policy state policy = record (one_further state) { policy = policy }
+
+-- the user of a receiver, where there is one
+abbrev pub user_in : Option ReceiverInfo → List ℕ
+user_in None = []
+user_in (Some receiver) = receiver.user
+
+-- the user of the receiver of this number
+abbrev pub user_of : ℕ → List ReceiverInfo → List ℕ
+user_of number receivers = user_in (slice_get receivers number)
+
+-- the own rules of the user of the receiver of this number (RFC 8341 section 3.4.5)
+abbrev pub rules_at : JournalState → ℕ → UserRules
+rules_at state receiver = own_rules state.policy (user_of receiver state.receivers)
+
+-- whether that user may read a path
+abbrev pub may_read : List SchemaNode → JournalState → ℕ → List Seg → Bool
+may_read nodes state receiver path = is_readable nodes (rules_at state receiver) path
+
+-- whether that user may call an operation (RFC 8341 section 3.4.4)
+abbrev pub may_ask : JournalState → ℕ → Operation → Bool
+may_ask state receiver op = may_call state.policy (user_of receiver state.receivers) op
+
 -- ---- subscriptions
 
 -- the id of the next subscription, where so many ids were given: ids rise from the first, and none is given twice
@@ -66,6 +103,15 @@ abbrev pub with_subscription : JournalState → ℕ → JournalState
 with_subscription state by =
     record (one_further state) { given = state.given + 1; subscriptions = state.subscriptions ++ record { id = next_id state.given; receiver = by } ∷ [] }
 
+-- the same where it may be established, and a refusal where it may not
+abbrev pub subscribed : Bool → JournalState → ℕ → JournalState
+subscribed true state by = with_subscription state by
+subscribed false state by = one_further state
+
+abbrev pub subscription_reply : Bool → JournalState → Reply
+subscription_reply true state = Id (next_id state.given)
+subscription_reply false state = Denied
+
 -- ---- commands
 
 -- the state after a command, and the reply to it
@@ -73,7 +119,8 @@ abbrev pub accepted : List SchemaNode → JournalState → Command → JournalSt
 accepted nodes state (Tick tick) = (with_tick state tick, Done)
 accepted nodes state (Edit patch) =
     (record (one_further state) { rows = rows_after state.rows (applied nodes state.rows patch) }, patch_reply patch (applied nodes state.rows patch))
-accepted nodes state (Everything by) = (with_subscription state by, Id (next_id state.given))
+accepted nodes state (Rules policy) = (with_policy state policy, Done)
+accepted nodes state (Everything by) = (subscribed (may_ask state by Establish) state by, subscription_reply (may_ask state by Establish) state)
 
 abbrev pub next_state : List SchemaNode → JournalState → Command → JournalState
 next_state nodes state command = (accepted nodes state command).0
@@ -85,6 +132,7 @@ reply_to nodes state command = (accepted nodes state command).1
 abbrev pub is_refusal : Reply → Bool
 is_refusal Done = false
 is_refusal (Id id) = false
+is_refusal Denied = true
 is_refusal (EditRefused edit_id tag path) = true
 
 -- the state after commands, in order
@@ -111,6 +159,7 @@ pub record IsRead (patch : Patch) : Type 0 where
 abbrev pub MayCome : List SchemaNode → List ReceiverInfo → Command → Type 0
 MayCome nodes receivers (Tick tick) = tick ≤ tick_limit
 MayCome nodes receivers (Edit patch) = IsRead patch
+MayCome nodes receivers (Rules policy) = IsPolicyOf nodes policy
 MayCome nodes receivers (Everything by) = by < length receivers
 
 -- an entry that may follow where the journal has this state: its command may come, and its reply and its stamp are those of the fold

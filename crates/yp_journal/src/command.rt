@@ -3,6 +3,7 @@ use std::alloc::Global;
 use yp_base::memory::{Duplicate, NoMemory};
 use yp_base::series::Series;
 use yp_edit::patch::Patch;
+use yp_nacm::policy::Policy;
 
 /// A command of the journal.
 #[derive(Drop)]
@@ -11,6 +12,8 @@ pub enum Command {
     Tick(u64),
     /// A patch of the datastore (RFC 8072 section 2).
     Edit(Patch),
+    /// Another policy of access control in place of the old one (RFC 8341 section 3.5).
+    Rules(Policy),
     /// An on-change subscription of everything (RFC 8641 section 3.1) for the receiver of this number,
     /// from 0 on in the order of their declaration.
     Everything { by: u32 },
@@ -24,6 +27,7 @@ impl Duplicate for Command {
         Ok(match self {
             Command::Tick(tick) => Command::Tick(*tick),
             Command::Edit(patch) => Command::Edit(patch.copy(alloc)?),
+            Command::Rules(policy) => Command::Rules(policy.copy(alloc)?),
             Command::Everything { by } => Command::Everything { by: *by },
         })
     }

@@ -1,8 +1,10 @@
 //! Laws of journals, which the definitions keep; nothing runs.
-ghost use Rattle.std.specs.Prelude.{◌≡◌, ◌+◌, ◌++◌, ◌∷◌, [], List, length, true};
+ghost use Rattle.std.specs.Prelude.{◌≡◌, ◌+◌, ◌++◌, ◌∷◌, [], List, length, true, ◌≢◌};
 ghost use Rattle.yp_schema.specs.declared.schema.SchemaNode.{SchemaNode};
 ghost use Rattle.yp_schema.specs.Datastore.{IsDatastore};
+ghost use Rattle.yp_nacm.specs.declared.policy.Policy.{Policy};
 ghost use Rattle.yp_journal.specs.declared.command.Command.{Command};
+ghost use Rattle.yp_journal.specs.declared.command.Command.TheVariants.{Rules};
 ghost use Rattle.yp_journal.specs.declared.entry.Entry.{Entry};
 ghost use Rattle.yp_journal.specs.declared.receiver.ReceiverInfo.{ReceiverInfo};
 ghost use Rattle.yp_journal.specs.History.{JournalState, first_state, one_further, next_state, reply_to, is_refusal, state_after, state_of, MayFollow, IsLegal};
@@ -26,6 +28,16 @@ pub fn a_journal_goes_on_entry_by_entry()
         → (state_of nodes state entries).position ≡ state.position + length entries }
     ensures receivers { (nodes : List SchemaNode) (state : JournalState) (entries : List Entry)
         → (state_of nodes state entries).receivers ≡ state.receivers }
+{}
+
+/// A policy stays until another one comes, and one that comes leaves the rows and the subscriptions.
+#[tactic(auto, using(crate::proofs::Journals::policy_stays))]
+pub fn a_policy_stays_until_another_comes()
+    ensures stays { (nodes : List SchemaNode) (state : JournalState) (command : Command)
+        → ((policy : Policy) → command ≢ Rules policy) → (next_state nodes state command).policy ≡ state.policy }
+    ensures comes { (nodes : List SchemaNode) (state : JournalState) (policy : Policy) → (next_state nodes state (Rules policy)).policy ≡ policy }
+    ensures rows { (nodes : List SchemaNode) (state : JournalState) (policy : Policy) → (next_state nodes state (Rules policy)).rows ≡ state.rows }
+    ensures subscriptions { (nodes : List SchemaNode) (state : JournalState) (policy : Policy) → (next_state nodes state (Rules policy)).subscriptions ≡ state.subscriptions }
 {}
 
 /// A legal journal stays legal with one entry more that may follow.

@@ -4,8 +4,9 @@ ghost use Rattle.yp_schema.specs.Datastore.{IsDatastore};
 ghost use Rattle.yp_edit.specs.Answers.{LeavesAll, NamesOneOf};
 ghost use Rattle.yp_edit.specs.Changes.{changed_rows};
 ghost use Rattle.yp_edit.specs.Patches.{applied};
+ghost use Rattle.yp_nacm.specs.declared.execute.Operation.TheVariants.{Establish};
 ghost use Rattle.yp_journal.specs.declared.command.Command.TheVariants.{Edit};
-ghost use Rattle.yp_journal.specs.History.{first_state, one_further, with_tick, with_subscription, id_at, next_id, next_state, reply_to, is_refusal, MayCome};
+ghost use Rattle.yp_journal.specs.History.{first_state, one_further, with_tick, with_policy, with_subscription, user_of, may_ask, subscribed, subscription_reply, id_at, next_id, next_state, reply_to, is_refusal, MayCome};
 ghost use Rattle.yp_time.specs.Ticks.{tick_limit};
 
 use crate::command::Command;
@@ -23,6 +24,8 @@ use yp_edit::applying::apply;
 use yp_edit::changed::Changed;
 use yp_edit::fault::EditFault;
 use yp_edit::patch::{Edits, Patch};
+use yp_nacm::execute::{Operation, may_exec};
+use yp_nacm::policy::Policy;
 use yp_schema::schema::Schema;
 use yp_tree::tree::Tree;
 
@@ -30,6 +33,7 @@ use yp_tree::tree::Tree;
 #[derive(Drop)]
 pub struct State {
     tree: Tree,
+    policy: Policy,
     stamp: u64,
     position: u64,
     /// How many ids of subscriptions were given.
@@ -45,7 +49,7 @@ impl Model for State {
 
     ghost Value = { JournalState };
 
-    ghost view = { λ s. record { rows = s.tree; stamp = s.stamp; position = s.position; given = s.given; subscriptions = s.subscriptions.items; receivers = s.receivers } };
+    ghost view = { λ s. record { rows = s.tree; policy = s.policy; stamp = s.stamp; position = s.position; given = s.given; subscriptions = s.subscriptions.items; receivers = s.receivers } };
 
     ghost invariant = { λ s. s.stamp ≤ tick_limit };
 }
@@ -107,8 +111,8 @@ fn no_changes(alloc: Global) -> Changed
 }
 
 impl State {
-    /// The state that the first command finds: no rows, no subscription, tick 0 and position 0, with
-    /// these receivers.
+    /// The state that the first command finds: no rows, the opening policy, no subscription, tick 0 and
+    /// position 0, with these receivers.
     pub fn new(
         alloc: Global,
         _schema: &Schema,
@@ -118,6 +122,7 @@ impl State {
     {
         Ok(State {
             tree: Tree::new(alloc),
+            policy: Policy::opening(alloc),
             stamp: 0,
             position: 0,
             given: 0,
@@ -131,6 +136,13 @@ impl State {
         ensures rows { result.now ≡ self.now.rows }
     {
         &self.tree
+    }
+
+    /// The policy of access control (RFC 8341 section 3.5).
+    pub fn policy(&self) -> &Policy
+        ensures policy { result.now ≡ self.now.policy }
+    {
+        &self.policy
     }
 
     /// The tick, in centiseconds from the start.
@@ -156,7 +168,8 @@ impl State {
     }
 
     /// Takes a command: the state goes on to what it leaves, and its reply and the rows that it changed
-    /// are told. A command that is refused moves the position alone. After `NoMemory` the state is as it
+    /// are told. A command that is refused moves the position alone; so a subscription is denied where the
+    /// receiver's user may not establish one (RFC 8341 section 3.4.4). After `NoMemory` the state is as it
     /// was; it is returned too where 2147483648 ids were given and a subscription is asked for. Rows that
     /// are a datastore of the schema stay one.
     #[tactic(auto, using(yp_edit::proofs::Differing::none_differ, crate::proofs::Keeping::command_kept))]
@@ -182,7 +195,8 @@ impl State {
         match command {
             Command::Tick(tick) => Ok(self.tick(alloc, *tick)),
             Command::Edit(patch) => self.edit(alloc, schema, patch),
-            Command::Everything { by } => self.subscribe(alloc, *by),
+            Command::Rules(policy) => self.govern(alloc, policy),
+            Command::Everything { by } => self.request(alloc, *by),
         }
     }
 
@@ -231,6 +245,39 @@ impl State {
             }
             Err(EditFault::Memory) => Err(NoMemory),
         }
+    }
+
+    /// Puts a policy in place of the old one.
+    fn govern(&mut self, alloc: Global, policy: &Policy) -> Result<Outcome, NoMemory>
+        requires { self.old.position < 2 ^ 63 }
+        ensures state { OnOk result (self.new ≡ with_policy self.old policy.now) }
+        ensures outcome { IfOk result (λ outcome. outcome ≡ record { stamp = self.old.stamp; reply = Reply.Done; changed = [] }) }
+        ensures unchanged { OnErr result (self.new ≡ self.old) }
+    {
+        self.policy = policy.copy(alloc)?;
+        Ok(self.advance(Reply::Done, no_changes(alloc)))
+    }
+
+    /// The user of the receiver of this number.
+    fn user(&self, number: u32) -> &str
+        requires { number < length self.now.receivers }
+        ensures { result.now ≡ user_of number self.now.receivers }
+    {
+        self.receivers.items()[number as usize].user.as_str()
+    }
+
+    /// Gives a subscription to a receiver, where its user may establish one.
+    fn request(&mut self, alloc: Global, by: u32) -> Result<Outcome, NoMemory>
+        requires receiver { by < length self.old.receivers }
+        requires position { self.old.position < 2 ^ 63 }
+        ensures state { OnOk result (self.new ≡ subscribed (may_ask self.old by Establish) self.old by) }
+        ensures outcome { IfOk result (λ outcome. outcome ≡ record { stamp = self.old.stamp; reply = subscription_reply (may_ask self.old by Establish) self.old; changed = [] }) }
+        ensures unchanged { OnErr result (self.new ≡ self.old) }
+    {
+        if !may_exec(&self.policy, self.user(by), Operation::Establish) {
+            return Ok(self.advance(Reply::Denied, no_changes(alloc)));
+        }
+        self.subscribe(alloc, by)
     }
 
     /// Gives a subscription to a receiver.

@@ -255,6 +255,3 @@ impl Schema {
 pub fn accepted_schema_is_compiled()
     ensures compiled { (parts : List Data) (nodes : List SchemaNode) → schema_of parts ≡ Ok nodes ↔ Compiles parts nodes }
 {}
-
-#[cfg(test)]
-mod tests;

@@ -57,10 +57,10 @@ taken_more progress (Start value) = map_any (with_start progress) (start_said va
 taken_more progress (Schema value) = map_any (with_part progress value) (schema_said (schema_of (progress.parts ++ value ∷ []))) (HasAtMost (count_so_far progress + 1)) (λ nodes. omega arith)
 taken_more progress (Receiver value) = map_any (with_receiver progress) (receiver_said progress.receivers value) (HasAtMost (count_so_far progress + 1)) (λ receiver. omega arith)
 taken_more progress (Command request) =
-    map_any (with_command progress) (command_said progress.receivers progress.established request) (HasAtMost (count_so_far progress + 1)) (λ command. command_more progress.stage (counting command progress) command)
+    map_any (with_command progress) (command_said progress.schema progress.receivers progress.established request) (HasAtMost (count_so_far progress + 1)) (λ command. command_more progress.stage (counting command progress) command)
 taken_more progress (Lanes value) = map_any (with_lanes progress) (lanes_said value) (HasAtMost (count_so_far progress + 1)) (λ count. omega (arith, no_more count))
 taken_more progress (Lane lane request) =
-    map_any (with_laned progress) (laned_said progress.receivers progress.established (length progress.lanes) lane request) (HasAtMost (count_so_far progress + 1))
+    map_any (with_laned progress) (laned_said progress.schema progress.receivers progress.established (length progress.lanes) lane request) (HasAtMost (count_so_far progress + 1))
     (λ laned. omega (arith, lane_more progress.lanes (laned.lane - 1) laned.command))
 taken_more progress (Join value) = if_is kinds.Member (is_yes value) (Ok progress) (HasAtMost (count_so_far progress + 1)) (λ yes. omega arith)
 

@@ -13,6 +13,10 @@ use Rattle.yp_base.specs.Results.{◌>>=◌, or_fault}
 use Rattle.yp_base.specs.Types.{same_text, is_among, are_distinct}
 use Rattle.yp_schema.specs.declared.schema.SchemaNode.{SchemaNode}
 use Rattle.yp_schema.specs.Reading.{schema_of}
+use Rattle.yp_nacm.specs.declared.policy.Policy.{Policy}
+use Rattle.yp_nacm.specs.Policies.{IsPolicyOf}
+use Rattle.yp_nacm_text.specs.Faults.{Fault}
+use Rattle.yp_nacm_text.specs.Policies.{policy_in}
 use Rattle.yp_edit.specs.Shapes.{patch_in}
 use Rattle.yp_journal.specs.declared.command.Command.{Command}
 use Rattle.yp_journal.specs.declared.command.Command.TheVariants as commands
@@ -25,10 +29,10 @@ use Rattle.yp_script.specs.declared.fault.ScriptFault.{ScriptFault}
 use Rattle.yp_script.specs.declared.form.Form.{Form}
 use Rattle.yp_script.specs.declared.form.Form.TheVariants as forms
 use Rattle.yp_script.specs.declared.form.Request.{Request}
-use Rattle.yp_script.specs.declared.form.Request.TheVariants.{Tick, Patch, Establish}
+use Rattle.yp_script.specs.declared.form.Request.TheVariants.{Tick, Patch, Policy as Ruling, Establish}
 use Rattle.yp_script.specs.declared.script.Script.{Script}
 use Rattle.yp_script.specs.declared.stage.Stage.{Stage}
-use Rattle.yp_script.specs.declared.stage.Stage.TheVariants.{After}
+use Rattle.yp_script.specs.declared.stage.Stage.TheVariants.{Opening, Started, Schemas, Receivers, Before, Within, After}
 use Rattle.yp_script.specs.Commands.{HasFewEdits, HasFew}
 use Rattle.yp_script.specs.Faults.{LineFault, Said, said_map}
 use Rattle.yp_script.specs.Forms.{line_form}
@@ -36,7 +40,7 @@ use Rattle.yp_script.specs.Lines.{Line, pieces_of, lines_from}
 use Rattle.yp_script.specs.Order.{next_stage}
 use Rattle.yp_script.specs.Readings.{Gives}
 use Rattle.yp_script.specs.Script.{Progress, no_progress, with_start, with_part, with_receiver, counting, put_at, with_command, with_lanes, with_laned, schema_said, taken, at_stage, form_taken, line_taken, at_line, complete_start, script_at, script_from, script_of, IsReceiver, AreReceivers, MayRun}
-use Rattle.yp_script.specs.Values.{is_receiver_name, is_user_name, is_new_name, names_of, receiver_number, has_receiver_form, name_said, user_said, queue_said, places_said, receiver_of, receiver_said, patch_said, is_of_everything, everything_said, subscription_limit, command_said, lanes_said, laned_said, start_said}
+use Rattle.yp_script.specs.Values.{is_receiver_name, is_user_name, is_new_name, names_of, receiver_number, has_receiver_form, name_said, user_said, queue_said, places_said, receiver_of, receiver_said, patch_said, sound, policy_said, is_of_everything, everything_said, subscription_limit, command_said, lanes_said, laned_said, start_said}
 use Rattle.yp_script.specs.Words.{text_at, where_true, whole_said, is_yes}
 use Rattle.yp_script.proofs.Positions.{position_within, none_there}
 use Rattle.yp_script.proofs.SaidLaws.{map_is, map_any, then_is, if_is, or_is, together_is, holding_is, where_is, itself_is, then_some, line_is, whole_is}
@@ -116,74 +120,154 @@ receiver_is receivers json =
 
 -- ---- commands
 
--- a command of these receivers
-abbrev pub IsOf : List ReceiverInfo → Command → Type 0
-IsOf receivers (commands.Tick tick) = tick ≤ tick_limit
-IsOf receivers (commands.Edit patch) = (json : Data) × (patch_in json ≡ Some patch)
-IsOf receivers (commands.Everything by) = by < length receivers
+-- a command of this schema and these receivers
+abbrev pub IsOf : List SchemaNode → List ReceiverInfo → Command → Type 0
+IsOf nodes receivers (commands.Tick tick) = tick ≤ tick_limit
+IsOf nodes receivers (commands.Edit patch) = (json : Data) × (patch_in json ≡ Some patch)
+IsOf nodes receivers (commands.Rules policy) = (json : Data) × (policy_in nodes json ≡ Ok policy)
+IsOf nodes receivers (commands.Everything by) = by < length receivers
 
-of_more : (receivers : List ReceiverInfo) (receiver : ReceiverInfo) (command : Command) → IsOf receivers command → IsOf (receivers ++ receiver ∷ []) command
-of_more receivers receiver (commands.Tick tick) is = is
-of_more receivers receiver (commands.Edit patch) is = is
-of_more receivers receiver (commands.Everything by) is = omega (arith, is, length-append receivers (receiver ∷ []))
+of_more : (nodes : List SchemaNode) (receivers : List ReceiverInfo) (receiver : ReceiverInfo) (command : Command) → IsOf nodes receivers command → IsOf nodes (receivers ++ receiver ∷ []) command
+of_more nodes receivers receiver (commands.Tick tick) is = is
+of_more nodes receivers receiver (commands.Edit patch) is = is
+of_more nodes receivers receiver (commands.Rules policy) is = is
+of_more nodes receivers receiver (commands.Everything by) is = omega (arith, is, length-append receivers (receiver ∷ []))
 
-all_more : (receivers : List ReceiverInfo) (receiver : ReceiverInfo) (gathered : List Command) → All (IsOf receivers) gathered → All (IsOf (receivers ++ receiver ∷ [])) gathered
-all_more receivers receiver gathered are = All-weaker (IsOf receivers) (IsOf (receivers ++ receiver ∷ [])) (of_more receivers receiver) gathered are
+all_more : (nodes : List SchemaNode) (receivers : List ReceiverInfo) (receiver : ReceiverInfo) (gathered : List Command) → All (IsOf nodes receivers) gathered → All (IsOf nodes (receivers ++ receiver ∷ [])) gathered
+all_more nodes receivers receiver gathered are = All-weaker (IsOf nodes receivers) (IsOf nodes (receivers ++ receiver ∷ [])) (of_more nodes receivers receiver) gathered are
 
-patch_is : (receivers : List ReceiverInfo) (json : Data) → IfOk (patch_said json) (IsOf receivers)
-patch_is receivers json =
-    map_is commands.Edit (or_fault kinds.Patch (patch_in json)) (λ patch. patch_in json ≡ Some patch) (IsOf receivers)
+patch_is : (nodes : List SchemaNode) (receivers : List ReceiverInfo) (json : Data) → IfOk (patch_said json) (IsOf nodes receivers)
+patch_is nodes receivers json =
+    map_is commands.Edit (or_fault kinds.Patch (patch_in json)) (λ patch. patch_in json ≡ Some patch) (IsOf nodes receivers)
     (or_is kinds.Patch (patch_in json) (λ patch. patch_in json ≡ Some patch) (itself_is (patch_in json)))
     (λ patch is. (json, is))
 
-everything_is : (receivers : List ReceiverInfo) (json : Data) → IfOk (everything_said receivers json) (IsOf receivers)
-everything_is receivers json =
+sound_is : {X : Type 0} (r : Result X Fault) → IfOk (sound r) (λ x. r ≡ Ok x)
+sound_is (Ok x) = refl
+sound_is (Err fault) = tt
+
+policy_is : (nodes : List SchemaNode) (receivers : List ReceiverInfo) (json : Data) → IfOk (policy_said nodes json) (IsOf nodes receivers)
+policy_is nodes receivers json = map_is commands.Rules (sound (policy_in nodes json)) (λ policy. policy_in nodes json ≡ Ok policy) (IsOf nodes receivers) (sound_is (policy_in nodes json)) (λ policy is. (json, is))
+
+everything_is : (nodes : List SchemaNode) (receivers : List ReceiverInfo) (json : Data) → IfOk (everything_said receivers json) (IsOf nodes receivers)
+everything_is nodes receivers json =
     let by = option_and_then (receiver_number receivers) (text_at (codes "by") json) in
-    if_is kinds.Member (is_of_everything json) (said_map commands.Everything (or_fault kinds.Member by)) (IsOf receivers) (λ whole.
-    map_is commands.Everything (or_fault kinds.Member by) (λ n. n < length receivers) (IsOf receivers)
+    if_is kinds.Member (is_of_everything json) (said_map commands.Everything (or_fault kinds.Member by)) (IsOf nodes receivers) (λ whole.
+    map_is commands.Everything (or_fault kinds.Member by) (λ n. n < length receivers) (IsOf nodes receivers)
     (or_is kinds.Member by (λ n. n < length receivers) (then_some (receiver_number receivers) (text_at (codes "by") json) (λ n. n < length receivers) (number_within receivers)))
     (λ n is. is))
 
-command_is : (receivers : List ReceiverInfo) (established : ℕ) (request : Request Data) → IfOk (command_said receivers established request) (IsOf receivers)
-command_is receivers established (Tick json) = map_is commands.Tick (whole_said 0 tick_limit json) (λ n. (0 ≤ n) × (n ≤ tick_limit)) (IsOf receivers) (whole_is 0 tick_limit json) (λ n bounds. bounds.1)
-command_is receivers established (Patch json) = patch_is receivers json
-command_is receivers established (Establish json) = if_is kinds.UnknownCommand (nat_lt established subscription_limit) (everything_said receivers json) (IsOf receivers) (λ few. everything_is receivers json)
+command_is : (nodes : List SchemaNode) (receivers : List ReceiverInfo) (established : ℕ) (request : Request Data) → IfOk (command_said nodes receivers established request) (IsOf nodes receivers)
+command_is nodes receivers established (Tick json) = map_is commands.Tick (whole_said 0 tick_limit json) (λ n. (0 ≤ n) × (n ≤ tick_limit)) (IsOf nodes receivers) (whole_is 0 tick_limit json) (λ n bounds. bounds.1)
+command_is nodes receivers established (Patch json) = patch_is nodes receivers json
+command_is nodes receivers established (Ruling json) = policy_is nodes receivers json
+command_is nodes receivers established (Establish json) = if_is kinds.UnknownCommand (nat_lt established subscription_limit) (everything_said receivers json) (IsOf nodes receivers) (λ few. everything_is nodes receivers json)
 
-laned_is : (receivers : List ReceiverInfo) (established count : ℕ) (place : Data) (request : Request Data) → IfOk (laned_said receivers established count place request) (λ laned. IsOf receivers laned.command)
-laned_is receivers established count place request =
-    together_is (λ lane command. record { lane = lane; command = command }) (whole_said 1 count place) (command_said receivers established request) (IsOf receivers) (λ laned. IsOf receivers laned.command)
-    (command_is receivers established request) (λ lane command is. is)
+laned_is : (nodes : List SchemaNode) (receivers : List ReceiverInfo) (established count : ℕ) (place : Data) (request : Request Data) → IfOk (laned_said nodes receivers established count place request) (λ laned. IsOf nodes receivers laned.command)
+laned_is nodes receivers established count place request =
+    together_is (λ lane command. record { lane = lane; command = command }) (whole_said 1 count place) (command_said nodes receivers established request) (IsOf nodes receivers) (λ laned. IsOf nodes receivers laned.command)
+    (command_is nodes receivers established request) (λ lane command is. is)
+
+-- ---- commands come after the schema
+
+-- before the receivers there is no command
+abbrev IsBare : Stage → List Command → List (List Command) → List Command → Type 0
+IsBare Opening first laned last = (first ≡ []) × (laned ≡ []) × (last ≡ [])
+IsBare Started first laned last = (first ≡ []) × (laned ≡ []) × (last ≡ [])
+IsBare Schemas first laned last = (first ≡ []) × (laned ≡ []) × (last ≡ [])
+IsBare other first laned last = Unit {0}
+
+abbrev Bare : Progress → Type 0
+Bare progress = IsBare progress.stage progress.before progress.lanes progress.after
+
+-- the same of a stage that is led to
+abbrev IsBareAt : Option Stage → List Command → List (List Command) → List Command → Type 0
+IsBareAt None first laned last = Unit {0}
+IsBareAt (Some stage) first laned last = IsBare stage first laned last
+
+module _ (first : List Command) (laned : List (List Command)) (last : List Command) where
+  start_leads : (stage : Stage) (value : Data) → IsBare stage first laned last → IsBareAt (next_stage stage (forms.Start value)) first laned last
+  start_leads Opening value bare = bare
+  start_leads other value bare = tt
+
+  schema_leads : (stage : Stage) (value : Data) → IsBare stage first laned last → IsBareAt (next_stage stage (forms.Schema value)) first laned last
+  schema_leads Started value bare = bare
+  schema_leads Schemas value bare = bare
+  schema_leads other value bare = tt
+
+  receiver_leads : (stage : Stage) (value : Data) → IsBareAt (next_stage stage (forms.Receiver value)) first laned last
+  receiver_leads Schemas value = tt
+  receiver_leads Receivers value = tt
+  receiver_leads other value = tt
+
+  command_leads : (stage : Stage) (request : Request Data) → IsBareAt (next_stage stage (forms.Command request)) first laned last
+  command_leads Schemas request = tt
+  command_leads Receivers request = tt
+  command_leads Before request = tt
+  command_leads After request = tt
+  command_leads other request = tt
+
+  lanes_lead : (stage : Stage) (value : Data) → IsBareAt (next_stage stage (forms.Lanes value)) first laned last
+  lanes_lead Schemas value = tt
+  lanes_lead Receivers value = tt
+  lanes_lead Before value = tt
+  lanes_lead other value = tt
+
+  lane_leads : (stage : Stage) (lane : Data) (request : Request Data) → IsBareAt (next_stage stage (forms.Lane lane request)) first laned last
+  lane_leads Within lane request = tt
+  lane_leads other lane request = tt
+
+  join_leads : (stage : Stage) (value : Data) → IsBareAt (next_stage stage (forms.Join value)) first laned last
+  join_leads Within value = tt
+  join_leads other value = tt
+
+  -- where a part of the schema may stand, no command came before it
+  part_bare : (stage next : Stage) (value : Data) → next_stage stage (forms.Schema value) ≡ Some next → IsBare stage first laned last → (first ≡ []) × (laned ≡ []) × (last ≡ [])
+  part_bare Started next value leads bare = bare
+  part_bare Schemas next value leads bare = bare
+  part_bare other next value leads bare = cc
 
 -- ---- scripts
 
 -- what a script keeps, and what it keeps so far
-pub record Keeps (known : List ReceiverInfo) (first : List Command) (laned : List (List Command)) (last : List Command) : Type 0 where
+pub record Keeps (nodes : List SchemaNode) (known : List ReceiverInfo) (first : List Command) (laned : List (List Command)) (last : List Command) : Type 0 where
   pub receivers : AreReceivers known
-  pub before : All (IsOf known) first
-  pub lanes : All (All (IsOf known)) laned
-  pub after : All (IsOf known) last
+  pub before : All (IsOf nodes known) first
+  pub lanes : All (All (IsOf nodes known)) laned
+  pub after : All (IsOf nodes known) last
   pub few : length laned ≤ 64
 
 abbrev Keep : Progress → Type 0
-Keep progress = Keeps progress.receivers progress.before progress.lanes progress.after
+Keep progress = Keeps progress.schema progress.receivers progress.before progress.lanes progress.after
 
 abbrev pub ScriptKeeps : Script → Type 0
-ScriptKeeps script = Keeps script.receivers script.before script.lanes script.after
+ScriptKeeps script = Keeps script.schema script.receivers script.before script.lanes script.after
 
 keeps_receiver : (progress : Progress) (receiver : ReceiverInfo) → Keep progress → MayJoin progress.receivers receiver → Keep (with_receiver progress receiver)
 keeps_receiver progress receiver keeps may = record {
   receivers = joined progress.receivers receiver keeps.receivers may;
-  before = all_more progress.receivers receiver progress.before keeps.before;
-  lanes = All-weaker (All (IsOf progress.receivers)) (All (IsOf (progress.receivers ++ receiver ∷ []))) (all_more progress.receivers receiver) progress.lanes keeps.lanes;
-  after = all_more progress.receivers receiver progress.after keeps.after;
+  before = all_more progress.schema progress.receivers receiver progress.before keeps.before;
+  lanes =
+      All-weaker (All (IsOf progress.schema progress.receivers)) (All (IsOf progress.schema (progress.receivers ++ receiver ∷ []))) (all_more progress.schema progress.receivers receiver) progress.lanes keeps.lanes;
+  after = all_more progress.schema progress.receivers receiver progress.after keeps.after;
   few = keeps.few;
 }
 
-keeps_command : (stage : Stage) (progress : Progress) (command : Command) → Keep progress → IsOf progress.receivers command → Keep (put_at stage progress command)
+-- of another schema, where there are no commands
+keeps_part : (progress : Progress) (part : Data) (nodes : List SchemaNode) → Keep progress → (progress.before ≡ []) × (progress.lanes ≡ []) × (progress.after ≡ []) → Keep (with_part progress part nodes)
+keeps_part progress part nodes keeps none = record {
+  receivers = keeps.receivers;
+  before = subst (All (IsOf nodes progress.receivers)) (sym none.0) (All-nil (IsOf nodes progress.receivers));
+  lanes = subst (All (All (IsOf nodes progress.receivers))) (sym none.1) (All-nil (All (IsOf nodes progress.receivers)));
+  after = subst (All (IsOf nodes progress.receivers)) (sym none.2) (All-nil (IsOf nodes progress.receivers));
+  few = keeps.few;
+}
+
+keeps_command : (stage : Stage) (progress : Progress) (command : Command) → Keep progress → IsOf progress.schema progress.receivers command → Keep (put_at stage progress command)
 keeps_command After progress command keeps is =
-    record { receivers = keeps.receivers; before = keeps.before; lanes = keeps.lanes; after = All-push (IsOf progress.receivers) progress.after command keeps.after is; few = keeps.few }
+    record { receivers = keeps.receivers; before = keeps.before; lanes = keeps.lanes; after = All-push (IsOf progress.schema progress.receivers) progress.after command keeps.after is; few = keeps.few }
 keeps_command other progress command keeps is =
-    record { receivers = keeps.receivers; before = All-push (IsOf progress.receivers) progress.before command keeps.before is; lanes = keeps.lanes; after = keeps.after; few = keeps.few }
+    record { receivers = keeps.receivers; before = All-push (IsOf progress.schema progress.receivers) progress.before command keeps.before is; lanes = keeps.lanes; after = keeps.after; few = keeps.few }
 
 lane_at : {X : Type 0} (P : X → Type 0) (lanes : List (List X)) (place : ℕ) → All (All P) lanes → All P (get_or lanes place [])
 lane_at P lanes place are =
@@ -192,50 +276,94 @@ lane_at P lanes place are =
       | inr h ↦ subst (All P) (sym (get_or_past lanes place [] h)) (All-nil P)
     ]
 
-keeps_laned : (progress : Progress) (laned : Laned) → Keep progress → IsOf progress.receivers laned.command → Keep (with_laned progress laned)
+keeps_laned : (progress : Progress) (laned : Laned) → Keep progress → IsOf progress.schema progress.receivers laned.command → Keep (with_laned progress laned)
 keeps_laned progress laned keeps is =
-    let lane : All (IsOf progress.receivers) (get_or progress.lanes (laned.lane - 1) [] ++ laned.command ∷ []) =
-    All-push (IsOf progress.receivers) (get_or progress.lanes (laned.lane - 1) []) laned.command (lane_at (IsOf progress.receivers) progress.lanes (laned.lane - 1) keeps.lanes) is in
+    let Own = IsOf progress.schema progress.receivers in
+    let lane : All Own (get_or progress.lanes (laned.lane - 1) [] ++ laned.command ∷ []) =
+    All-push Own (get_or progress.lanes (laned.lane - 1) []) laned.command (lane_at Own progress.lanes (laned.lane - 1) keeps.lanes) is in
     record {
       receivers = keeps.receivers;
       before = keeps.before;
-      lanes = All-set (All (IsOf progress.receivers)) progress.lanes (laned.lane - 1) (get_or progress.lanes (laned.lane - 1) [] ++ laned.command ∷ []) lane keeps.lanes;
+      lanes = All-set (All Own) progress.lanes (laned.lane - 1) (get_or progress.lanes (laned.lane - 1) [] ++ laned.command ∷ []) lane keeps.lanes;
       after = keeps.after;
       few = omega (arith, keeps.few, length-set progress.lanes (laned.lane - 1) (get_or progress.lanes (laned.lane - 1) [] ++ laned.command ∷ []));
     }
 
+-- what is kept where a line leads to a stage
+abbrev KeepAt : Stage → Progress → Type 0
+KeepAt stage progress = Keep progress × IsBare stage progress.before progress.lanes progress.after
+
+-- a stage that a line leads to is the one that it is known to lead to
+led : (leads : Option Stage) (stage : Stage) (first : List Command) (laned : List (List Command)) (last : List Command) → leads ≡ Some stage → IsBareAt leads first laned last → IsBare stage first laned last
+led leads stage first laned last is bare = subst (λ (to : Option Stage). IsBareAt to first laned last) is bare
+
 -- values that are taken leave what is kept
-keeps_taken : (progress : Progress) (form : Form Data) → Keep progress → IfOk (taken progress form) Keep
-keeps_taken progress (forms.Start value) keeps = map_any (with_start progress) (start_said value) Keep (λ start. keeps)
-keeps_taken progress (forms.Schema value) keeps = map_any (with_part progress value) (schema_said (schema_of (progress.parts ++ value ∷ []))) Keep (λ nodes. keeps)
-keeps_taken progress (forms.Receiver value) keeps =
-    map_is (with_receiver progress) (receiver_said progress.receivers value) (MayJoin progress.receivers) Keep (receiver_is progress.receivers value) (λ receiver may. keeps_receiver progress receiver keeps may)
-keeps_taken progress (forms.Command request) keeps =
-    map_is (with_command progress) (command_said progress.receivers progress.established request) (IsOf progress.receivers) Keep (command_is progress.receivers progress.established request)
-    (λ command is. keeps_command progress.stage (counting command progress) command keeps is)
-keeps_taken progress (forms.Lanes value) keeps =
-    map_is (with_lanes progress) (lanes_said value) (λ n. (1 ≤ n) × (n ≤ 64)) Keep (whole_is 1 64 value)
-    (λ count bounds. record {
-      receivers = keeps.receivers;
-      before = keeps.before;
-      lanes = All-replicate (All (IsOf progress.receivers)) count [] (All-nil (IsOf progress.receivers));
-      after = keeps.after;
-      few = omega (arith, bounds, length-replicate {A = List Command} count []);
-    })
-keeps_taken progress (forms.Lane lane request) keeps =
-    map_is (with_laned progress) (laned_said progress.receivers progress.established (length progress.lanes) lane request) (λ laned. IsOf progress.receivers laned.command) Keep
-    (laned_is progress.receivers progress.established (length progress.lanes) lane request) (λ laned is. keeps_laned progress laned keeps is)
-keeps_taken progress (forms.Join value) keeps = if_is kinds.Member (is_yes value) (Ok progress) Keep (λ yes. keeps)
+keeps_taken : (progress : Progress) (form : Form Data) (stage : Stage) → next_stage progress.stage form ≡ Some stage → Keep progress → Bare progress → IfOk (taken progress form) (KeepAt stage)
+keeps_taken progress (forms.Start value) stage leads keeps bare =
+    map_any (with_start progress) (start_said value) (KeepAt stage)
+    (λ start. (keeps, led (next_stage progress.stage (forms.Start value)) stage progress.before progress.lanes progress.after leads (start_leads progress.before progress.lanes progress.after progress.stage value bare)))
+keeps_taken progress (forms.Schema value) stage leads keeps bare =
+    map_any (with_part progress value) (schema_said (schema_of (progress.parts ++ value ∷ []))) (KeepAt stage)
+    (λ nodes. (
+      keeps_part progress value nodes keeps (part_bare progress.before progress.lanes progress.after progress.stage stage value leads bare),
+      led (next_stage progress.stage (forms.Schema value)) stage progress.before progress.lanes progress.after leads (schema_leads progress.before progress.lanes progress.after progress.stage value bare),
+    ))
+keeps_taken progress (forms.Receiver value) stage leads keeps bare =
+    map_is (with_receiver progress) (receiver_said progress.receivers value) (MayJoin progress.receivers) (KeepAt stage) (receiver_is progress.receivers value)
+    (λ receiver may. (
+      keeps_receiver progress receiver keeps may,
+      led (next_stage progress.stage (forms.Receiver value)) stage progress.before progress.lanes progress.after leads (receiver_leads progress.before progress.lanes progress.after progress.stage value),
+    ))
+keeps_taken progress (forms.Command request) stage leads keeps bare =
+    map_is (with_command progress) (command_said progress.schema progress.receivers progress.established request) (IsOf progress.schema progress.receivers) (KeepAt stage)
+    (command_is progress.schema progress.receivers progress.established request)
+    (λ command is.
+    let next = with_command progress command in (
+      keeps_command progress.stage (counting command progress) command keeps is,
+      led (next_stage progress.stage (forms.Command request)) stage next.before next.lanes next.after leads (command_leads next.before next.lanes next.after progress.stage request),
+    ))
+keeps_taken progress (forms.Lanes value) stage leads keeps bare =
+    map_is (with_lanes progress) (lanes_said value) (λ n. (1 ≤ n) × (n ≤ 64)) (KeepAt stage) (whole_is 1 64 value)
+    (λ count bounds.
+    let next = with_lanes progress count in (
+      record {
+        receivers = keeps.receivers;
+        before = keeps.before;
+        lanes = All-replicate (All (IsOf progress.schema progress.receivers)) count [] (All-nil (IsOf progress.schema progress.receivers));
+        after = keeps.after;
+        few = omega (arith, bounds, length-replicate {A = List Command} count []);
+      },
+      led (next_stage progress.stage (forms.Lanes value)) stage next.before next.lanes next.after leads (lanes_lead next.before next.lanes next.after progress.stage value),
+    ))
+keeps_taken progress (forms.Lane lane request) stage leads keeps bare =
+    map_is (with_laned progress) (laned_said progress.schema progress.receivers progress.established (length progress.lanes) lane request) (λ laned. IsOf progress.schema progress.receivers laned.command) (KeepAt stage)
+    (laned_is progress.schema progress.receivers progress.established (length progress.lanes) lane request)
+    (λ laned is.
+    let next = with_laned progress laned in (
+      keeps_laned progress laned keeps is,
+      led (next_stage progress.stage (forms.Lane lane request)) stage next.before next.lanes next.after leads (lane_leads next.before next.lanes next.after progress.stage lane request),
+    ))
+keeps_taken progress (forms.Join value) stage leads keeps bare =
+    if_is kinds.Member (is_yes value) (Ok progress) (KeepAt stage)
+    (λ yes. (keeps, led (next_stage progress.stage (forms.Join value)) stage progress.before progress.lanes progress.after leads (join_leads progress.before progress.lanes progress.after progress.stage value)))
 
-keeps_staged : (stage : Option Stage) (said : Said Progress) → IfOk said Keep → IfOk (at_stage stage said) Keep
-keeps_staged None (Ok progress) keeps = tt
-keeps_staged None (Err kind) keeps = tt
-keeps_staged (Some stage) said keeps = map_is (λ (progress : Progress). record progress { stage = stage }) said Keep Keep keeps (λ progress keep. keep)
+-- what is kept after a line
+abbrev Kept : Progress → Type 0
+Kept progress = Keep progress × Bare progress
 
-keeps_line : (progress : Progress) (json : Said Data) → Keep progress → IfOk (line_taken progress json) Keep
-keeps_line progress (Err kind) keeps = tt
-keeps_line progress (Ok value) keeps =
-    then_is (or_fault kinds.UnknownCommand (line_form value)) (form_taken progress) (λ form. Unit {0}) Keep (any_form (line_form value)) (λ form any. keeps_staged (next_stage progress.stage form) (taken progress form) (keeps_taken progress form keeps))
+unstaged : (said : Said Progress) → IfOk (at_stage None said) Kept
+unstaged (Ok progress) = tt
+unstaged (Err kind) = tt
+
+keeps_staged : (progress : Progress) (form : Form Data) (next : Option Stage) → next_stage progress.stage form ≡ next → Kept progress → IfOk (at_stage next (taken progress form)) Kept
+keeps_staged progress form None leads kept = unstaged (taken progress form)
+keeps_staged progress form (Some stage) leads kept =
+    map_is (λ (progress : Progress). record progress { stage = stage }) (taken progress form) (KeepAt stage) Kept (keeps_taken progress form stage leads kept.0 kept.1) (λ progress keep. keep)
+
+keeps_line : (progress : Progress) (json : Said Data) → Kept progress → IfOk (line_taken progress json) Kept
+keeps_line progress (Err kind) kept = tt
+keeps_line progress (Ok value) kept =
+    then_is (or_fault kinds.UnknownCommand (line_form value)) (form_taken progress) (λ form. Unit {0}) Kept (any_form (line_form value)) (λ form any. keeps_staged progress form (next_stage progress.stage form) refl kept)
   where
     any_form : (form : Option (Form Data)) → IfOk (or_fault kinds.UnknownCommand form) (λ form. Unit {0})
     any_form None = tt
@@ -245,12 +373,12 @@ keeps_end : (progress : Progress) (start : Option ℕ) → Keep progress → IfO
 keeps_end progress None keeps = tt
 keeps_end progress (Some start) keeps = keeps
 
-keeps_lines : (end : ℕ) (progress : Progress) (lines : List Line) → Keep progress → IfOk (script_from end progress lines) ScriptKeeps
-keeps_lines end progress [] keeps =
-    line_is end (or_fault kinds.Order (option_map (script_at progress) (complete_start progress.stage progress.start))) ScriptKeeps (keeps_end progress (complete_start progress.stage progress.start) keeps)
-keeps_lines end progress (line ∷ lines) keeps =
-    then_is (at_line line.number (line_taken progress line.json)) (λ next. script_from end next lines) Keep ScriptKeeps
-    (line_is line.number (line_taken progress line.json) Keep (keeps_line progress line.json keeps))
+keeps_lines : (end : ℕ) (progress : Progress) (lines : List Line) → Kept progress → IfOk (script_from end progress lines) ScriptKeeps
+keeps_lines end progress [] kept =
+    line_is end (or_fault kinds.Order (option_map (script_at progress) (complete_start progress.stage progress.start))) ScriptKeeps (keeps_end progress (complete_start progress.stage progress.start) kept.0)
+keeps_lines end progress (line ∷ lines) kept =
+    then_is (at_line line.number (line_taken progress line.json)) (λ next. script_from end next lines) Kept ScriptKeeps
+    (line_is line.number (line_taken progress line.json) Kept (keeps_line progress line.json kept))
     (λ next keep. keeps_lines end next lines keep)
 
 no_receivers : AreReceivers []
@@ -258,20 +386,26 @@ no_receivers = record { few = omega arith; distinct = refl; each = All-nil IsRec
 
 script_keeps : (end : ℕ) (lines : List Line) → IfOk (script_from end no_progress lines) ScriptKeeps
 script_keeps end lines =
-    keeps_lines end no_progress lines (record { receivers = no_receivers; before = All-nil (IsOf []); lanes = All-nil (All (IsOf [])); after = All-nil (IsOf []); few = omega arith })
+    keeps_lines end no_progress lines
+    (record { receivers = no_receivers; before = All-nil (IsOf [] []); lanes = All-nil (All (IsOf [] [])); after = All-nil (IsOf [] []); few = omega arith }, (refl, refl, refl))
 
 -- ---- what a journal of its receivers takes
 
-may_come : (nodes : List SchemaNode) (receivers : List ReceiverInfo) (command : Command) → IsOf receivers command → HasFewEdits command → MayCome nodes receivers command
-may_come nodes receivers (commands.Tick tick) is few = is
-may_come nodes receivers (commands.Edit patch) is few = record { json = is.0; read = is.1; few = few }
-may_come nodes receivers (commands.Everything by) is few = is
+-- a policy that is read is one of its schema
+abbrev pub PathsKept : Type 0
+PathsKept = (nodes : List SchemaNode) (json : Data) (policy : Policy) → policy_in nodes json ≡ Ok policy → IsPolicyOf nodes policy
 
-may_run : (script : Script) → ScriptKeeps script → HasFew script → MayRun script
-may_run script keeps few = record {
-  before = λ k d h. may_come script.schema script.receivers (get_or script.before k d) (keeps.before k d h) (few.before k d h);
-  lanes = λ k d h. λ j e g. may_come script.schema script.receivers (get_or (get_or script.lanes k d) j e) (keeps.lanes k d h j e g) (few.lanes k d h j e g);
-  after = λ k d h. may_come script.schema script.receivers (get_or script.after k d) (keeps.after k d h) (few.after k d h);
+may_come : PathsKept → (nodes : List SchemaNode) (receivers : List ReceiverInfo) (command : Command) → IsOf nodes receivers command → HasFewEdits command → MayCome nodes receivers command
+may_come paths nodes receivers (commands.Tick tick) is few = is
+may_come paths nodes receivers (commands.Edit patch) is few = record { json = is.0; read = is.1; few = few }
+may_come paths nodes receivers (commands.Rules policy) is few = paths nodes is.0 policy is.1
+may_come paths nodes receivers (commands.Everything by) is few = is
+
+may_run : PathsKept → (script : Script) → ScriptKeeps script → HasFew script → MayRun script
+may_run paths script keeps few = record {
+  before = λ k d h. may_come paths script.schema script.receivers (get_or script.before k d) (keeps.before k d h) (few.before k d h);
+  lanes = λ k d h. λ j e g. may_come paths script.schema script.receivers (get_or (get_or script.lanes k d) j e) (keeps.lanes k d h j e g) (few.lanes k d h j e g);
+  after = λ k d h. may_come paths script.schema script.receivers (get_or script.after k d) (keeps.after k d h) (few.after k d h);
 }
 
 -- ---- what is read
@@ -288,9 +422,9 @@ pub read_lanes : (r : Result Script ScriptFault) → IfOk r ScriptKeeps → IfOk
 read_lanes (Ok script) keeps = keeps.few
 read_lanes (Err fault) keeps = tt
 
-pub read_commands : (r : Result Script ScriptFault) → IfOk r ScriptKeeps → IfOk r HasFew → IfOk r MayRun
-read_commands (Ok script) keeps few = may_run script keeps few
-read_commands (Err fault) keeps few = tt
+pub read_commands : PathsKept → (r : Result Script ScriptFault) → IfOk r ScriptKeeps → IfOk r HasFew → IfOk r MayRun
+read_commands paths (Ok script) keeps few = may_run paths script keeps few
+read_commands paths (Err fault) keeps few = tt
 
 -- nothing past so many bytes is looked at
 pub take_least : (bytes : List ℕ) (most front : ℕ) → front ≡ min (length bytes) most → take front bytes ≡ take most bytes

@@ -1,3 +1,4 @@
+pub mod CommandLaws
 pub mod Counting
 pub mod Keeping
 pub mod Limits

@@ -79,6 +79,11 @@ pub bound_alike : {A B E : Type 0} (r : Result A E) (f g : A → Result B E) →
 bound_alike (Ok x) f g same = same x
 bound_alike (Err e) f g same = refl
 
+-- the same where these agree on what there is
+pub bound_where : {A B E : Type 0} (r : Result A E) (f g : A → Result B E) → ((x : A) → r ≡ Ok x → f x ≡ g x) → (r >>= f) ≡ (r >>= g)
+bound_where (Ok x) f g same = same x refl
+bound_where (Err e) f g same = refl
+
 bound_whole : (r : Result Nodes Fault) → (r >>= λ after. Ok after) ≡ r
 bound_whole (Ok x) = refl
 bound_whole (Err fault) = refl

@@ -31,7 +31,7 @@ use Rattle.yp_script.specs.Order.{next_stage}
 use Rattle.yp_script.specs.Readings.{Gives, IsFault, beside, at_part}
 use Rattle.yp_script.specs.Readers.{progress_with, schema_in, progress_in, progress_by, Added, Lacking, Adds, IsEarly, Took, Takes, Goes}
 use Rattle.yp_script.specs.Script.{Progress, with_part, schema_said, taken, at_stage, form_taken, line_taken, at_line, script_from}
-use Rattle.yp_script.proofs.PartLaws.{part_grows, bound_twice, bound_alike}
+use Rattle.yp_script.proofs.PartLaws.{part_grows, bound_twice, bound_alike, bound_where}
 
 -- ---- faults
 
@@ -50,10 +50,10 @@ by_nodes : (reader : Reader) (number : ℕ) (said : Progress → Said Progress) 
 by_nodes reader number said = bound_twice (schema_in reader) (λ nodes. Ok (progress_with reader nodes)) (λ progress. at_line number (said progress))
 
 -- two lines that say the same
-said_alike : (reader : Reader) (number : ℕ) (one other : Progress → Said Progress) → ((nodes : List SchemaNode) → one (progress_with reader nodes) ≡ other (progress_with reader nodes)) → progress_by reader number one ≡ progress_by reader number other
+said_alike : (reader : Reader) (number : ℕ) (one other : Progress → Said Progress) → ((nodes : List SchemaNode) → schema_in reader ≡ Ok nodes → one (progress_with reader nodes) ≡ other (progress_with reader nodes)) → progress_by reader number one ≡ progress_by reader number other
 said_alike reader number one other same =
     by_nodes reader number one
-    ∙ bound_alike (schema_in reader) (λ nodes. at_line number (one (progress_with reader nodes))) (λ nodes. at_line number (other (progress_with reader nodes))) (λ nodes. ap (at_line number) (same nodes))
+    ∙ bound_where (schema_in reader) (λ nodes. at_line number (one (progress_with reader nodes))) (λ nodes. at_line number (other (progress_with reader nodes))) (λ nodes known. ap (at_line number) (same nodes known))
     ∙ sym (by_nodes reader number other)
 
 -- a fault of the line itself, where the parts stay as they were
@@ -69,9 +69,9 @@ added_took : (old new : Reader) (number : ℕ) (form : Form Data) → Added old 
 added_took old new number form added = record {
   progress =
       by_nodes old number (λ progress. taken progress form)
-      ∙ bound_alike (schema_in old) (λ nodes. at_line number (taken (progress_with old nodes) form)) (λ nodes. Ok (progress_with new nodes)) (λ nodes. ap (at_line number) (added.taken nodes))
+      ∙ bound_where (schema_in old) (λ nodes. at_line number (taken (progress_with old nodes) form)) (λ nodes. Ok (progress_with new nodes)) (λ nodes known. ap (at_line number) (added.taken nodes known))
       ∙ ap (λ (r : Result (List SchemaNode) LineFault). r >>= λ nodes. Ok (progress_with new nodes)) (sym added.schema);
-  early = λ nodes. subst (λ (said : Said Progress). IsEarly said) (sym (added.taken nodes)) tt;
+  early = λ nodes known. subst (λ (said : Said Progress). IsEarly said) (sym (added.taken nodes known)) tt;
 }
 
 pub adds_takes : {U : Type 0} (r : Result U Halt) (old new : Reader) (number : ℕ) (form : Form Data) → Adds r old new form → Takes r old new number form
@@ -105,7 +105,7 @@ took_part old new line part numbers parts same =
           ∙ sym (bound_twice (schema_in old) (λ nodes. at_line line s) (λ made. Ok (progress_with new made)))
           ∙ ap (λ (r : Result (List SchemaNode) LineFault). r >>= λ made. Ok (progress_with new made))
           (sym (part_grows old.parts.numbers.items line ps part (numbers_many old)) ∙ (λ i. at_part (sym numbers i) (schema_of (sym parts i))));
-      early = λ nodes. part_early (progress_with old nodes) part (schema_of (ps ++ part ∷ []));
+      early = λ nodes known. part_early (progress_with old nodes) part (schema_of (ps ++ part ∷ []));
     }
 
 -- ---- a line of a form
@@ -132,12 +132,12 @@ misplaced_line line (Err kind) early = ap (λ own. Err (record { line = line; ki
 module _ (old mid : Reader) (line : ℕ) (form : Form Data) where
   -- where it is known to which stage the line leads, and what follows its values
   after_values : (next : Option Stage) (f : Progress → Result Progress LineFault) → next_stage old.stage form ≡ next → Took old mid line form
-      → ((nodes : List SchemaNode) → at_line line (at_stage next (taken (progress_with old nodes) form)) ≡ (at_line line (taken (progress_with old nodes) form) >>= f))
+      → ((nodes : List SchemaNode) → schema_in old ≡ Ok nodes → at_line line (at_stage next (taken (progress_with old nodes) form)) ≡ (at_line line (taken (progress_with old nodes) form) >>= f))
       → progress_by old line (λ progress. form_taken progress form) ≡ (progress_in mid >>= f)
   after_values next f leads took same =
-      said_alike old line (λ progress. form_taken progress form) (λ progress. at_stage next (taken progress form)) (λ nodes. ap (λ (to : Option Stage). at_stage to (taken (progress_with old nodes) form)) leads)
+      said_alike old line (λ progress. form_taken progress form) (λ progress. at_stage next (taken progress form)) (λ nodes known. ap (λ (to : Option Stage). at_stage to (taken (progress_with old nodes) form)) leads)
       ∙ by_nodes old line (λ progress. at_stage next (taken progress form))
-      ∙ bound_alike (schema_in old) (λ nodes. at_line line (at_stage next (taken (progress_with old nodes) form))) (λ nodes. (at_line line (taken (progress_with old nodes) form) >>= f)) same
+      ∙ bound_where (schema_in old) (λ nodes. at_line line (at_stage next (taken (progress_with old nodes) form))) (λ nodes. (at_line line (taken (progress_with old nodes) form) >>= f)) same
       ∙ sym (bound_twice (schema_in old) (λ nodes. at_line line (taken (progress_with old nodes) form)) f)
       ∙ ap (λ (r : Result Progress LineFault). r >>= f) (sym (by_nodes old line (λ progress. taken progress form)) ∙ took.progress)
 
@@ -145,16 +145,16 @@ module _ (old mid : Reader) (line : ℕ) (form : Form Data) where
   pub goes_on : (stage : Stage) → next_stage old.stage form ≡ Some stage → Took old mid line form
       → progress_by old line (λ progress. form_taken progress form) ≡ (schema_in mid >>= λ nodes. Ok (record (progress_with mid nodes) { stage = stage }))
   goes_on stage leads took =
-      after_values (Some stage) (λ (progress : Progress). Ok (record progress { stage = stage })) leads took (λ nodes. staged_line line (taken (progress_with old nodes) form) stage)
+      after_values (Some stage) (λ (progress : Progress). Ok (record progress { stage = stage })) leads took (λ nodes known. staged_line line (taken (progress_with old nodes) form) stage)
       ∙ bound_twice (schema_in mid) (λ nodes. Ok (progress_with mid nodes)) (λ (progress : Progress). Ok (record progress { stage = stage }))
 
   -- the line may not stand where it does
   pub goes_nowhere : next_stage old.stage form ≡ None → Took old mid line form → progress_by old line (λ progress. form_taken progress form) ≡ progress_by mid line (λ progress. Err kinds.Order)
-  goes_nowhere leads took = after_values None (λ progress. Err (record { line = line; kind = kinds.Order })) leads took (λ nodes. misplaced_line line (taken (progress_with old nodes) form) (took.early nodes))
+  goes_nowhere leads took = after_values None (λ progress. Err (record { line = line; kind = kinds.Order })) leads took (λ nodes known. misplaced_line line (taken (progress_with old nodes) form) (took.early nodes known))
 
   lacks : (next : Option Stage) (own told : ScriptKind) → next_stage old.stage form ≡ next → at_stage next (Err own) ≡ Err told → Lacking old mid form own → progress_by old line (λ progress. form_taken progress form) ≡ progress_by mid line (λ progress. Err told)
   lacks next own told leads is lacking =
-      said_alike old line (λ progress. form_taken progress form) (λ progress. Err told) (λ nodes. ap (λ (to : Option Stage). at_stage to (taken (progress_with old nodes) form)) leads ∙ ap (at_stage next) (lacking.fault nodes) ∙ is)
+      said_alike old line (λ progress. form_taken progress form) (λ progress. Err told) (λ nodes known. ap (λ (to : Option Stage). at_stage to (taken (progress_with old nodes) form)) leads ∙ ap (at_stage next) (lacking.fault nodes known) ∙ is)
       ∙ same_fault old mid line told lacking.schema
 
   -- what stops the values of the line
@@ -182,11 +182,11 @@ goes_known r old new line json v form is known goes =
 pub goes_formless : (old : Reader) (line : ℕ) (json : Result Value ScriptKind) (v : Value) → json ≡ Ok v → line_form (view v) ≡ None → progress_by old line (λ progress. line_taken progress (said_map view json)) ≡ progress_by old line (λ progress. Err kinds.UnknownCommand)
 goes_formless old line json v is known =
     said_alike old line (λ progress. line_taken progress (said_map view json)) (λ progress. Err kinds.UnknownCommand)
-    (λ nodes. ap (λ (j : Result Value ScriptKind). line_taken (progress_with old nodes) (said_map view j)) is ∙ ap (λ (o : Option (Form Data)). or_fault kinds.UnknownCommand o >>= form_taken (progress_with old nodes)) known)
+    (λ nodes schema. ap (λ (j : Result Value ScriptKind). line_taken (progress_with old nodes) (said_map view j)) is ∙ ap (λ (o : Option (Form Data)). or_fault kinds.UnknownCommand o >>= form_taken (progress_with old nodes)) known)
 
 pub goes_unread : (old : Reader) (line : ℕ) (json : Result Value ScriptKind) (kind : ScriptKind) → json ≡ Err kind → progress_by old line (λ progress. line_taken progress (said_map view json)) ≡ progress_by old line (λ progress. Err kind)
 goes_unread old line json kind is =
-    said_alike old line (λ progress. line_taken progress (said_map view json)) (λ progress. Err kind) (λ nodes. ap (λ (j : Result Value ScriptKind). line_taken (progress_with old nodes) (said_map view j)) is)
+    said_alike old line (λ progress. line_taken progress (said_map view json)) (λ progress. Err kind) (λ nodes known. ap (λ (j : Result Value ScriptKind). line_taken (progress_with old nodes) (said_map view j)) is)
 
 -- ---- the fault of a script
 

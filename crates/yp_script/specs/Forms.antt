@@ -7,7 +7,7 @@ use Rattle.serde_json.specs.declared.value.Value.{Value}
 use Rattle.yp_base.specs.Json.{member_of}
 use Rattle.yp_base.specs.Types.{same_text}
 use Rattle.yp_script.specs.declared.form.Request.{Request}
-use Rattle.yp_script.specs.declared.form.Request.TheVariants.{Tick, Patch, Establish}
+use Rattle.yp_script.specs.declared.form.Request.TheVariants.{Tick, Patch, Policy, Establish}
 use Rattle.yp_script.specs.declared.form.Form.{Form}
 use Rattle.yp_script.specs.declared.form.Form.TheVariants.{Start, Schema, Receiver, Command, Lanes, Lane, Join}
 use Rattle.yp_script.specs.Words.{has_count, sole_member, text_at, says, has, has_terms}
@@ -35,8 +35,9 @@ abbrev pub request_named : List ℕ → Data → Option (Request Data)
 request_named name value =
     if same_text name (codes "tick") then Some (Tick value)
     else (if same_text name (codes "patch") then Some (Patch value)
+    else (if same_text name (codes "policy") then Some (Policy value)
     else (if same_text name (codes "establish") && not (is_later_subscription value) then Some (Establish value)
-    else None))
+    else None)))
 
 -- the command that an object of one member asks for
 abbrev pub request_in : Data → Option (Request Data)
@@ -74,6 +75,7 @@ line_form json = form_by (sole_member json) json
 abbrev pub seen_request : Request (Bor Value) → Request Data
 seen_request (Tick value) = Tick (view value.now)
 seen_request (Patch value) = Patch (view value.now)
+seen_request (Policy value) = Policy (view value.now)
 seen_request (Establish value) = Establish (view value.now)
 
 abbrev pub seen_form : Form (Bor Value) → Form Data

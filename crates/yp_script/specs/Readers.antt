@@ -52,12 +52,12 @@ script_by end reader = progress_in reader >>= ended end
 -- values that are no part of the schema were added to what a reader holds
 pub record Added (old new : Reader) (form : Form Data) : Type 0 where
   pub schema : schema_in new ≡ schema_in old
-  pub taken : (nodes : List SchemaNode) → taken (progress_with old nodes) form ≡ Ok (progress_with new nodes)
+  pub taken : (nodes : List SchemaNode) → schema_in old ≡ Ok nodes → taken (progress_with old nodes) form ≡ Ok (progress_with new nodes)
 
 -- values with this fault, which left the parts of the schema as they were
 pub record Lacking (old new : Reader) (form : Form Data) (own : ScriptKind) : Type 0 where
   pub schema : schema_in new ≡ schema_in old
-  pub fault : (nodes : List SchemaNode) → taken (progress_with old nodes) form ≡ Err own
+  pub fault : (nodes : List SchemaNode) → schema_in old ≡ Ok nodes → taken (progress_with old nodes) form ≡ Err own
 
 abbrev pub Adds : {U : Type 0} → Result U Halt → Reader → Reader → Form Data → Type 0
 Adds (Ok u) old new form = Added old new form
@@ -72,7 +72,7 @@ IsEarly (Err own) = least Order own ≡ own
 -- values were taken; a part of the schema among them may still have a fault
 pub record Took (old new : Reader) (number : ℕ) (form : Form Data) : Type 0 where
   pub progress : progress_by old number (λ progress. taken progress form) ≡ progress_in new
-  pub early : (nodes : List SchemaNode) → IsEarly (taken (progress_with old nodes) form)
+  pub early : (nodes : List SchemaNode) → schema_in old ≡ Ok nodes → IsEarly (taken (progress_with old nodes) form)
 
 abbrev pub Takes : {U : Type 0} → Result U Halt → Reader → Reader → ℕ → Form Data → Type 0
 Takes (Ok u) old new number form = Took old new number form

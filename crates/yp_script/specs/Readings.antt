@@ -15,6 +15,11 @@ abbrev pub IsFault : {X : Type 0} → ScriptFault → Result X LineFault → Typ
 IsFault (At line kind) read = read ≡ Err (record { line = line; kind = kind })
 IsFault Memory read = Unit {0}
 
+-- what stops the reading of a line at this fault of the script
+abbrev pub halt_of : ScriptFault → Halt
+halt_of (At line kind) = halts.Fault kind
+halt_of Memory = halts.Memory
+
 -- what was read, or its fault
 abbrev pub Gives : {X : Type 0} → Result X ScriptFault → Result X LineFault → Type 0
 Gives (Ok x) read = read ≡ Ok x

@@ -86,14 +86,14 @@ abbrev pub schema_said : Result (List SchemaNode) Fault → Said (List SchemaNod
 schema_said (Ok nodes) = Ok nodes
 schema_said (Err fault) = Err kinds.Schema
 
--- what the values of a line add, or the least of their faults; a part of the schema is judged by those before it
+-- what the values of a line add, or the least of their faults; a part of the schema is judged by those before it, and a policy by the schema so far
 abbrev pub taken : Progress → Form Data → Said Progress
 taken progress (forms.Start value) = said_map (with_start progress) (start_said value)
 taken progress (forms.Schema value) = said_map (with_part progress value) (schema_said (schema_of (progress.parts ++ value ∷ [])))
 taken progress (forms.Receiver value) = said_map (with_receiver progress) (receiver_said progress.receivers value)
-taken progress (forms.Command request) = said_map (with_command progress) (command_said progress.receivers progress.established request)
+taken progress (forms.Command request) = said_map (with_command progress) (command_said progress.schema progress.receivers progress.established request)
 taken progress (forms.Lanes value) = said_map (with_lanes progress) (lanes_said value)
-taken progress (forms.Lane lane request) = said_map (with_laned progress) (laned_said progress.receivers progress.established (length progress.lanes) lane request)
+taken progress (forms.Lane lane request) = said_map (with_laned progress) (laned_said progress.schema progress.receivers progress.established (length progress.lanes) lane request)
 taken progress (forms.Join value) = if is_yes value then Ok progress else Err kinds.Member
 
 -- the same at the stage to which the line leads; a line that may not stand at its place has that fault too
@@ -162,7 +162,7 @@ pub record AreReceivers (receivers : List ReceiverInfo) : Type 0 where
   pub distinct : are_distinct (names_of receivers) ≡ true
   pub each : All IsReceiver receivers
 
--- each command of a script may come in a journal of its receivers
+-- each command of a script may come in a journal of its schema and its receivers
 pub record MayRun (script : Script) : Type 0 where
   pub before : All (MayCome script.schema script.receivers) script.before
   pub lanes : All (All (MayCome script.schema script.receivers)) script.lanes

@@ -7,7 +7,7 @@ ghost use Rattle.yp_script.specs.Faults.{Said, together};
 ghost use Rattle.yp_script.specs.Forms.{seen_request};
 ghost use Rattle.yp_script.specs.Readings.{Tells};
 ghost use Rattle.yp_script.specs.Script.{established_by};
-ghost use Rattle.yp_script.specs.Values.{is_of_everything, patch_said, everything_said, command_said};
+ghost use Rattle.yp_script.specs.Values.{is_of_everything, patch_said, policy_said, everything_said, command_said};
 
 use crate::fault::ScriptKind;
 use crate::form::Request;
@@ -20,6 +20,9 @@ use yp_base::json::member;
 use yp_edit::fault::PatchFault;
 use yp_edit::reading::read_patch;
 use yp_journal::command::Command;
+use yp_nacm_text::fault::PolicyFault;
+use yp_nacm_text::policy::read_policy;
+use yp_schema::schema::Schema;
 
 /// The last tick.
 const LAST_TICK: u64 = 1_000_000_000_000;
@@ -36,6 +39,18 @@ fn read_edit(alloc: Global, json: &Json) -> Result<Command, Halt>
         Ok(patch) => Ok(Command::Edit(patch)),
         Err(PatchFault::Shape) => Err(Halt::Fault(ScriptKind::Patch)),
         Err(PatchFault::Memory) => Err(Halt::Memory),
+    }
+}
+
+/// The policy that a line asks for (RFC 8341 section 3.5).
+fn read_rules(alloc: Global, schema: &Schema, json: &Json) -> Result<Command, Halt>
+    ensures read { Tells result (policy_said schema.now (view json.now)) }
+    ensures few { IfOk result HasFewEdits }
+{
+    match read_policy(alloc, schema, json) {
+        Ok(policy) => Ok(Command::Rules(policy)),
+        Err(PolicyFault::At { .. }) => Err(Halt::Fault(ScriptKind::Policy)),
+        Err(PolicyFault::Memory) => Err(Halt::Memory),
     }
 }
 
@@ -64,21 +79,24 @@ fn read_everything(receivers: &Receivers, json: &Json) -> Result<Command, Script
     }
 }
 
-/// The command that a line asks for, where so many subscriptions are asked for before it.
+/// The command that a line asks for, by the schema so far, where so many subscriptions are asked for
+/// before it.
 pub fn read_command(
     alloc: Global,
+    schema: &Schema,
     receivers: &Receivers,
     established: u32,
     request: Request<&Json>,
 ) -> Result<Command, Halt>
     requires { established ≤ 256 }
-    ensures read { Tells result (command_said receivers.now established (seen_request request.entry)) }
+    ensures read { Tells result (command_said schema.now receivers.now established (seen_request request.entry)) }
     ensures few { IfOk result HasFewEdits }
     ensures most { IfOk result (λ command. established_by command established ≤ 256) }
 {
     match request {
         Request::Tick(json) => Ok(Command::Tick(whole(json, 0, LAST_TICK)?)),
         Request::Patch(json) => read_edit(alloc, json),
+        Request::Policy(json) => read_rules(alloc, schema, json),
         Request::Establish(json) => {
             if established >= MOST_ESTABLISHED {
                 return Err(Halt::Fault(ScriptKind::UnknownCommand));

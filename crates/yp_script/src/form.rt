@@ -15,6 +15,8 @@ pub enum Request<V> {
     Tick(V),
     /// A patch of the datastore (RFC 8072).
     Patch(V),
+    /// A policy of access control (RFC 8341).
+    Policy(V),
     /// A subscription to every change of everything (RFC 8641 section 3.1).
     Establish(V),
 }
@@ -75,6 +77,8 @@ fn request_named<'a>(name: &str, value: &'a Json) -> Option<Request<&'a Json>>
         Some(Request::Tick(value))
     } else if name == "patch" {
         Some(Request::Patch(value))
+    } else if name == "policy" {
+        Some(Request::Policy(value))
     } else if name == "establish" && !is_later_subscription(value) {
         Some(Request::Establish(value))
     } else {

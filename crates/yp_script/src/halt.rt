@@ -3,7 +3,7 @@ ghost use Rattle.std.specs.Prelude.{◌≡◌};
 ghost use Rattle.yp_script.specs.Faults.{least};
 ghost use Rattle.yp_script.specs.Readings.{beside};
 
-use crate::fault::ScriptKind;
+use crate::fault::{ScriptFault, ScriptKind};
 use std::alloc::AllocError;
 use yp_base::memory::NoMemory;
 
@@ -22,6 +22,20 @@ impl From<ScriptKind> for Halt {
 
     fn from(kind: ScriptKind) -> Halt {
         Halt::Fault(kind)
+    }
+}
+
+impl From<ScriptFault> for Halt {
+    ghost use Rattle.std.specs.Prelude.{◌≡◌};
+    ghost use Rattle.yp_script.specs.Readings.{halt_of};
+
+    ghost from_gives = { λ fault e. e ≡ halt_of fault };
+
+    fn from(fault: ScriptFault) -> Halt {
+        match fault {
+            ScriptFault::At { kind, .. } => Halt::Fault(kind),
+            ScriptFault::Memory => Halt::Memory,
+        }
     }
 }
 

@@ -5,7 +5,7 @@
 //! its receivers as the list of them in declared order, and its commands as lists. What a script is
 //! stands in `specs/Script.antt`, as a fold of its lines; the forms of lines in `specs/Forms.antt`, and
 //! what each says in `specs/Values.antt`; the order of lines in `specs/Order.antt`. Lines are JSON texts
-//! (RFC 8259), patches follow RFC 8072 and subscriptions RFC 8641.
+//! (RFC 8259), patches follow RFC 8072, policies RFC 8341 and subscriptions RFC 8641.
 #![tactic(auto)]
 
 mod command;
@@ -23,6 +23,4 @@ pub mod receivers;
 pub mod script;
 mod stage;
 mod start;
-#[cfg(test)]
-mod tests;
 mod words;

@@ -26,8 +26,8 @@ use yp_time::start::Start;
 /// The most lanes.
 const MOST_LANES: u64 = 64;
 
-/// What the lines so far say. The parts of the schema are compiled together, at the end or where the
-/// script stops: a part's fault is found then, and is still told at its own line.
+/// What the lines so far say. The parts of the schema are compiled together, at the first command, at the
+/// end or where the script stops: a part's fault is found then, and is still told at its own line.
 #[derive(Drop)]
 pub struct Reader {
     pub stage: Stage,
@@ -54,9 +54,10 @@ impl Reader {
     ghost use Rattle.yp_script.specs.Faults.{said_map};
     ghost use Rattle.yp_script.specs.Forms.{seen_form, seen_request};
     ghost use Rattle.yp_script.specs.Order.{next_stage};
-    ghost use Rattle.yp_script.specs.Readers.{progress_with, progress_in, progress_by, script_by, Adds, Takes, Goes, Steps};
-    ghost use Rattle.yp_script.specs.Readings.{Gives, IsFault};
+    ghost use Rattle.yp_script.specs.Readers.{progress_with, schema_in, progress_in, progress_by, script_by, Adds, Takes, Goes, Steps};
+    ghost use Rattle.yp_script.specs.Readings.{Gives, IsFault, Tells};
     ghost use Rattle.yp_script.specs.Script.{Progress, no_progress, with_command, with_laned, taken, at_stage, form_taken, line_taken, established_by};
+    ghost use Rattle.yp_script.specs.Values.{command_said};
     ghost use Rattle.yp_script.specs.declared.form.Form.TheVariants as forms;
 
     /// Before the first line.
@@ -114,11 +115,25 @@ impl Reader {
         }
     }
 
+    /// The command that a line asks for, by the schema of the parts so far, which are compiled where they
+    /// aren't yet. Where a part has a fault, the script stops with it, whatever is answered here.
+    fn read_asked(&mut self, alloc: Global, request: Request<&Json>) -> Result<Command, Halt>
+        ensures said { (nodes : List SchemaNode) → schema_in self.old ≡ Ok nodes → Tells result (command_said nodes self.old.receivers self.old.established (seen_request request.entry)) }
+        ensures schema { schema_in self.new ≡ schema_in self.old }
+        ensures same { (nodes : List SchemaNode) → progress_with self.new nodes ≡ progress_with self.old nodes }
+        ensures few { IfOk result HasFewEdits }
+        ensures most { IfOk result (λ command. established_by command self.new.established ≤ 256) }
+    {
+        self.parts.compile(alloc)?;
+        let schema = self.parts.compiled();
+        read_command(alloc, schema, &self.receivers, self.established, request)
+    }
+
     /// Takes a command outside the lanes.
     fn take_command(&mut self, alloc: Global, request: Request<&Json>) -> Result<(), Halt>
         ensures { Adds result self.old self.new (forms.Command (seen_request request.entry)) }
     {
-        let command = read_command(alloc, &self.receivers, self.established, request)?;
+        let command = self.read_asked(alloc, request)?;
         self.put_command(command)?;
         Ok(())
     }
@@ -141,8 +156,8 @@ impl Reader {
     ) -> Result<(), Halt>
         ensures { Adds result self.old self.new (forms.Lane (view number.now) (seen_request request.entry)) }
     {
+        let command = self.read_asked(alloc, request);
         let lane = whole(number, 1, self.lanes.len() as u64);
-        let command = read_command(alloc, &self.receivers, self.established, request);
         let laned = lane_command(lane, command)?;
         self.established = established_by(&laned.command, self.established);
         push_in(&mut self.lanes, laned)?;
@@ -216,7 +231,7 @@ impl Reader {
     fn stop(&self, alloc: Global, line: u32, kind: ScriptKind) -> ScriptFault
         ensures { IsFault result (progress_by self.now line (λ progress. Err kind)) }
     {
-        match self.parts.compile(alloc) {
+        match self.parts.read(alloc) {
             Ok(_) => ScriptFault::At { line, kind },
             Err(fault) => fault,
         }
@@ -250,7 +265,7 @@ impl Reader {
             after,
             ..
         } = self;
-        let schema = parts.compile(alloc)?;
+        let schema = parts.into_schema(alloc)?;
         schema.stands();
         match complete_start(stage, start) {
             Some(start) => Ok(Script {

@@ -13,6 +13,7 @@ use crate::fault::ScriptFault;
 use crate::reader::Reader;
 use crate::script::Script;
 use std::alloc::Global;
+use yp_nacm_text::laws::a_read_policy_is_of_its_schema;
 
 /// Reads the script of a text.
 fn read_text(alloc: Global, text: &[u8]) -> Result<Script, ScriptFault>
@@ -34,7 +35,8 @@ fn read_text(alloc: Global, text: &[u8]) -> Result<Script, ScriptFault>
 /// behind them where there are lanes. The fault is that of the first line that has one, by the lines
 /// before it; of its faults the least is told, but a line past the limits of lines and bytes has
 /// `Limit` before all others. Where the text ends too early, the line after the last has `Order`. The
-/// commands of a script that was read may run in a journal of its receivers, and are 100,000 at most.
+/// commands of a script that was read may run in a journal of its schema and receivers, and are 100,000
+/// at most.
 pub fn read_script(alloc: Global, bytes: &[u8]) -> Result<Script, ScriptFault>
     ensures read { Gives result (script_in bytes.now) }
     ensures order { OnOk result (AreInOrder (lines_from 0 0 (pieces_of (take (byte_limit + 1) bytes.now)))) }
@@ -45,6 +47,8 @@ pub fn read_script(alloc: Global, bytes: &[u8]) -> Result<Script, ScriptFault>
     ensures lanes { IfOk result (λ script. length script.lanes ≤ 64) }
     ensures count { IfOk result (λ script. count_commands script ≤ line_limit) }
 {
+    // The paths of a policy are of the schema by which it is read.
+    a_read_policy_is_of_its_schema();
     let (text, _) = bytes.split_at(bytes.len().min(BYTE_LIMIT + 1));
     read_text(alloc, text)
 }

@@ -12,6 +12,4 @@ pub mod due;
 mod form;
 pub mod instant;
 pub mod start;
-#[cfg(test)]
-mod tests;
 pub mod writing;

@@ -2,7 +2,7 @@ use Rattle.std.proofs.Common.{ℕ, List, ap, sym, subst, refl, ◌∙◌}
 use Rattle.yp_script.specs.declared.fault.ScriptFault.{ScriptFault}
 use Rattle.yp_script.specs.Script.{script_in}
 use Rattle.yp_script.specs.Readings.{IsFault}
-use Rattle.push_program.specs.Promise.{Tells}
+use Rattle.yp_live.specs.Promise.{Tells}
 use Rattle.push_program.proofs.TopLaws.{reads_all, script_read, told_written, prefix_written}
 use Rattle.push_program.proofs.top.answer.Goals as goal
 

@@ -1,0 +1,2 @@
+-- Lemmas on rows.
+pub mod Datastores

@@ -1,0 +1,101 @@
+//! Calls of `yp_filter`: subtree filters.
+use crate::shown::{Answer, atom, push_comma, push_quoted, quoted};
+use serde_json::Value as Json;
+use std::alloc::Global;
+use yp_base::row::Value;
+use yp_filter::fault::FilterFault;
+use yp_filter::filter::{Filter, FilterNode, FilterSet};
+use yp_schema::schema::Schema;
+
+pub fn answer(alloc: Global, schema: &Schema, call: &str, arguments: &Json) -> Answer {
+    Ok(match call {
+        "filter" => Some(read(alloc, schema, arguments)?),
+        _ => None,
+    })
+}
+
+/// The filter that JSON is, with its size, or its fault.
+fn read(alloc: Global, schema: &Schema, json: &Json) -> anyhow::Result<String> {
+    match Filter::read(alloc, schema, json) {
+        Ok(filter) => shown(alloc, schema, &filter.copy(alloc)?, filter.size()),
+        Err(FilterFault::Memory) => Ok(Err(FilterFault::Memory)?),
+        Err(fault) => quoted(alloc, format!(in alloc; "{fault}")?.as_str()),
+    }
+}
+
+fn shown(alloc: Global, schema: &Schema, filter: &Filter, size: u32) -> anyhow::Result<String> {
+    let mut told = String::from_str(alloc, "{\"set\":")?;
+    match filter {
+        Filter::All => told.push_str("null")?,
+        Filter::Set(set) => push_set(alloc, schema, &mut told, set)?,
+    }
+    told.push_str(format!(in alloc; ",\"size\":{size}}}")?.as_str())?;
+    Ok(told)
+}
+
+/// Appends the nodes of a set.
+#[cycle(shown)]
+fn push_set(
+    alloc: Global,
+    schema: &Schema,
+    told: &mut String,
+    set: &FilterSet,
+) -> anyhow::Result<()> {
+    told.push('[')?;
+    for node in set.items() {
+        push_comma(told)?;
+        push_node(alloc, schema, told, node)?;
+    }
+    told.push(']')?;
+    Ok(())
+}
+
+/// Appends a node: the name that a selection node has, a match node's with its value, and a containment
+/// node's with its set. `?` stands for a name that isn't in the schema.
+#[cycle(shown)]
+fn push_node(
+    alloc: Global,
+    schema: &Schema,
+    told: &mut String,
+    node: &FilterNode,
+) -> anyhow::Result<()> {
+    match node {
+        FilterNode::Select { node } => push_quoted(alloc, told, name_of(schema, *node)),
+        FilterNode::Match { node, value } => push_match(alloc, schema, told, *node, value),
+        FilterNode::Within { node, set } => {
+            told.push('{')?;
+            push_quoted(alloc, told, name_of(schema, *node))?;
+            told.push(':')?;
+            push_set(alloc, schema, told, set)?;
+            told.push('}')?;
+            Ok(())
+        }
+        FilterNode::Unknown => push_quoted(alloc, told, "?"),
+        FilterNode::UnknownMatch => push_quoted(alloc, told, "?="),
+    }
+}
+
+/// Appends a match node: its name and its value.
+fn push_match(
+    alloc: Global,
+    schema: &Schema,
+    told: &mut String,
+    node: u32,
+    value: &Value,
+) -> anyhow::Result<()> {
+    let name = name_of(schema, node);
+    let value = match value {
+        Value::Atom(held) => atom(alloc, held)?,
+        _ => String::from_str(alloc, "no atom")?,
+    };
+    push_quoted(alloc, told, format!(in alloc; "{name}={value}")?.as_str())
+}
+
+/// The member form of a node.
+fn name_of(schema: &Schema, node: u32) -> &str {
+    if node < schema.count() {
+        schema.member_text(node)
+    } else {
+        "no node"
+    }
+}

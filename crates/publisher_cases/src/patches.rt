@@ -1,0 +1,198 @@
+//! Calls of `yp_edit`: patches, and what they do to a datastore.
+ghost use Rattle.std.specs.Prelude.{◌≡◌, ◌<◌, ◌^◌, IfOk, length};
+ghost use Rattle.yp_schema.specs.Datastore.{IsDatastore};
+
+use crate::given::part;
+use crate::shown::{Answer, push_comma, push_path, push_quoted, quoted, value};
+use serde_json::Value as Json;
+use std::alloc::Global;
+use std::marker::Brand;
+use std::sync::ledger::{Blank, Ledger};
+use yp_base::memory::Duplicate;
+use yp_base::path::Path;
+use yp_base::row::{Rows, Value};
+use yp_base::series::Series;
+use yp_base::steps::Steps;
+use yp_data_json::at_path::read_rows;
+use yp_data_json::writing::write_rows;
+use yp_edit::applying::apply;
+use yp_edit::changed::{Changed, ChangedRow};
+use yp_edit::fault::{EditFault, PatchFault};
+use yp_edit::patch::{Edit, EditOp, Patch, Place};
+use yp_edit::reading::read_patch;
+use yp_schema::schema::Schema;
+use yp_tree::tree::Tree;
+
+pub fn answer(alloc: Global, schema: &Schema, call: &str, arguments: &Json) -> Answer {
+    Ok(Some(match call {
+        "read_patch" => read(alloc, arguments)?,
+        "apply" => applied(alloc, schema, arguments)?,
+        _ => return Ok(None),
+    }))
+}
+
+/// The patch that JSON is, of which a copy is shown.
+fn read(alloc: Global, json: &Json) -> anyhow::Result<String> {
+    match read_patch(alloc, json) {
+        Ok(patch) => shown(alloc, &patch.copy(alloc)?),
+        Err(PatchFault::Shape) => quoted(alloc, "shape"),
+        Err(fault) => Ok(Err(fault)?),
+    }
+}
+
+/// A patch: a line for each edit, and its id.
+fn shown(alloc: Global, patch: &Patch) -> anyhow::Result<String> {
+    let mut told = String::from_str(alloc, "{\"edits\":[")?;
+    for edit in patch.edits.items() {
+        push_comma(&mut told)?;
+        push_quoted(alloc, &mut told, edit_line(alloc, edit)?.as_str())?;
+    }
+    told.push_str("],\"id\":")?;
+    push_quoted(alloc, &mut told, patch.id.as_str())?;
+    told.push('}')?;
+    Ok(told)
+}
+
+/// An edit: its id, its operation, its target, and what more it has.
+fn edit_line(alloc: Global, edit: &Edit) -> anyhow::Result<String> {
+    let id = edit.id.as_str();
+    let operation = operation_word(edit.op);
+    let target = edit.target.as_str();
+    let place = place_word(edit.place);
+    let mut line = format!(in alloc; "{id} {operation} {target}{place}")?;
+    if let Some(point) = &edit.point {
+        line.push(' ')?;
+        line.push_str(point.as_str())?;
+    }
+    if let Some(value) = &edit.value {
+        line.push(' ')?;
+        line.push_str(value.json(alloc)?.to_string(alloc)?.as_str())?;
+    }
+    Ok(line)
+}
+
+fn operation_word(op: EditOp) -> &'static str {
+    match op {
+        EditOp::Create => "create",
+        EditOp::Delete => "delete",
+        EditOp::Insert => "insert",
+        EditOp::Merge => "merge",
+        EditOp::Move => "move",
+        EditOp::Replace => "replace",
+        EditOp::Remove => "remove",
+    }
+}
+
+fn place_word(place: Option<Place>) -> &'static str {
+    match place {
+        Some(Place::Before) => " before",
+        Some(Place::After) => " after",
+        Some(Place::First) => " first",
+        Some(Place::Last) => " last",
+        None => "",
+    }
+}
+
+/// The tree of a datastore's rows.
+#[tactic(auto, using(yp_base::specs::RowLaws::put_to_none, crate::proofs::Datastores::whole_is_datastore))]
+fn tree_of(alloc: Global, schema: &Schema, data: &Json) -> anyhow::Result<Tree>
+    ensures { IfOk result (λ tree. IsDatastore schema.now tree) }
+{
+    let top = Path::from_vec(Vec::new(alloc));
+    let rows = read_rows(alloc, schema, &top, data)?;
+    let mut tree = Tree::new(alloc);
+    tree.renew(alloc, &top, &rows)?;
+    Ok(tree)
+}
+
+/// Applies a patch with a count of steps of its own.
+fn apply_counted<L: Ledger>(
+    alloc: Global,
+    schema: &Schema,
+    tree: &mut Tree,
+    patch: &Patch,
+    blank: Blank,
+) -> Result<Changed, EditFault>
+    requires name { blank.name ≡ L.name }
+    requires parts { blank.parts ≡ L.parts }
+    requires some { 0 < L.parts }
+    requires few { length patch.now.edits < 2 ^ 32 }
+    requires datastore { IsDatastore schema.now tree.old }
+    ensures datastore { IfOk result (λ _. IsDatastore schema.now tree.new) }
+{
+    let mut steps = Steps::<L>::open(blank);
+    apply(alloc, schema, tree, patch, &mut steps)
+}
+
+/// What a patch does to a datastore.
+fn applied(alloc: Global, schema: &Schema, arguments: &Json) -> anyhow::Result<String> {
+    let patch = read_patch(alloc, part(arguments, "patch")?)?;
+    let mut tree = tree_of(alloc, schema, part(arguments, "on")?)?;
+    match apply_counted::<Brand>(alloc, schema, &mut tree, &patch, Blank::new(1)) {
+        Ok(changed) => outcome(alloc, schema, &changed.copy(alloc)?, tree),
+        Err(fault) => refusal(alloc, fault),
+    }
+}
+
+/// The number of a refused edit, its error and, as may be, its path.
+fn refusal(alloc: Global, fault: EditFault) -> anyhow::Result<String> {
+    match fault {
+        EditFault::Refused {
+            edit,
+            tag,
+            path: Some(path),
+        } => {
+            let path = path.as_str();
+            quoted(alloc, format!(in alloc; "{edit} {tag:?} {path}")?.as_str())
+        }
+        EditFault::Refused {
+            edit,
+            tag,
+            path: None,
+        } => { quoted(alloc, format!(in alloc; "{edit} {tag:?}")?.as_str()) }
+        EditFault::Memory => Ok(Err(EditFault::Memory)?),
+    }
+}
+
+/// The rows that a patch changed, and the data after it.
+fn outcome(alloc: Global, schema: &Schema, changed: &Changed, tree: Tree) -> anyhow::Result<String>
+    requires { IsDatastore schema.now tree }
+{
+    let mut told = String::from_str(alloc, "{\"changed\":[")?;
+    for row in changed.items() {
+        push_comma(&mut told)?;
+        push_quoted(alloc, &mut told, change_line(alloc, schema, row)?.as_str())?;
+    }
+    told.push_str("],\"data\":")?;
+    told.push_str(data_of(alloc, schema, &tree.into_rows(alloc)?)?.as_str())?;
+    told.push('}')?;
+    Ok(told)
+}
+
+/// The data of a datastore's rows.
+#[tactic(auto, using(crate::proofs::Datastores::datastore_is_writable))]
+fn data_of(alloc: Global, schema: &Schema, rows: &Rows) -> anyhow::Result<String>
+    requires { IsDatastore schema.now rows.now }
+{
+    let top = Path::from_vec(Vec::new(alloc));
+    Ok(write_rows(alloc, schema, &top, rows)?.to_string(alloc)?)
+}
+
+/// A row that changed: its path, with what it held before and after.
+fn change_line(alloc: Global, schema: &Schema, row: &ChangedRow) -> anyhow::Result<String> {
+    let mut line = String::new(alloc);
+    push_path(alloc, schema, &mut line, &row.path)?;
+    push_held(alloc, &mut line, &row.old)?;
+    push_held(alloc, &mut line, &row.new)?;
+    Ok(line)
+}
+
+/// Appends what a row holds, or that it isn't there.
+fn push_held(alloc: Global, line: &mut String, held: &Option<Value>) -> anyhow::Result<()> {
+    line.push(' ')?;
+    match held {
+        Some(held) => line.push_str(value(alloc, held)?.as_str())?,
+        None => line.push_str("none")?,
+    }
+    Ok(())
+}

@@ -1,0 +1,13 @@
+pub mod Attempts
+pub mod Concealing
+pub mod Everywhere
+pub mod Held
+pub mod Mirror
+pub mod Own
+pub mod Placing
+pub mod Renewing
+pub mod Selecting
+pub mod Sendables
+pub mod Serving
+pub mod Steps
+pub mod Subscriptions

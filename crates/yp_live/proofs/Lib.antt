@@ -1,0 +1,9 @@
+pub mod Desks
+pub mod Held
+pub mod Journals
+pub mod Promises
+pub mod Replies
+pub mod RunLaws
+pub mod Steps
+pub mod Tellings
+pub mod TurnLaws

@@ -1,0 +1,16 @@
+use Rattle.std.proofs.Common.{◌≡◌, ◌+◌, ◌++◌, length, map}
+use Rattle.std.specs.List.{AllByRecursion}
+use Rattle.std.specs.Vec.Iter.{into_iter_items}
+use Rattle.yp_live.specs.Journal.{turn_of}
+use Rattle.yp_live.specs.Runs.{IsRun}
+use Rattle.yp_live.specs.Turns.{MayTake}
+use Rattle.yp_live.proofs.run.run_turns.Given as goal
+
+-- the turns so far and those that are left are all
+abbrev pub invariant-loop-turn : goal.invariant-loop-turn
+invariant-loop-turn g l = record {
+  run : IsRun l.schema l.receivers l.run;
+  may : AllByRecursion (MayTake l.schema l.receivers) (into_iter_items l.turn-iterator);
+  position : l.run.state.position + length (into_iter_items l.turn-iterator) ≡ length l.fn.turns.items;
+  turns : map turn_of l.run.entries.items ++ into_iter_items l.turn-iterator ≡ l.fn.turns.items;
+}

@@ -1,0 +1,80 @@
+-- The report of a run, as a value and as a text: the replies by position, then for each receiver what it was sent and what it holds, and `end`.
+use Rattle.std.specs.Prelude.{ℕ, ◌+◌, List, [], ◌∷◌, ◌++◌, true, Option, Some, None, codes, decimal}
+use Rattle.std.specs.List.{flat_map}
+use Rattle.serde_json.specs.Data.{Data, boolean, number, unsigned, string, object, Members, no_members, member}
+use Rattle.serde_json.specs.Written.{compact_text}
+use Rattle.yp_base.specs.declared.row.Row.{Row}
+use Rattle.yp_schema.specs.declared.schema.SchemaNode.{SchemaNode}
+use Rattle.yp_data_json.specs.Writing.{rows_json}
+use Rattle.yp_edit.specs.declared.fault.Tag.{Tag}
+use Rattle.yp_edit.specs.declared.fault.Tag.TheVariants.{UnknownElement, InvalidValue, DataMissing, DataExists, TooBig}
+use Rattle.yp_encode.specs.Lines.{line_of}
+use Rattle.yp_journal.specs.declared.entry.Entry.{Entry}
+use Rattle.yp_journal.specs.declared.receiver.ReceiverInfo.{ReceiverInfo}
+use Rattle.yp_journal.specs.declared.reply.Reply.{Reply}
+use Rattle.yp_journal.specs.declared.reply.Reply.TheVariants.{Id, Done, Denied, Edit}
+use Rattle.yp_core.specs.declared.made.Made.{Made}
+use Rattle.yp_live.specs.declared.report.ReceiverReport.{ReceiverReport}
+use Rattle.yp_live.specs.declared.report.ReplyLine.{ReplyLine}
+use Rattle.yp_live.specs.declared.report.Report.{Report}
+use Rattle.yp_core.specs.Received.{received}
+
+-- ---- the value
+
+-- the replies of entries, the first of which has this position
+abbrev pub reply_lines : ℕ → List Entry → List ReplyLine
+reply_lines n [] = []
+reply_lines n (entry ∷ entries) = record { position = n; lane = entry.lane; index = entry.index; reply = entry.reply } ∷ reply_lines (n + 1) entries
+
+-- what is told of a receiver: its name, all that it was made, and what it holds of that; a queue of one place or more never fills, since a receiver that takes by itself takes each packet at once
+abbrev pub receiver_report : ReceiverInfo → List Made → ReceiverReport
+receiver_report receiver made = record { name = receiver.name; sent = made; trees = received [] made }
+
+-- the same of receivers in order
+abbrev pub receiver_reports : List (List Made) → List ReceiverInfo → List ReceiverReport
+receiver_reports [] receivers = []
+receiver_reports (mine ∷ made) [] = []
+receiver_reports (mine ∷ made) (receiver ∷ receivers) = receiver_report receiver mine ∷ receiver_reports made receivers
+
+-- the report of the entries of a journal and of what was made for each receiver
+abbrev pub report_of : List ReceiverInfo → List Entry → List (List Made) → Report
+report_of receivers entries made = record { replies = reply_lines 1 entries; receivers = receiver_reports made receivers }
+
+-- ---- its text
+
+abbrev pub tag_word : Tag → List ℕ
+tag_word UnknownElement = codes "unknown-element"
+tag_word InvalidValue = codes "invalid-value"
+tag_word DataMissing = codes "data-missing"
+tag_word DataExists = codes "data-exists"
+tag_word TooBig = codes "too-big"
+
+abbrev pub path_member : Option (List ℕ) → Members
+path_member None = no_members
+path_member (Some text) = member (codes "path") (string text) no_members
+
+abbrev pub reply_data : Reply → Data
+reply_data (Id id) = object (member (codes "id") (number (unsigned id)) no_members)
+reply_data Done = object (member (codes "ok") (boolean true) no_members)
+reply_data Denied = object (member (codes "error") (string (codes "access-denied")) no_members)
+reply_data (Edit edit_id tag path) = object (member (codes "edit-id") (string edit_id) (member (codes "error") (string (tag_word tag)) (path_member path)))
+
+-- the line of a reply
+unfoldable pub reply_text : ReplyLine → List ℕ
+reply_text line = codes "reply " ++ decimal line.position ++ codes " " ++ decimal line.lane ++ codes " " ++ decimal line.index ++ codes " " ++ compact_text (reply_data line.reply) ++ codes "\n"
+
+-- the line of a notice that the receiver of this name was sent
+unfoldable pub sent_text : List SchemaNode → ℕ → List ℕ → Made → List ℕ
+sent_text nodes start name made = codes "to " ++ name ++ codes " " ++ line_of nodes start made.stamp made.notice ++ codes "\n"
+
+-- the line of what it holds of a subscription, by id
+unfoldable pub tree_text : List SchemaNode → List ℕ → ℕ × List Row → List ℕ
+tree_text nodes name tree = codes "tree " ++ name ++ codes " " ++ decimal tree.0 ++ codes " " ++ compact_text (rows_json nodes [] tree.1) ++ codes "\n"
+
+-- the lines of a receiver
+abbrev pub receiver_text : List SchemaNode → ℕ → ReceiverReport → List ℕ
+receiver_text nodes start receiver = flat_map (sent_text nodes start receiver.name) receiver.sent ++ flat_map (tree_text nodes receiver.name) receiver.trees
+
+-- the text of a report
+abbrev pub report_text : List SchemaNode → ℕ → Report → List ℕ
+report_text nodes start report = flat_map reply_text report.replies ++ (flat_map (receiver_text nodes start) report.receivers ++ codes "end\n")

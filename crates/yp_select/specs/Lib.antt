@@ -1,0 +1,2 @@
+pub mod Concealed
+pub mod SelectionLaws

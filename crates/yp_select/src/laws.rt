@@ -1,0 +1,45 @@
+//! Facts about selections, for the crates above. Each call does nothing.
+ghost use Rattle.std.specs.Prelude.{◌≡◌, [], List, Bool, None, if◌then◌else◌};
+ghost use Rattle.std.specs.List.{AllByRecursion};
+ghost use Rattle.yp_base.specs.declared.path.Seg.{Seg};
+ghost use Rattle.yp_base.specs.declared.row.Row.{Row};
+ghost use Rattle.yp_base.specs.Rows.{AreInOrder, rows_within, value_at};
+ghost use Rattle.yp_schema.specs.declared.schema.SchemaNode.{SchemaNode};
+ghost use Rattle.yp_schema.specs.Datastore.{AreWritable, IsDatastore, IsRowOf};
+ghost use Rattle.yp_nacm.specs.Decision.{IsClosed, visible_rows};
+ghost use Rattle.yp_select.specs.Concealed.{AllReadable};
+
+/// The selection of a datastore is a datastore, where what stands above what may be read may be read too.
+pub fn selection_is_a_datastore()
+    ensures { (nodes : List SchemaNode) (readable : List Seg → Bool) (rows : List Row) → IsClosed readable
+        → IsDatastore nodes rows → IsDatastore nodes (visible_rows readable rows) }
+{}
+
+/// Each row that is selected may be read, and has the value that it has in the datastore.
+#[tactic(auto, using(crate::specs::SelectionLaws::selected_readable, crate::specs::SelectionLaws::value_selected))]
+pub fn selected_rows_may_be_read()
+    ensures each { (readable : List Seg → Bool) (rows : List Row) → AllReadable readable (visible_rows readable rows) }
+    ensures value { (readable : List Seg → Bool) (path : List Seg) (rows : List Row)
+        → value_at path (visible_rows readable rows) ≡ (if readable path then value_at path rows else None) }
+{}
+
+/// Rows of a schema in order stay so when they are selected, and what is selected at or below a path is the
+/// selection of the rows there.
+#[tactic(auto, using(crate::specs::SelectionLaws::selection_in_order, crate::specs::SelectionLaws::selection_of_schema, crate::specs::SelectionLaws::selection_within))]
+pub fn selection_keeps_rows()
+    ensures order { (readable : List Seg → Bool) (rows : List Row) → AreInOrder rows
+        → AreInOrder (visible_rows readable rows) }
+    ensures schema { (nodes : List SchemaNode) (readable : List Seg → Bool) (rows : List Row)
+        → AllByRecursion (IsRowOf nodes) rows → AllByRecursion (IsRowOf nodes) (visible_rows readable rows) }
+    ensures within { (readable : List Seg → Bool) (path : List Seg) (rows : List Row)
+        → visible_rows readable (rows_within path rows) ≡ rows_within path (visible_rows readable rows) }
+{}
+
+/// Rows of a schema in order can be written at the top, and so can a selection of them.
+#[tactic(auto, using(crate::specs::SelectionLaws::top_writable))]
+pub fn selection_can_be_written()
+    ensures rows { (nodes : List SchemaNode) (rows : List Row) → AreInOrder rows → AllByRecursion (IsRowOf nodes) rows
+        → AreWritable nodes [] rows }
+    ensures selection { (nodes : List SchemaNode) (readable : List Seg → Bool) (rows : List Row) → AreInOrder rows
+        → AllByRecursion (IsRowOf nodes) rows → AreWritable nodes [] (visible_rows readable rows) }
+{}

@@ -1,0 +1,3 @@
+pub mod Concealed
+pub mod RecordLaws
+pub mod Roots
