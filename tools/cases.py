@@ -3,8 +3,9 @@
 In cases/ each NAME.jsonl is a script. Beside it stands NAME.txt, the report that the program writes, or
 NAME.fault, which has the line on standard error and then the exit status. Where NAME.lines stands beside
 them, the script is run once for each line of that file, with that line after it, and each run ends so.
-The scripts that are too large to be kept are made by large_cases.py. Nothing here comes of a run: each
-expected text is worked out from the rules of docs/SCRIPT.md.
+The scripts that are too large to be kept are made by large_cases.py, random ones with policies by
+access_cases.py. Nothing here comes of a run: each expected text is worked out from the rules of docs/SCRIPT.md
+and docs/ACCESS.md.
 """
 
 from __future__ import annotations
@@ -16,6 +17,7 @@ import tempfile
 from collections.abc import Iterator
 from dataclasses import dataclass
 
+from access_cases import access_cases
 from large_cases import large_cases
 
 BAD_ARGUMENTS: list[list[str]] = [
@@ -60,7 +62,9 @@ def faulty(name: str, script: bytes, fault: str) -> Case | str:
 
 
 def made_cases() -> Iterator[Case]:
-    """The large scripts."""
+    """The large scripts, and those with policies."""
+    for name, script, report in access_cases():
+        yield Case(name, script, report)
     for name, script, wanted in large_cases():
         if isinstance(wanted, tuple):
             line, fault = wanted
@@ -82,7 +86,7 @@ def wrong_cases(program: pathlib.Path, folder: pathlib.Path) -> Iterator[str]:
             yield f"{case.name}: status {ran.returncode} and '{ran.stderr.decode(errors='replace').strip()}'"
         elif ran.stdout != case.out:
             yield f"{case.name}: {first_difference(ran.stdout, case.out)}"
-    print(f"check_repository: {count} scripts of cases/ and large ones were run")
+    print(f"check_repository: {count} scripts were run, of cases/, large ones and random ones")
 
 
 def wrong_endings(program: pathlib.Path) -> Iterator[str]:

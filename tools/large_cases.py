@@ -25,7 +25,7 @@ GROUPS = (
     '{"path":"/acme:groups/group","kind":"list","keys":["id"]},'
     '{"path":"/acme:groups/group/id","kind":"leaf","type":"uint16"},'
     '{"path":"/acme:groups/group/member","kind":"leaf-list","type":"uint8"}]}\n')
-TOO_LONG, NOT_JSON, UNKNOWN_COMMAND, MEMBER, IN_SCHEMA, LIMIT = 1, 2, 3, 4, 5, 9
+TOO_LONG, NOT_JSON, UNKNOWN_COMMAND, MEMBER, IN_SCHEMA, IN_POLICY, LIMIT = 1, 2, 3, 4, 5, 6, 9
 FIRST_ID = 2_147_483_648
 
 
@@ -149,6 +149,19 @@ def large_schemas() -> Iterator[tuple[str, bytes, Wanted]]:
     yield "4097 nodes", (parts + schema(["/acme:e"])).encode(), (6, IN_SCHEMA)
 
 
+def policy(path: str) -> str:
+    rule = {"name": "r", "path": path, "action": "permit"}
+    return compact({"policy": {"ietf-netconf-acm:nacm": {"rule-list": [{"name": "l", "group": ["*"], "rule": [rule]}]}}}) + "\n"
+
+
+def many_policies() -> Iterator[tuple[str, bytes, Wanted]]:
+    """Policies over a schema of 4,096 nodes, which is compiled once."""
+    parts = START + "".join(schema([f"/acme:c{part}.{number}" for number in range(1024)]) for part in range(4))
+    many = parts + policy("/acme:c3.1023") * 5_000
+    yield "5000 policies over 4096 nodes", many.encode(), ("".join(map(reply, range(1, 5_001))) + "end\n").encode()
+    yield "a bad policy after 5000 good ones", (many + policy("/acme:e")).encode(), (5_006, IN_POLICY)
+
+
 def many_receivers() -> Iterator[tuple[str, bytes, Wanted]]:
     """A name has 1 to 32 bytes, a user 1 to 64; there are at most 16 receivers and 256 subscriptions."""
     for name, user, wanted in (
@@ -179,6 +192,16 @@ def long_keys() -> Iterator[tuple[str, bytes, Wanted]]:
         else:
             wanted = (reply(1, refused("e", "invalid-value")) + "end\n").encode()
             yield "a key of 257 bytes", script.encode(), wanted
+
+
+def wide_entries() -> Iterator[tuple[str, bytes, Wanted]]:
+    """A list may have many keys: an entry of 700 is read and written as any other."""
+    names = [f"k{number}" for number in range(100, 800)]
+    leaves = "".join(f',{{"path":"/acme:box/wide/{name}","kind":"leaf","type":"uint16"}}' for name in names)
+    nodes = f'{{"path":"/acme:box","kind":"container"}},{{"path":"/acme:box/wide","kind":"list","keys":{compact(names)}}}'
+    data = {"acme:box": {"wide": [{name: number for number, name in enumerate(names, 100)}]}}
+    script = START + f'{{"schema":[{nodes}{leaves}]}}\n' + receiver("r1") + patch(edit("e", "create", "/acme:box", data))
+    yield "an entry of 700 keys", (script + establish()).encode(), subscribed(1, data, before=reply(1), past=1)
 
 
 def groups(ids: list[int]) -> dict[str, object]:
@@ -285,5 +308,7 @@ def busy_lanes() -> Iterator[tuple[str, bytes, Wanted]]:
 
 def large_cases() -> Iterator[tuple[str, bytes, Wanted]]:
     """A name, a script, and its report, or the line and the number of its fault."""
-    for made in (long_lines, many_lines, large_schemas, many_receivers, long_keys, many_rows, many_edits, busy_lanes):
+    for made in (
+            long_lines, many_lines, large_schemas, many_policies, many_receivers, long_keys, wide_entries, many_rows, many_edits,
+            busy_lanes):
         yield from made()
