@@ -1,2 +1,4 @@
 pub mod Concealed
 pub mod SelectionLaws
+pub mod Matches
+pub mod Selection
