@@ -1,18 +1,17 @@
 -- JSON values that are handed on.
-use Rattle.serde_json.specs.Data.{Data, object, member, no_members}
+use Rattle.serde_json.specs.Data.{Data, null}
+use Rattle.serde_json.specs.Read.{read}
 use Rattle.serde_json.specs.View.{view}
-use Rattle.std.specs.Prelude.{string_bytes}
+use Rattle.std.specs.Prelude.{IsSome, ⊤, unwrap_or}
 use Rattle.yp_base.specs.declared.payload.Kept.{Kept}
-use Rattle.yp_base.specs.declared.payload.Kept.TheVariants.{One, All}
-use Rattle.yp_base.specs.declared.payload.Content.{Content}
-use Rattle.yp_base.specs.declared.payload.Content.TheVariants.{One as OneMember, All as AllOf}
+use Rattle.yp_base.specs.declared.payload.Kept.TheVariants.{Text, All}
 
--- the data of what is kept: an object of one member is kept without its object
+-- the data of what is kept: what a text reads as, or null where it reads as none
 abbrev pub kept_data : Kept → Data
-kept_data (One name json) = object (member (string_bytes name) (view json) no_members)
+kept_data (Text text) = unwrap_or (read text) null
 kept_data (All json) = view json
 
--- the data of a content: an object of one member is its name and its value
-abbrev pub content_data : Content → Data
-content_data (OneMember name json) = object (member name.now (view json.now) no_members)
-content_data (AllOf json) = view json.now
+-- a text that is kept reads as data
+abbrev pub IsReadable : Kept → Type 0
+IsReadable (Text text) = IsSome (read text)
+IsReadable (All json) = ⊤

@@ -16,6 +16,7 @@ pub mod json;
 pub mod laws;
 pub mod leaf_type;
 pub mod memory;
+mod nesting;
 pub mod notice;
 mod number;
 pub mod path;

@@ -1,10 +1,9 @@
 //! Data at a path: what stands at one node, in an object with the node's qualified name.
 ghost use Rattle.std.specs.Cmp.Lexicographic.{pointwise};
-ghost use Rattle.std.specs.Prelude.{◌≡◌, ◌<◌, ◌∷◌, ◌++◌, [], true, length, nat_eq, IfOk, Ok};
+ghost use Rattle.std.specs.Prelude.{◌≡◌, ◌<◌, ◌∷◌, ◌++◌, [], true, length, nat_eq, IfOk, IfSome, Ok};
 ghost use Rattle.std.specs.String.{string_bytes};
 ghost use Rattle.serde_json.specs.Data.{object, member, no_members};
 ghost use Rattle.serde_json.specs.View.{view, members_view, items_view};
-ghost use Rattle.yp_base.specs.Payloads.{content_data};
 ghost use Rattle.yp_schema.specs.Datastore.{is_place, AreWhole};
 ghost use Rattle.yp_schema.specs.Nodes.{node_at, qualified_name};
 ghost use Rattle.yp_data_json.specs.Reading.{Gives, Leaves};
@@ -18,7 +17,7 @@ use std::alloc::Global;
 use yp_base::atom::Keys;
 use yp_base::memory::{Duplicate, NoMemory};
 use yp_base::path::{Path, Seg};
-use yp_base::payload::{Content, Payload};
+use yp_base::payload::Payload;
 use yp_base::row::{Row, Rows, Value};
 use yp_base::series::Series;
 use yp_schema::schema::{Kind, Schema};
@@ -314,6 +313,19 @@ fn read_member(
     }
 }
 
+/// The name and the value of an object of one member.
+fn only_member(json: &Json) -> Option<(&str, &Json)>
+    ensures { IfSome result (λ only. view json.now ≡ object (member only.0.now (view only.1.now) no_members)) }
+{
+    match json {
+        Json::Object(members) if members.len() == 1 => {
+            let (name, value) = members.iter().next()?;
+            Some((name.as_str(), value))
+        }
+        _ => None,
+    }
+}
+
 /// The rows at a path that ends in a segment below others.
 fn read_below(
     alloc: Global,
@@ -321,15 +333,15 @@ fn read_below(
     at: &Path,
     last: &Seg,
     above: &[Seg],
-    content: Content<'_>,
+    json: &Json,
 ) -> Result<Rows, DataFault>
     requires place { is_place schema.now at.now ≡ true }
     requires parts { at.now ≡ above.now ++ last.now ∷ [] }
-    ensures { Gives result (rows_read schema.now at.now (content_data content.entry)) }
+    ensures { Gives result (rows_read schema.now at.now (view json.now)) }
 {
-    match content {
-        Content::One(name, json) => read_member(alloc, schema, at, last, above, name, json),
-        Content::All(json) => {
+    match only_member(json) {
+        Some((name, value)) => read_member(alloc, schema, at, last, above, name, value),
+        None => {
             let above = path_of(alloc, above)?;
             read_object(alloc, schema, last.node, &above, &last.keys, json)
         }
@@ -342,7 +354,7 @@ fn read_place(alloc: Global, schema: &Schema, at: &Path, json: &Json) -> Result<
     ensures { Gives result (rows_read schema.now at.now (view json.now)) }
 {
     match at.items().split_last() {
-        Some((last, above)) => read_below(alloc, schema, at, last, above, Content::of(json)),
+        Some((last, above)) => read_below(alloc, schema, at, last, above, json),
         None => read_datastore(alloc, schema, json),
     }
 }
@@ -364,26 +376,6 @@ pub fn read_rows(alloc: Global, schema: &Schema, at: &Path, json: &Json) -> Resu
     Ok(rows)
 }
 
-/// The rows at a path of what a payload holds.
-fn read_content(
-    alloc: Global,
-    schema: &Schema,
-    at: &Path,
-    payload: &Payload,
-) -> Result<Rows, DataFault>
-    requires { is_place schema.now at.now ≡ true }
-    ensures { Gives result (rows_read schema.now at.now payload.now) }
-{
-    match at.items().split_last() {
-        Some((last, above)) => read_below(alloc, schema, at, last, above, payload.content()),
-        None => {
-            let json = payload.json(alloc)?;
-            let rows = read_datastore(alloc, schema, &json)?;
-            Ok(rows)
-        }
-    }
-}
-
 /// The rows that the data of a payload at a path hold, as `read_rows` gives them of its JSON value.
 pub fn read_payload(
     alloc: Global,
@@ -395,6 +387,6 @@ pub fn read_payload(
     ensures read { Gives result (rows_read schema.now at.now payload.now) }
     ensures rows { IfOk result (λ rows. AreWhole schema.now at.now rows) }
 {
-    let rows = read_content(alloc, schema, at, payload)?;
-    Ok(rows)
+    let json = payload.json(alloc)?;
+    read_rows(alloc, schema, at, &json)
 }

@@ -1,6 +1,5 @@
 use Rattle.std.proofs.Common.{◌≡◌, List, true, sym, ap, subst, ◌∙◌}
 use Rattle.serde_json.specs.View.{view}
-use Rattle.yp_base.specs.Payloads.{content_data}
 use Rattle.yp_base.specs.declared.path.Seg.{Seg}
 use Rattle.yp_schema.specs.Datastore.{is_place}
 use Rattle.yp_data_json.specs.Reading.{Gives}
@@ -13,14 +12,13 @@ read_object-requires c =
     place_within c.args.schema.now c.args.above.now c.args.last.now
     (subst (λ (path : List Seg). is_place c.args.schema.now path ≡ true) c.requires.parts c.requires.place)
 
-pub returns-in_ok-above-in-All : goal.returns-in_ok-above-in-All
-returns-in_ok-above-in-All c =
+pub returns-in_ok-above-in-None : goal.returns-in_ok-above-in-None
+returns-in_ok-above-in-None c =
     let schema = c.args.schema.now in
     let last = c.args.last.now in
-    let d = view c.in-All.json.now in
+    let d = view c.args.json.now in
     subst (λ read. Gives c.read_object.result read)
-    (ap (λ (path : List Seg). object_read schema last.node path last.keys d) c.in_ok-above-in-All.ensures
+    (ap (λ (path : List Seg). object_read schema last.node path last.keys d) c.in_ok-above-in-None.ensures
     ∙ sym (rows_last schema c.args.above.now last d)
-    ∙ sym (ap (λ (path : List Seg). rows_read schema path d) c.requires.parts)
-    ∙ sym (ap (λ content. rows_read schema c.args.at.now (content_data content)) c.in-All.is))
+    ∙ sym (ap (λ (path : List Seg). rows_read schema path d) c.requires.parts))
     c.read_object.ensures
