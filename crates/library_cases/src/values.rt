@@ -10,7 +10,7 @@ use std::alloc::Global;
 use yp_base::json::{member, read_json, read_json_fits, write_json, written_json_is_read};
 use yp_base::leaf_type::LeafType;
 use yp_base::memory::Duplicate;
-use yp_base::payload::{Content, Payload};
+use yp_base::payload::Payload;
 use yp_base::row::Value;
 use yp_base::text::{
     TextFault, fitting_value_is_writable, read_text, read_text_fits, write_text,
@@ -25,6 +25,8 @@ pub fn answer(alloc: Global, call: &str, arguments: &Json) -> Answer {
         "member" => found_member(alloc, arguments)?,
         "payload" => payload(alloc, arguments)?,
         "copy_payload" => copied_payload(alloc, arguments)?,
+        "nested_payload" => nested_payload(alloc, arguments)?,
+        "copy_nested_payload" => copied_nested_payload(alloc, arguments)?,
         "copy_no_payload" => copied_no_payload(alloc)?,
         "laws_of_values" => laws(alloc)?,
         _ => return Ok(None),
@@ -147,15 +149,15 @@ fn found_member(alloc: Global, arguments: &Json) -> OrFault<String> {
     }
 }
 
-/// What a payload holds, lent and made again.
+/// What a payload holds, made again.
 fn payload(alloc: Global, json: &Json) -> OrFault<String> {
-    shown_payload(alloc, &Payload::from_json(alloc, json)?)
+    made_again(alloc, &Payload::from_json(alloc, json)?)
 }
 
-/// What a copy of a payload holds, lent and made again.
+/// What a copy of a payload holds, made again.
 fn copied_payload(alloc: Global, json: &Json) -> OrFault<String> {
     let copy = Some(Payload::from_json(alloc, json)?).copy(alloc)?;
-    shown_payload(alloc, copy.as_ref().ok_or(CaseFault::BadArgument)?)
+    made_again(alloc, copy.as_ref().ok_or(CaseFault::BadArgument)?)
 }
 
 /// Whether the copy of no payload is one.
@@ -164,19 +166,30 @@ fn copied_no_payload(alloc: Global) -> OrFault<String> {
     shown::truth(alloc, none.copy(alloc)?.is_some())
 }
 
-/// What a payload lends, of an object of one member its name and its value, and the JSON that it is.
-fn shown_payload(alloc: Global, payload: &Payload) -> OrFault<String> {
-    let mut told = String::from_str(alloc, "[")?;
-    match payload.content() {
-        Content::One(name, json) => {
-            shown::push_quoted(alloc, &mut told, name)?;
-            told.push(',')?;
-            told.push_str(json.to_string(alloc)?.as_str())?;
-        }
-        Content::All(json) => told.push_str(json.to_string(alloc)?.as_str())?,
+/// The JSON that a payload is.
+fn made_again(alloc: Global, payload: &Payload) -> OrFault<String> {
+    Ok(payload.json(alloc)?.to_string(alloc)?)
+}
+
+/// What a payload of nested arrays holds, as a text, since no line can hold as many.
+fn nested_payload(alloc: Global, count: &Json) -> OrFault<String> {
+    let json = nested(alloc, given::number(count)?)?;
+    shown::quoted(alloc, payload(alloc, &json)?.as_str())
+}
+
+/// What a copy of a payload of nested arrays holds, as a text.
+fn copied_nested_payload(alloc: Global, count: &Json) -> OrFault<String> {
+    let json = nested(alloc, given::number(count)?)?;
+    shown::quoted(alloc, copied_payload(alloc, &json)?.as_str())
+}
+
+/// So many arrays of one item, each in the one before, around null.
+fn nested(alloc: Global, count: u64) -> OrFault<Json> {
+    let mut json = Json::Null;
+    for _ in 0..count {
+        let mut items = Vec::new(alloc);
+        items.push(json)?;
+        json = Json::Array(items);
     }
-    told.push(',')?;
-    told.push_str(payload.json(alloc)?.to_string(alloc)?.as_str())?;
-    told.push(']')?;
-    Ok(told)
+    Ok(json)
 }
