@@ -1,0 +1,4 @@
+pub mod Terms
+pub mod Registry
+pub mod Coding
+pub mod Ids

@@ -1,0 +1,48 @@
+//! What a subscription is asked for with (RFC 8639 section 2.4.2, RFC 8641 section 4.4.1).
+use std::alloc::Global;
+use yp_base::memory::{Duplicate, NoMemory};
+use yp_base::notice::Trigger;
+use yp_base::payload::Payload;
+use yp_base::txt::Txt;
+
+/// The filter that is asked for (RFC 8641 section 3.6).
+#[derive(Drop)]
+pub enum FilterAsk {
+    /// None: everything.
+    All,
+    /// A subtree filter, which may have faults.
+    Subtree(Payload),
+    /// An XPath filter.
+    XPath,
+}
+
+/// What a subscription is asked for with: the encoding and the datastore, each the name of an identity, the
+/// filter, and when updates are sent.
+#[derive(Drop)]
+pub struct Ask {
+    pub encoding: Txt,
+    pub datastore: Txt,
+    pub filter: FilterAsk,
+    pub trigger: Trigger,
+}
+
+impl Duplicate for FilterAsk {
+    fn copy(&self, alloc: Global) -> Result<FilterAsk, NoMemory> {
+        Ok(match self {
+            FilterAsk::All => FilterAsk::All,
+            FilterAsk::Subtree(json) => FilterAsk::Subtree(json.copy(alloc)?),
+            FilterAsk::XPath => FilterAsk::XPath,
+        })
+    }
+}
+
+impl Duplicate for Ask {
+    fn copy(&self, alloc: Global) -> Result<Ask, NoMemory> {
+        Ok(Ask {
+            encoding: self.encoding.copy(alloc)?,
+            datastore: self.datastore.copy(alloc)?,
+            filter: self.filter.copy(alloc)?,
+            trigger: self.trigger,
+        })
+    }
+}

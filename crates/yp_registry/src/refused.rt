@@ -1,0 +1,63 @@
+//! Why a call is refused.
+use std::alloc::{AllocError, AllocFailed};
+use yp_base::memory::NoMemory;
+
+/// Why a call is refused, by the names of RFC 8341 section 3.2.5, RFC 8639 section 4 and RFC 8641 section 5,
+/// or that memory ran out.
+#[derive(Debug, Drop, Clone, Copy, PartialEq, Eq, thiserror::Error)]
+pub enum Refused {
+    /// The receiver's user may not call the operation.
+    #[error("access-denied: the user may not call the operation")]
+    AccessDenied,
+    /// The encoding isn't JSON.
+    #[error("encoding-unsupported: the encoding is not encode-json")]
+    EncodingUnsupported,
+    /// The datastore isn't the operational one.
+    #[error("datastore-not-subscribable: the datastore is not ietf-datastores:operational")]
+    DatastoreNotSubscribable,
+    /// The filter is an XPath filter, or a subtree filter with a fault.
+    #[error("filter-unsupported: the filter is no subtree filter that can be read")]
+    FilterUnsupported,
+    /// The period is too short. The hint is the shortest one, in ticks of a hundredth of a second.
+    #[error("period-unsupported: the period is shorter than {hint} hundredths of a second")]
+    PeriodUnsupported { hint: u32 },
+    /// There would be more feeds than may be, or no id is left.
+    #[error("insufficient-resources: there are too many subscriptions")]
+    InsufficientResources,
+    /// Memory ran out.
+    #[error("out of memory")]
+    Memory,
+}
+
+impl From<NoMemory> for Refused {
+    ghost use Rattle.std.specs.Prelude.{◌≡◌};
+    ghost use Rattle.yp_registry.specs.declared.refused.Refused.TheVariants.{Memory};
+
+    ghost from_gives = { λ _ e. e ≡ Memory };
+
+    fn from(_error: NoMemory) -> Refused {
+        Refused::Memory
+    }
+}
+
+impl From<AllocError> for Refused {
+    ghost use Rattle.std.specs.Prelude.{◌≡◌};
+    ghost use Rattle.yp_registry.specs.declared.refused.Refused.TheVariants.{Memory};
+
+    ghost from_gives = { λ _ e. e ≡ Memory };
+
+    fn from(_error: AllocError) -> Refused {
+        Refused::Memory
+    }
+}
+
+impl<T: Drop> From<AllocFailed<T>> for Refused {
+    ghost use Rattle.std.specs.Prelude.{◌≡◌};
+    ghost use Rattle.yp_registry.specs.declared.refused.Refused.TheVariants.{Memory};
+
+    ghost from_gives = { λ _ e. e ≡ Memory };
+
+    fn from(_error: AllocFailed<T>) -> Refused {
+        Refused::Memory
+    }
+}

@@ -1,0 +1,250 @@
+//! The registry of subscriptions, and the calls of receivers (RFC 8639 sections 2.4 and 2.5, RFC 8641 section
+//! 4.4).
+ghost use Rattle.std.specs.Prelude.{◌≡◌, ◌+◌, ◌<◌, ◌≤◌, length, option_copied, option_map, true, IfOk, OnErr, OnOk};
+ghost use Rattle.yp_filter.specs.Fits.{filter_fits};
+ghost use Rattle.yp_filter.specs.View.{filter_view};
+ghost use Rattle.yp_registry.specs.Registry.{Answers, Gives, IsRegistryOf, asked_for, establish_answer, established, first_refusal, free_id, last_id, live_at, next_id, no_subscriptions, or_refused, reasons_against, user_at, with_terms};
+ghost use Rattle.yp_registry.specs.Terms.{HasAnchor, with_anchor};
+ghost use Rattle.yp_time.specs.Ticks.{tick_limit};
+
+use crate::ask::Ask;
+use crate::reasons::{
+    SHORTEST_PERIOD, are_too_many, is_json, is_operational, is_too_short, read_filter,
+};
+use crate::refused::Refused;
+use crate::terms::Terms;
+use std::alloc::Global;
+use std::marker::Model;
+use yp_base::leaf_type::Names;
+use yp_base::memory::{Duplicate, NoMemory};
+use yp_base::notice::Trigger;
+use yp_base::series::Series;
+use yp_base::txt::Txt;
+use yp_filter::filter::Filter;
+use yp_nacm::execute::{Operation, may_exec};
+use yp_nacm::policy::Policy;
+use yp_schema::schema::Schema;
+
+/// The id of the first dynamic subscription; later ones have the numbers that follow.
+const FIRST_ID: u32 = 2147483648;
+
+/// The live subscriptions, with the users and the names of the receivers.
+#[derive(Drop)]
+pub struct Registry {
+    users: Names,
+    names: Names,
+    /// How many ids were given to dynamic subscriptions.
+    given: u32,
+    live: Vec<Terms>,
+}
+
+impl Model for Registry {
+    ghost use Rattle.yp_registry.specs.Coding.{coded_subscriptions};
+    ghost use Rattle.yp_registry.specs.Registry.{Subscriptions};
+
+    ghost Value = { Subscriptions };
+
+    ghost coded = { coded_subscriptions };
+
+    ghost view = { λ r. record { users = r.users; names = r.names; given = r.given; live = r.live.items } };
+}
+
+/// What a subscription is admitted with: its id, and its filter.
+#[derive(Drop)]
+struct Admitted {
+    id: u32,
+    filter: Filter,
+}
+
+/// The trigger with its anchor, which is the present tick where none is given (RFC 8641 section 4.2).
+fn with_anchor(now: u64, trigger: Trigger) -> Trigger
+    requires { now ≤ tick_limit }
+    ensures { result ≡ with_anchor now trigger }
+{
+    match trigger {
+        Trigger::Periodic { period, anchor } => Trigger::Periodic {
+            period,
+            anchor: Some(anchor.unwrap_or(now as i64)),
+        },
+        on_change => on_change,
+    }
+}
+
+impl Registry {
+    /// The registry that the first call finds: no subscription, and receivers of these users and names, in
+    /// the order of their declaration.
+    pub fn new(alloc: Global, users: Names, names: Names) -> Registry
+        ensures opening { result ≡ no_subscriptions users names }
+    {
+        Registry {
+            users,
+            names,
+            given: 0,
+            live: Vec::new(alloc),
+        }
+    }
+
+    /// Establishes a dynamic subscription for the receiver of this number at this tick (RFC 8639 section
+    /// 2.4.2, RFC 8641 section 4.4.1), and gives its id. The call is refused where its user may not make it,
+    /// where the encoding isn't JSON, the datastore isn't the operational one, the filter can't be read or
+    /// the period is below 10 ticks, and where 256 feeds are live or no id is left: the first reason in this
+    /// order is answered. After a refusal, and where memory ran out, the registry is as it was.
+    pub fn establish(
+        &mut self,
+        alloc: Global,
+        schema: &Schema,
+        policy: &Policy,
+        by: u32,
+        ask: &Ask,
+        now: u64,
+    ) -> Result<u32, Refused>
+        requires receiver { by < length self.old.users }
+        requires anchor { HasAnchor ask.now.trigger }
+        requires now { now ≤ tick_limit }
+        ensures answer { Answers result (establish_answer schema.now policy.now self.old by ask.now now) }
+        ensures state { OnOk result (self.new ≡ established schema.now policy.now self.old by ask.now now) }
+        ensures unchanged { OnErr result (self.new ≡ self.old) }
+        ensures kept { IsRegistryOf schema.now self.old → IsRegistryOf schema.now self.new }
+    {
+        let Admitted { id, filter } = self.admit(alloc, schema, policy, by, ask)?;
+        let trigger = with_anchor(now, ask.trigger);
+        self.add(Terms::dynamic(alloc, id, by, filter, trigger)?)?;
+        Ok(id)
+    }
+
+    /// Takes in the terms of a dynamic subscription.
+    fn add(&mut self, terms: Terms) -> Result<(), NoMemory>
+        requires { next_id self.old.given ≤ last_id }
+        ensures state { OnOk result (self.new ≡ with_terms self.old terms) }
+        ensures unchanged { OnErr result (self.new ≡ self.old) }
+    {
+        self.live.push(terms)?;
+        self.given += 1;
+        Ok(())
+    }
+
+    /// What a subscription that is asked for is admitted with, or the first reason to refuse it.
+    fn admit(
+        &self,
+        alloc: Global,
+        schema: &Schema,
+        policy: &Policy,
+        by: u32,
+        ask: &Ask,
+    ) -> Result<Admitted, Refused>
+        requires { by < length self.now.users }
+        ensures filter { Gives (λ admitted. filter_view admitted.filter) result (or_refused (first_refusal (reasons_against schema.now policy.now self.now by ask.now)) (asked_for schema.now ask.now.filter)) }
+        ensures fits { IfOk result (λ admitted. filter_fits schema.now (filter_view admitted.filter) ≡ true) }
+        ensures id { IfOk result (λ admitted. admitted.id ≡ next_id self.now.given) }
+    {
+        if !may_exec(policy, self.user(by), Operation::Establish) {
+            return Err(Refused::AccessDenied);
+        }
+        if !is_json(ask.encoding.as_str()) {
+            return Err(Refused::EncodingUnsupported);
+        }
+        if !is_operational(ask.datastore.as_str()) {
+            return Err(Refused::DatastoreNotSubscribable);
+        }
+        let filter = read_filter(alloc, schema, &ask.filter)?;
+        if is_too_short(&ask.trigger) {
+            return Err(Refused::PeriodUnsupported {
+                hint: SHORTEST_PERIOD,
+            });
+        }
+        match self.free_id() {
+            Some(id) => Ok(Admitted { id, filter }),
+            None => Err(Refused::InsufficientResources),
+        }
+    }
+
+    /// The user of the receiver of this number.
+    fn user(&self, number: u32) -> &str
+        requires { number < length self.now.users }
+        ensures { result.now ≡ user_at self.now.users number }
+    {
+        self.users.items()[number as usize].as_str()
+    }
+
+    /// The next id, unless there is no room for one subscription more.
+    fn free_id(&self) -> Option<u32>
+        ensures { result ≡ free_id self.now }
+    {
+        if are_too_many(self.live.as_slice(), 1) {
+            return None;
+        }
+        FIRST_ID.checked_add(self.given)
+    }
+
+    /// The terms of the live subscription of an id, where there is one.
+    fn at(&self, id: u32) -> Option<&Terms>
+        ensures { option_copied result ≡ live_at id self.now.live }
+    {
+        self.live.iter().find(|terms| terms.id() == id)
+    }
+
+    /// The filter of a live subscription; `None` exactly where no live subscription has the id.
+    pub fn filter(&self, id: u32) -> Option<&Filter>
+        ensures { option_map (λ filter. filter_view filter.now) result ≡ option_map (λ terms. terms.asked) (live_at id self.now.live) }
+    {
+        Some(self.at(id)?.filter())
+    }
+
+    /// The trigger of a live subscription; `None` exactly where no live subscription has the id.
+    pub fn trigger(&self, id: u32) -> Option<&Trigger>
+        ensures { option_copied result ≡ option_map (λ terms. terms.trigger) (live_at id self.now.live) }
+    {
+        Some(self.at(id)?.trigger())
+    }
+
+    /// The numbers of the receivers of a live subscription; `None` exactly where no live subscription has
+    /// the id.
+    pub fn receivers(&self, id: u32) -> Option<&[u32]>
+        ensures { option_map (λ receivers. receivers.now) result ≡ option_map (λ terms. terms.receivers) (live_at id self.now.live) }
+    {
+        Some(self.at(id)?.receivers())
+    }
+
+    /// The terms of the live subscriptions, in ascending order of their ids.
+    pub fn live(&self) -> &[Terms]
+        ensures { result.now ≡ self.now.live }
+    {
+        self.live.as_slice()
+    }
+
+    /// The users of the receivers, in the order of their declaration.
+    pub fn users(&self) -> &[Txt]
+        ensures { result.now ≡ self.now.users }
+    {
+        self.users.items()
+    }
+
+    /// The names of the receivers, in the order of their declaration.
+    pub fn names(&self) -> &[Txt]
+        ensures { result.now ≡ self.now.names }
+    {
+        self.names.items()
+    }
+}
+
+/// Copies of terms.
+fn copies_of(alloc: Global, live: &[Terms]) -> Result<Vec<Terms>, NoMemory>
+    ensures { IfOk result (λ copies. copies.items ≡ live.now) }
+{
+    let mut copies = Vec::new(alloc);
+    for terms in live {
+        copies.push(terms.copy(alloc)?)?;
+    }
+    Ok(copies)
+}
+
+impl Duplicate for Registry {
+    fn copy(&self, alloc: Global) -> Result<Registry, NoMemory> {
+        Ok(Registry {
+            users: self.users.copy(alloc)?,
+            names: self.names.copy(alloc)?,
+            given: self.given,
+            live: copies_of(alloc, self.live.as_slice())?,
+        })
+    }
+}

@@ -1,0 +1,112 @@
+//! What a subscription is given.
+ghost use Rattle.std.specs.Prelude.{◌≡◌, ◌∷◌, [], IfOk, false};
+ghost use Rattle.yp_filter.specs.View.{filter_view};
+
+use std::alloc::Global;
+use std::marker::Model;
+use yp_base::memory::{Duplicate, NoMemory};
+use yp_base::notice::Trigger;
+use yp_base::series::Series;
+use yp_filter::filter::Filter;
+
+/// The terms of a live subscription (RFC 8639 section 2.4.2): its id, the receivers that it is for, whether
+/// it was configured, its filter, and when updates are sent.
+#[derive(Drop)]
+pub struct Terms {
+    id: u32,
+    receivers: Series<u32>,
+    configured: bool,
+    filter: Filter,
+    trigger: Trigger,
+}
+
+impl Model for Terms {
+    ghost use Rattle.yp_filter.specs.View.{filter_view};
+    ghost use Rattle.yp_registry.specs.Coding.{coded_terms};
+    ghost use Rattle.yp_registry.specs.Terms.{Terms};
+
+    ghost Value = { Terms };
+
+    ghost coded = { coded_terms };
+
+    ghost view = { λ t. record { id = t.id; receivers = t.receivers; configured = t.configured; asked = filter_view t.filter; trigger = t.trigger } };
+}
+
+impl Terms {
+    /// The terms of a dynamic subscription of one receiver.
+    pub(crate) fn dynamic(
+        alloc: Global,
+        id: u32,
+        receiver: u32,
+        filter: Filter,
+        trigger: Trigger,
+    ) -> Result<Terms, NoMemory>
+        ensures { IfOk result (λ terms. terms ≡ record { id = id; receivers = receiver ∷ []; configured = false; asked = filter_view filter; trigger = trigger }) }
+    {
+        let mut receivers = Vec::new(alloc);
+        receivers.push(receiver)?;
+        Ok(Terms {
+            id,
+            receivers: Series::from_vec(receivers),
+            configured: false,
+            filter,
+            trigger,
+        })
+    }
+
+    /// The subscription's id.
+    pub fn id(&self) -> u32
+        ensures { result ≡ self.now.id }
+    {
+        self.id
+    }
+
+    /// The numbers of its receivers, from 0 on in the order of their declaration.
+    pub fn receivers(&self) -> &[u32]
+        ensures { result.now ≡ self.now.receivers }
+    {
+        self.receivers.items()
+    }
+
+    /// Whether it was configured, and not established by a call.
+    pub fn configured(&self) -> bool
+        ensures { result ≡ self.now.configured }
+    {
+        self.configured
+    }
+
+    /// Its filter.
+    pub fn filter(&self) -> &Filter
+        ensures { filter_view result.now ≡ self.now.asked }
+    {
+        &self.filter
+    }
+
+    /// When updates are sent. A periodic trigger has its anchor.
+    pub fn trigger(&self) -> &Trigger
+        ensures { result.now ≡ self.now.trigger }
+    {
+        &self.trigger
+    }
+}
+
+/// Copies of numbers.
+fn copies_of(alloc: Global, numbers: &[u32]) -> Result<Series<u32>, NoMemory>
+    ensures { IfOk result (λ copies. copies ≡ numbers.now) }
+{
+    let mut copies = Vec::new(alloc);
+    copies.extend_from_slice(numbers)?;
+    Ok(Series::from_vec(copies))
+}
+
+impl Duplicate for Terms {
+    fn copy(&self, alloc: Global) -> Result<Terms, NoMemory> {
+        Ok(Terms {
+            id: self.id,
+            receivers: copies_of(alloc, self.receivers())?,
+            configured: self.configured,
+            filter: self.filter.copy(alloc)?,
+            trigger: self.trigger,
+        })
+    }
+}
