@@ -1,7 +1,7 @@
 //! The calls that cases name, library by library.
 use crate::given::items;
 use crate::shown::Answer;
-use crate::{filters, notices, patches, policies};
+use crate::{filters, notices, patches, policies, registries};
 use serde_json::Value as Json;
 use std::alloc::Global;
 use yp_nacm::policy::Policy;
@@ -73,6 +73,9 @@ pub fn answer(
         return Ok(given);
     }
     if let Some(given) = filters::answer(alloc, &setting.schema, call, arguments)? {
+        return Ok(given);
+    }
+    if let Some(given) = registries::answer(alloc, setting, call, arguments)? {
         return Ok(given);
     }
     Ok(notices::answer(alloc, &setting.schema, call, arguments)?.ok_or(NoSuchCall)?)

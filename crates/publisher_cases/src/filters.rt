@@ -25,12 +25,23 @@ fn read(alloc: Global, schema: &Schema, json: &Json) -> anyhow::Result<String> {
 
 fn shown(alloc: Global, schema: &Schema, filter: &Filter, size: u32) -> anyhow::Result<String> {
     let mut told = String::from_str(alloc, "{\"set\":")?;
-    match filter {
-        Filter::All => told.push_str("null")?,
-        Filter::Set(set) => push_set(alloc, schema, &mut told, set)?,
-    }
+    push_filter(alloc, schema, &mut told, filter)?;
     told.push_str(format!(in alloc; ",\"size\":{size}}}")?.as_str())?;
     Ok(told)
+}
+
+/// Appends the nodes of a filter, `null` where it is everything.
+pub fn push_filter(
+    alloc: Global,
+    schema: &Schema,
+    told: &mut String,
+    filter: &Filter,
+) -> anyhow::Result<()> {
+    match filter {
+        Filter::All => told.push_str("null")?,
+        Filter::Set(set) => push_set(alloc, schema, told, set)?,
+    }
+    Ok(())
 }
 
 /// Appends the nodes of a set.

@@ -10,6 +10,7 @@ mod given;
 mod notices;
 mod patches;
 mod policies;
+mod registries;
 mod shown;
 
 use std::{io, str};

@@ -2,8 +2,8 @@
 use std::alloc::{AllocError, AllocFailed};
 use yp_base::memory::NoMemory;
 
-/// Why a call is refused, by the names of RFC 8341 section 3.2.5, RFC 8639 section 4 and RFC 8641 section 5,
-/// or that memory ran out.
+/// Why a call is refused, or that memory ran out. Each message first says the name that the reason has: an
+/// error tag of RFC 6241 appendix A, or an identity of RFC 8639 section 4 or RFC 8641 section 5.
 #[derive(Debug, Drop, Clone, Copy, PartialEq, Eq, thiserror::Error)]
 pub enum Refused {
     /// The receiver's user may not call the operation.
