@@ -115,14 +115,14 @@ fn establish(
     }
 }
 
-/// What a call answers, unless memory ran out.
+/// What a call answers to a copy of what is asked for, unless memory ran out.
 fn established(
     alloc: Global,
     setting: &Setting,
     registry: &mut Registry,
     json: &Json,
 ) -> anyhow::Result<Result<u32, Refused>> {
-    let ask = ask(alloc, json)?;
+    let ask = ask(alloc, json)?.copy(alloc)?;
     let by = id(part(json, "by")?)?;
     let now = tick(json)?;
     if by as usize >= registry.users().len() {
@@ -226,12 +226,7 @@ fn no_kinds() -> Kinds {
 // ---- look-ups
 
 /// The nodes of a filter, `"all"` where it selects everything, or `null` where there is no subscription.
-fn filter(
-    alloc: Global,
-    schema: &Schema,
-    registry: &Registry,
-    id: u32,
-) -> anyhow::Result<String> {
+fn filter(alloc: Global, schema: &Schema, registry: &Registry, id: u32) -> anyhow::Result<String> {
     let mut told = String::new(alloc);
     match registry.filter(id) {
         Some(Filter::All) => told.push_str("\"all\"")?,
