@@ -60,14 +60,10 @@ pub stop_first : (o : Option ℕ) (more : List ℕ) → option_and_then (below (
 stop_first None more h = refl
 stop_first (Some n) more h = stop_limit (nat_lt n (2 ^ 64)) n more refl h
 
-go_limit : (t : Bool) (n m : ℕ) (more : List ℕ) → cond t (Some n) None ≡ Some m → value_from n more ≡ value_from m more
-go_limit true n m more h = ap (λ x. value_from x more) (grind (arith, h))
-go_limit false n m more h = absurd (grind (arith, h))
-
 -- where it is read, the rest goes on from it
 pub go_on : (o : Option ℕ) (m : ℕ) (more : List ℕ) → option_and_then (below (2 ^ 64)) o ≡ Some m → option_and_then (λ n. value_from n more) o ≡ value_from m more
 go_on None m more h = absurd (grind (arith, h))
-go_on (Some n) m more h = go_limit (nat_lt n (2 ^ 64)) n m more h
+go_on (Some n) m more h = read_on_limit (nat_lt n (2 ^ 64)) n m more h
 
 pub none_part : (o : Option ℕ) (v : ℕ) (part zeros : List ℕ) → option_and_then (below (2 ^ 64)) o ≡ Some v → option_and_then (below (2 ^ 64)) (value_from v part) ≡ None
     → option_and_then (below (2 ^ 64)) (option_and_then (λ n. value_from n (part ++ zeros)) o) ≡ None

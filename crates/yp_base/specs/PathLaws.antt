@@ -1,9 +1,11 @@
 -- What holds of paths, and of the texts and numbers in them.
-use Rattle.std.proofs.Common.{◌≡◌, ℕ, List, [], ◌∷◌, ◌++◌, true, false, true≢false, Option, Some, None, refl, sym, ap, ◌∙◌}
+use Rattle.std.proofs.Common.{◌≡◌, ◌||◌, ℕ, List, [], ◌∷◌, ◌++◌, Bool, true, false, true≢false, Option, Some, None, refl, sym, ap, ◌∙◌}
 use Rattle.std.proofs.lemmas.Bool.{and_parts, and_from, eqb-true}
 use Rattle.std.proofs.lemmas.Cmp.{tied_itself}
+use Rattle.std.proofs.lemmas.Map.Views.{tells_apart}
 use Rattle.std.proofs.lemmas.Slice.Eq.{bytes_eq-Decides}
 use Rattle.std.specs.Cmp.Lexicographic.{nat_list_eq_equiv}
+use Rattle.std.specs.List.{AllByRecursion}
 use Rattle.std.specs.Ordering.{is_eq, is_gt, ordering_reverse, is_lt}
 use Rattle.std.specs.declared.cmp.Ordering.{Ordering}
 use Rattle.std.specs.declared.cmp.Ordering.TheVariants.{Less, Equal, Greater}
@@ -12,7 +14,7 @@ use Rattle.yp_base.specs.Order.{is_within, segment_cmp, path_cmp}
 use Rattle.yp_base.specs.OrderLaws.{segments_total, paths_total}
 use Rattle.yp_base.specs.Types.{same_text}
 use Rattle.yp_base.specs.Paths.{same_number}
-use Rattle.yp_base.specs.Exact.{segments_decide}
+use Rattle.yp_base.specs.Exact.{segments_decide, paths_exact}
 use Rattle.yp_base.specs.Prefixes.{front_not_after, fronts_together}
 
 pub less_turned : (one two : List Seg) → path_cmp one two ≡ Less → path_cmp two one ≡ Greater
@@ -20,6 +22,31 @@ less_turned one two h = paths_total.antisymm two one ∙ ap ordering_reverse h
 
 pub greater_turned : (one two : List Seg) → path_cmp one two ≡ Greater → path_cmp two one ≡ Less
 greater_turned one two h = paths_total.antisymm two one ∙ ap ordering_reverse h
+
+-- paths that tie are one
+pub are_one : (one two : List Seg) → is_eq (path_cmp one two) ≡ true → one ≡ two
+are_one one two h = tells_apart paths_exact one two h
+
+pub ties_itself : (path : List Seg) → is_eq (path_cmp path path) ≡ true
+ties_itself path = ap is_eq (tied_itself paths_total path)
+
+pub tie_reverse : (o : Ordering) → is_eq (ordering_reverse o) ≡ is_eq o
+tie_reverse Less = refl
+tie_reverse Equal = refl
+tie_reverse Greater = refl
+
+-- paths tie whichever comes first
+pub tie_turned : (one two : List Seg) → is_eq (path_cmp one two) ≡ is_eq (path_cmp two one)
+tie_turned one two = ap is_eq (paths_total.antisymm one two) ∙ tie_reverse (path_cmp two one)
+
+-- a path is before each of these
+abbrev pub IsBefore : List Seg → List (List Seg) → Type 0
+IsBefore path paths = AllByRecursion (λ other. path_cmp path other ≡ Less) paths
+
+-- a path that is before another is before all that the other is before
+pub before_all : (one two : List Seg) (paths : List (List Seg)) → path_cmp one two ≡ Less → IsBefore two paths → IsBefore one paths
+before_all one two [] less all = tt
+before_all one two (path ∷ paths) less all = (paths_total.trans one two path less all.0, before_all one two paths less all.1)
 
 -- an order that is told as less is less
 pub less_told : (o : Ordering) → is_lt o ≡ true → o ≡ Less
@@ -85,3 +112,9 @@ numbers_same None None h = refl
 numbers_same None (Some y) h = cc
 numbers_same (Some x) None h = cc
 numbers_same (Some x) (Some y) h = ap (λ n. Some n) (eqb-true x y h)
+
+-- the first two of three that any may be told, turned round
+pub or_turned : (a b c : Bool) → (a || (b || c)) ≡ (b || (a || c))
+or_turned true true c = refl
+or_turned true false c = refl
+or_turned false b c = refl

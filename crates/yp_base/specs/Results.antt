@@ -16,3 +16,8 @@ or_fault e (Some x) = Ok x
 pub none_is : {X : Type 0} (o : Option X) → is_some o ≡ false → o ≡ None
 none_is None h = refl
 none_is (Some x) h = cc
+
+-- next steps that agree on what a step gives
+pub bind_same : {A B F : Type 0} (step : Result A F) (f g : A → Result B F) → ((x : A) → f x ≡ g x) → (step >>= f) ≡ (step >>= g)
+bind_same (Ok x) f g same = same x
+bind_same (Err e) f g same = refl

@@ -1,6 +1,7 @@
 -- What putting, keeping and leaving out do to rows in order.
-use Rattle.std.proofs.Common.{◌≡◌, List, [], ◌∷◌, ◌++◌, map, refl, sym, ap, subst, ◌∙◌, cond, Bool, true, false, not, Some, None, Less, Equal, Greater, append-nil, append_assoc, Option}
+use Rattle.std.proofs.Common.{◌≡◌, List, [], ◌∷◌, ◌++◌, map, refl, sym, ap, subst, ◌∙◌, cond, Bool, true, false, true≢false, not, Some, None, Less, Equal, Greater, append-nil, append_assoc, Option}
 use Rattle.std.specs.Prelude.{filter, is_some}
+use Rattle.std.specs.Option.{option_or}
 use Rattle.std.specs.Ordering.{is_eq, match_ordering}
 use Rattle.std.specs.declared.cmp.Ordering.{Ordering}
 use Rattle.std.specs.List.{AllByRecursion}
@@ -14,18 +15,17 @@ use Rattle.yp_base.specs.Order.{path_cmp, is_within}
 use Rattle.yp_base.specs.OrderLaws.{paths_total}
 use Rattle.yp_base.specs.Exact.{paths_exact}
 pub use Rattle.yp_base.specs.PathLaws.{greater_turned as below}
-use Rattle.yp_base.specs.PathLaws.{less_turned, greater_turned}
+use Rattle.yp_base.specs.PathLaws.{less_turned, greater_turned, are_one, IsBefore, before_all}
 use Rattle.yp_base.specs.Rows.{put_row, put_rows, value_at, path_of, rows_within, rows_without, AreInOrder}
 use Rattle.yp_base.specs.declared.row.Value.{Value}
 
 -- a path is before each of these rows
 abbrev pub AllPast : List Seg → List Row → Type 0
-AllPast path rows = AllByRecursion (λ other. path_cmp path other ≡ Less) (map path_of rows)
+AllPast path rows = IsBefore path (map path_of rows)
 
 -- a path that is before another is before all that the other is before
 pub all_past : (one two : List Seg) (rows : List Row) → path_cmp one two ≡ Less → AllPast two rows → AllPast one rows
-all_past one two [] less h = tt
-all_past one two (row ∷ rows) less h = (paths_total.trans one two row.path less h.0, all_past one two rows less h.1)
+all_past one two rows less h = before_all one two (map path_of rows) less h
 
 pub none_order : AreInOrder []
 unfolding IsStrictlySortedBy
@@ -99,7 +99,21 @@ all_put P new (row ∷ rows) h all =
       | Greater ↦ λ e. (all.0, all_put P new rows h all.1)
     ] refl
 
--- and with more
+-- what holds of the rows and of those that are put holds of all
+pub all_puts : (P : Row → Type 0) (news rows : List Row) → AllByRecursion P news → AllByRecursion P rows → AllByRecursion P (put_rows news rows)
+all_puts P [] rows new all = all
+all_puts P (first ∷ news) rows new all = all_puts P news (put_row first rows) new.1 (all_put P first rows new.0 all)
+
+-- what holds of the path of each row holds of a path that has a row
+pub holds_at : (P : List Seg → Type 0) (rows : List Row) (path : List Seg) → AllByRecursion (λ row. P row.path) rows → is_some (value_at path rows) ≡ true → P path
+holds_at P [] path all there = absurd (true≢false (sym there))
+holds_at P (row ∷ rows) path all there =
+    elim (is_eq (path_cmp path row.path)) as (λ b. is_eq (path_cmp path row.path) ≡ b → is_some (cond b (Some row.value) (value_at path rows)) ≡ true → P path) [
+      | true ↦ λ e h. subst P (sym (are_one path row.path e)) all.0
+      | false ↦ λ e h. holds_at P rows path all.1 h
+    ] refl there
+
+-- rows in order are so with more
 pub puts_order : (news rows : List Row) → AreInOrder rows → AreInOrder (put_rows news rows)
 puts_order [] rows h = h
 puts_order (new ∷ news) rows h = puts_order news (put_row new rows) (put_keeps_order new rows h)
@@ -212,6 +226,22 @@ value_at_put path new (row ∷ rows) =
             | false ↦ λ h. value_at_put path new rows
           ] refl
     ] refl
+
+pub or_none : (value : Option Value) → option_or value None ≡ value
+or_none None = refl
+or_none (Some value) = refl
+
+here_or : (here : Bool) (value : Value) (there other : Option Value) → (here ≡ true → there ≡ None) → option_or there (cond here (Some value) other) ≡ option_or (cond here (Some value) there) other
+here_or true value there other none = ap (λ (v : Option Value). option_or v (Some value)) (none refl)
+here_or false value there other none = refl
+
+-- the value at a path after rows in order are put: that of one of these, or else the one that was there
+pub value_at_puts : (path : List Seg) (news rows : List Row) → AreInOrder news → value_at path (put_rows news rows) ≡ option_or (value_at path news) (value_at path rows)
+value_at_puts path [] rows order = refl
+value_at_puts path (new ∷ news) rows order =
+    value_at_puts path news (put_row new rows) (rest_order new news order)
+    ∙ ap (option_or (value_at path news)) (value_at_put path new rows)
+    ∙ here_or (is_eq (path_cmp path new.path)) new.value (value_at path news) (value_at path rows) (λ here. none_past path news (subst (λ (p : List Seg). AllPast p news) (sym (are_one path new.path here)) (first_order new news order)))
 
 -- the value at a path once the rows at or below another are gone
 pub value_at_without : (path upper : List Seg) (rows : List Row) → value_at path (rows_without upper rows) ≡ cond (is_within upper path) None (value_at path rows)

@@ -10,13 +10,8 @@ use Rattle.std.proofs.lemmas.Map.Lookups.{exact_bytes}
 use Rattle.std.proofs.lemmas.Map.Text.{is_eq-slice_cmp}
 use denote.Ref.{Bor}
 use Rattle.std.proofs.lemmas.Bool.{and_parts}
-use Rattle.yp_base.specs.PathLaws.{texts_turned}
+use Rattle.yp_base.specs.PathLaws.{texts_turned, or_turned}
 use Rattle.yp_base.specs.Types.{same_text, is_among, are_distinct}
-
-or_turned : (r s t : Bool) → (r || (s || t)) ≡ (s || (r || t))
-or_turned true true t = refl
-or_turned true false t = refl
-or_turned false s t = refl
 
 among_more : (q : List ℕ) (xs : List (List ℕ)) (x : List ℕ) → is_among q (xs ++ x ∷ []) ≡ (same_text q x || is_among q xs)
 among_more q [] x = refl
