@@ -3,3 +3,4 @@ pub mod Decision
 pub mod Own
 pub mod Policies
 pub mod Same
+pub mod SameLaws

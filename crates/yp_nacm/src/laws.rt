@@ -7,7 +7,7 @@ ghost use Rattle.yp_nacm.specs.Decision.{is_readable};
 ghost use Rattle.yp_nacm.specs.Same.{are_same_rules};
 
 /// Rules that are found the same are one, so by them the same paths may be read.
-#[tactic(auto, using(crate::proofs::Same::same_are_one, crate::proofs::Same::same_itself, crate::proofs::Same::same_readable))]
+#[tactic(auto, using(crate::specs::SameLaws::same_are_one, crate::specs::SameLaws::same_itself, crate::specs::SameLaws::same_readable))]
 pub fn same_rules_are_one()
     ensures one { (a b : UserRules) → are_same_rules a b ≡ true → a ≡ b }
     ensures itself { (a : UserRules) → are_same_rules a a ≡ true }

@@ -1,5 +1,5 @@
 use Rattle.std.proofs.lemmas.Bool.Decides.{Decides-at}
-use Rattle.yp_nacm.proofs.Same.{own_rules_decide}
+use Rattle.yp_nacm.specs.SameLaws.{own_rules_decide}
 use Rattle.yp_nacm.proofs.compile.same_rules.Goals as goal
 
 pub returns-clause-one : goal.returns-clause-one
