@@ -7,14 +7,12 @@ pub mod Utf8
 pub mod Values
 pub mod Segments
 pub mod Fits
-pub mod Reading
 pub mod Back
 pub mod Bytes
 pub mod Marks
 pub mod Pieces
 pub mod RuleSegments
 pub mod Predicates
-pub mod Steps
 pub mod Passing
 pub mod Parsing
 pub mod TargetParts

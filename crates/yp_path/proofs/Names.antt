@@ -7,33 +7,15 @@ use Rattle.yp_schema.specs.declared.schema.SchemaNode.{SchemaNode}
 use Rattle.yp_base.specs.Paths.{same_number}
 use Rattle.yp_schema.specs.Nodes.{node_at, no_node, is_child, place_from, child_of, qualified_name}
 use Rattle.yp_schema.specs.WellFormed.{IsSchema, is_at_home}
+use Rattle.yp_path.specs.NameLaws.{placed}
 use Rattle.yp_path.specs.Names.{is_named, child_named, with_name, own_child}
+use Rattle.yp_path.specs.StepLaws.{some_same}
 use Rattle.yp_path.proofs.Free.{position_free, before_mark, after_mark, position_inside, free_name}
 use Rattle.yp_schema.specs.SchemaLaws.{colon_found}
 
-number_in : Option ℕ → ℕ
-number_in None = 0
-number_in (Some n) = n
-
-some_same : (m n : ℕ) → Some m ≡ Some n → m ≡ n
-unfolding number_in
-some_same m n e = ap number_in e
-
 -- ---- the first place of a test
 
-abbrev Placed : {X : Type 0} → (X → Bool) → X → List X → ℕ → ℕ → Type 0
-Placed test d xs from n = (k : ℕ) × ((n ≡ from + k) × (k < length xs) × (test (get_or xs k d) ≡ true))
-
 module _ {X : Type 0} (test : X → Bool) (d : X) where
-  placed_at : (b : Bool) (x : X) (xs : List X) (from n : ℕ) → test x ≡ b → cond b (Some from) (place_from test (from + 1) xs) ≡ Some n
-      → (place_from test (from + 1) xs ≡ Some n → Placed test d xs (from + 1) n) → Placed test d (x ∷ xs) from n
-  placed_at true x xs from n is e later = let same = some_same from n e in (0, (omega (arith, same), omega arith, is))
-  placed_at false x xs from n is e later = let rest = later e in (suc rest.0, (omega (arith, rest.1.0), omega (arith, rest.1.1), rest.1.2))
-
-  pub placed : (xs : List X) (from n : ℕ) → place_from test from xs ≡ Some n → Placed test d xs from n
-  placed [] from n e = cc
-  placed (x ∷ xs) from n e = placed_at (test x) x xs from n refl e (placed xs (from + 1) n)
-
   none_at : (b : Bool) (x : X) (xs : List X) (from k : ℕ) → test x ≡ b → cond b (Some from) (place_from test (from + 1) xs) ≡ None
       → (place_from test (from + 1) xs ≡ None → (k : ℕ) → k < length xs → test (get_or xs k d) ≡ false) → k < length (x ∷ xs) → test (get_or (x ∷ xs) k d) ≡ false
   none_at true x xs from k is e later h = cc
@@ -48,7 +30,7 @@ module _ {X : Type 0} (test : X → Bool) (d : X) where
   same_at : (xs : List X) (p o : Option ℕ) → place_from test 0 xs ≡ p → ((n : ℕ) → o ≡ Some n → (n < length xs) × (test (get_or xs n d) ≡ true))
       → ((n : ℕ) → n < length xs → test (get_or xs n d) ≡ true → o ≡ Some n) → o ≡ p
   same_at xs (Some m) o is sound complete =
-      let at = placed xs 0 m is in
+      let at = placed test d xs 0 m is in
       let same : at.0 ≡ m = omega (arith, at.1.0) in
       complete at.0 at.1.1 at.1.2 ∙ ap (λ k. Some k) same
   same_at xs None None is sound complete = refl
@@ -205,14 +187,3 @@ named_at_home nodes parent name schema inside home =
         (cases_Bool (is_at_home node.parent node.home nodes)))
         (λ q. by_qualified n h ways.0 q)
         ways.1
-
--- a named child is a node, below that parent
-pub named_at : (nodes : List SchemaNode) (parent : Option ℕ) (name : List ℕ) (n : ℕ) → child_named parent name nodes ≡ Some n → (n < length nodes) × (is_named parent name (node_at n nodes) ≡ true)
-named_at nodes parent name n e =
-    let at = placed (is_named parent name) no_node nodes 0 n e in
-    let same : at.0 ≡ n = omega (arith, at.1.0) in
-    let P : ℕ → Type 0 = λ k. (k < length nodes) × (is_named parent name (node_at k nodes) ≡ true) in
-    subst P same (at.1.1, at.1.2)
-
-pub named_below : (nodes : List SchemaNode) (parent : Option ℕ) (name : List ℕ) (n : ℕ) → child_named parent name nodes ≡ Some n → n < length nodes
-named_below nodes parent name n e = (named_at nodes parent name n e).0

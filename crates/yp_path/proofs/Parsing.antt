@@ -20,10 +20,11 @@ use Rattle.yp_path.specs.Names.{child_named}
 use Rattle.yp_base.specs.Results.{◌>>=◌, or_fault}
 use Rattle.yp_path.specs.RulePaths.{is_quote, next_place, is_unquoted, pieces, opened, bodies, all_bodies, without_spaces, are_spaces, around, name_in, closed, quoted_value, predicate_in, predicates_in, predicates_behind, is_bracket, predicates_of, node_named, among, key_named, is_new, each_once, rule_keys, with_predicates, rule_part_in, rule_parts_in, rule_segment_in, rule_segments_in, rule_path_in}
 use Rattle.yp_path.specs.Targets.{some_name, asked}
-use Rattle.yp_path.proofs.Names.{named_at, named_ways, form_elsewhere, form_at_home}
+use Rattle.yp_path.specs.NameLaws.{named_at}
+use Rattle.yp_path.proofs.Names.{named_ways, form_elsewhere, form_at_home}
 use Rattle.yp_path.proofs.Passing.{text_read}
 use Rattle.yp_path.proofs.Predicates.{Cut, some_pieces}
-use Rattle.yp_path.proofs.Steps.{step_ok, there, and_then_some, map_some, some_same, cond_some, cond_ok}
+use Rattle.yp_path.specs.StepLaws.{step_ok, there, and_then_some, map_some, some_same, cond_some, cond_ok}
 
 -- ---- cut texts, put together again
 

@@ -14,13 +14,12 @@ use Rattle.yp_path.specs.declared.mark.Place.TheVariants.{Outside, Within, Quote
 use Rattle.yp_path.specs.declared.predicate.Predicate.{Predicate}
 use Rattle.yp_base.specs.Cuts.{onto_first}
 use Rattle.yp_path.specs.Grammar.{IsQualified, IsNodeName, IsKeyName, is_free, spaces, spaced, quoted, IsQuote, IsPredicate, ArePredicates, RulePart, AreSegments, IsRuleText}
-use Rattle.yp_base.specs.Results.{◌>>=◌, or_fault}
+use Rattle.yp_base.specs.Results.{◌>>=◌, or_fault, bind_same}
 use Rattle.yp_path.specs.RulePaths.{is_quote, next_place, is_unquoted, pieces, bodies, all_bodies, without_spaces, are_spaces, around, name_in, closed, quoted_value, predicate_in, predicates_in, predicates_behind, is_bracket, predicates_of, rule_part_in, rule_parts_in, rule_segment_in, rule_segments_in, rule_path_in}
 use Rattle.yp_path.specs.Targets.{some_name}
 use Rattle.yp_path.proofs.Free.{position_free, before_mark, after_mark, before_free, position_inside, free_append}
 use Rattle.yp_path.proofs.Pieces.{onto_all, onto_some}
 use Rattle.yp_path.proofs.Predicates.{after_read, bodies_next}
-use Rattle.yp_path.proofs.Steps.{bind_same}
 
 -- ---- bytes of names
 

@@ -19,10 +19,10 @@ use Rattle.yp_path.specs.Names.{child_named}
 use Rattle.yp_path.specs.RulePaths.{pieces, given_for, each_once, key_value, rule_keys, with_predicates, rule_part_in, predicates_of, is_bracket, rule_segment_in, rule_segments_in, rule_path_in}
 use Rattle.yp_path.specs.Targets.{some_name, value_of, asked_of_kind, asked, Gives}
 use Rattle.std.specs.List.{before_first}
-use Rattle.yp_path.proofs.Names.{named_at}
+use Rattle.yp_path.specs.NameLaws.{named_at}
 use Rattle.yp_path.proofs.Predicates.{some_pieces}
-use Rattle.yp_path.proofs.Reading.{ReadFits, value_fits}
-use Rattle.yp_path.proofs.Steps.{step_ok, ok_same, there, and_then_some, map_some, some_same, cond_ok}
+use Rattle.yp_path.specs.TargetLaws.{ReadFits, value_fits}
+use Rattle.yp_path.specs.StepLaws.{step_ok, ok_same, there, and_then_some, map_some, some_same, cond_ok}
 
 module _ (read_fits : ReadFits) (nodes : List SchemaNode) where
   key_fits : (k : ℕ) (given : Option (List ℕ)) (key : Option Atom) → key_value nodes k given ≡ Some key → is_rule_key (node_at k nodes).ty key ≡ true

@@ -4,7 +4,7 @@ use Rattle.std.specs.List.{position_or_len, after_first}
 use Rattle.std.proofs.lemmas.Bool.{cond-true, cond-false, cases_Bool, eqb-true, lt-ltb, not-true, and_parts}
 use Rattle.yp_base.specs.declared.path.Seg.{Seg}
 use Rattle.yp_base.specs.Cuts.{onto_first, cut}
-use Rattle.yp_base.specs.Results.{◌>>=◌, or_fault}
+use Rattle.yp_base.specs.Results.{◌>>=◌, or_fault, bind_same}
 use Rattle.yp_schema.specs.declared.schema.SchemaNode.{SchemaNode}
 use Rattle.yp_schema.specs.WellFormed.{IsSchema}
 use Rattle.yp_path.specs.declared.fault.PathFault.{PathFault}
@@ -17,7 +17,7 @@ use Rattle.yp_path.specs.Targets.{is_equals, name_part, key_parts, some_name, ke
 use Rattle.yp_path.proofs.Free.{position_free, before_mark, after_mark, before_free, position_inside, free_append, cut_free, cut_at}
 use Rattle.yp_path.proofs.Parsing.{marked, marked_onto, without_first, split_is, whole_is, some_is, node_name_is}
 use Rattle.yp_path.proofs.Passing.{some_named, worded_node, worded_free}
-use Rattle.yp_path.proofs.Steps.{step_ok, there, and_then_some, map_some, some_same, cond_ok, bind_same}
+use Rattle.yp_path.specs.StepLaws.{step_ok, there, and_then_some, map_some, some_same, cond_ok}
 
 -- ---- a text of the grammar is read as its parts
 

@@ -1,7 +1,10 @@
 pub mod Escapes
 pub mod Grammar
+pub mod NameLaws
 pub mod Names
 pub mod RulePaths
+pub mod StepLaws
 pub mod TargetGrammar
+pub mod TargetLaws
 pub mod Targets
 pub mod Texts

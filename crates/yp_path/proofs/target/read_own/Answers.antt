@@ -1,4 +1,4 @@
-use Rattle.yp_path.proofs.Reading.{path_answered}
+use Rattle.yp_path.specs.TargetLaws.{path_answered}
 use Rattle.yp_path.proofs.target.read_own.Goals as goal
 
 pub returns-then-is_empty-clause-path : goal.returns-then-is_empty-clause-path

@@ -1,5 +1,5 @@
 use Rattle.std.proofs.Common.{sym}
-use Rattle.yp_path.proofs.Names.{named_below}
+use Rattle.yp_path.specs.NameLaws.{named_below}
 use Rattle.yp_path.proofs.Values.{below_same}
 use Rattle.yp_path.proofs.target.read_segment.Goals as goal
 

@@ -18,8 +18,8 @@ use Rattle.yp_base.specs.Cuts.{cut, onto_first}
 use Rattle.yp_path.specs.Names.{child_named}
 use Rattle.yp_base.specs.Results.{◌>>=◌, or_fault}
 use Rattle.yp_path.specs.Targets.{value_of, values_read, as_many, asked_of_kind, asked, with_values, some_name, name_part, key_parts, keys_read, segment_in, segments_in, target_in, Gives}
-use Rattle.yp_path.proofs.Names.{named_at}
-use Rattle.yp_path.proofs.Steps.{step_ok, ok_same, there, and_then_some, map_some}
+use Rattle.yp_path.specs.NameLaws.{named_at}
+use Rattle.yp_path.specs.StepLaws.{step_ok, ok_same, there, and_then_some, map_some}
 
 -- ---- keys
 

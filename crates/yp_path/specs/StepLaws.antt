@@ -1,4 +1,4 @@
--- Steps that succeed.
+-- What follows where steps succeed.
 use Rattle.std.proofs.Common.{◌≡◌, Bool, true, false, cond, refl, sym, ap, ◌∙◌, Option, Some, None, option_map, option_and_then, Result, Ok, Err}
 use Rattle.yp_base.specs.Results.{◌>>=◌, or_fault}
 
@@ -35,7 +35,3 @@ cond_some false o a e = cc
 pub cond_ok : {A F : Type 0} (t : Bool) (x : Result A F) (w : F) (a : A) → cond t x (Err w) ≡ Ok a → t ≡ true
 cond_ok true x w a e = refl
 cond_ok false x w a e = cc
-
-pub bind_same : {A B F : Type 0} (x : Result A F) (f g : A → Result B F) → ((a : A) → f a ≡ g a) → (x >>= f) ≡ (x >>= g)
-bind_same (Ok a) f g same = same a
-bind_same (Err e) f g same = refl
