@@ -1,6 +1,7 @@
 pub mod AtPath
 pub mod Forest
 pub mod Holding
+pub mod ReadLaws
 pub mod Reading
 pub mod Runs
 pub mod Writing

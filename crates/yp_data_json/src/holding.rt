@@ -10,6 +10,7 @@ ghost use Rattle.yp_schema.specs.WellFormed.{IsSchema};
 ghost use Rattle.yp_schema.specs.declared.schema.SchemaNode.{SchemaNode};
 ghost use Rattle.yp_data_json.specs.AtPath.{rows_read};
 ghost use Rattle.yp_data_json.specs.Holding.{HasNamesOnce, ItemsHaveNamesOnce, MembersHaveNamesOnce, IsDataAt, HoldsAt};
+ghost use Rattle.yp_data_json.specs.ReadLaws.{ReadsWhole};
 
 use serde_json::{Map, Value as Json};
 
@@ -30,6 +31,13 @@ pub fn accepted_data_holds_its_rows()
         → rows_read nodes at d ≡ Ok rows }
     ensures is_read { (nodes : List SchemaNode) (at : List Seg) (d : Data) → IsSchema nodes → is_place nodes at ≡ true → HasNamesOnce d
         → IsDataAt nodes at d → (rows : List Row) × (rows_read nodes at d ≡ Ok rows) }
+{}
+
+/// What is read at a place is all that stands there: rows of the schema in order, at or below the place,
+/// with the place's own row where a leaf or an entry stands there, and with the row of each entry that
+/// another row is below.
+pub fn what_is_read_is_whole()
+    ensures { ReadsWhole }
 {}
 
 /// No object of a JSON value has two members of one name, so the law speaks of each such value.
