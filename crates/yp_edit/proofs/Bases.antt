@@ -11,7 +11,8 @@ use Rattle.yp_base.specs.Rows.{value_at, has_within, AreInOrder}
 use Rattle.yp_base.specs.RowLaws.{some_keep_order}
 use Rattle.yp_tree.specs.Listed.{without_row}
 use Rattle.yp_edit.specs.Bases.{Touched, is_listed, left, untouched, IsBase, Touches, TouchesWithin}
-use Rattle.yp_edit.proofs.Alike.{are_one, tie_turned, same_rows}
+use Rattle.yp_base.specs.PathLaws.{are_one, tie_turned}
+use Rattle.yp_tree.specs.Alike.{same_rows}
 use Rattle.yp_edit.proofs.Taking.{without_row_order, value_at_without_row, one_taken, none_taken, still_none, all_left}
 
 -- the value at a path, of rows that are picked by their paths

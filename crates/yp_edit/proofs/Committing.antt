@@ -1,26 +1,24 @@
 -- Changes that are made to rows, or taken back.
 use Rattle.std.proofs.Common.{◌≡◌, List, [], ◌∷◌, map, refl, sym, ap, subst, ◌∙◌, cond, Bool, true, false, true≢false, not, Option, Some, None}
 use Rattle.std.specs.Prelude.{is_some}
+use Rattle.std.specs.Option.{option_or}
 use Rattle.std.specs.List.{AllByRecursion, filter_map, cons_option}
 use Rattle.std.specs.List.Sorted.{IsStrictlySortedBy}
 use Rattle.std.specs.Ordering.{is_eq}
-use Rattle.yp_base.specs.declared.atom.Atom.{Atom}
 use Rattle.yp_base.specs.declared.path.Seg.{Seg}
 use Rattle.yp_base.specs.declared.row.Value.{Value}
-use Rattle.yp_base.specs.declared.row.Value.TheVariants.{Atom as Plain, Member, Empty, Present}
 use Rattle.yp_base.specs.declared.row.Row.{Row}
 use Rattle.yp_base.specs.Order.{path_cmp}
 use Rattle.yp_base.specs.Rows.{path_of, value_at, put_row, put_rows, AreInOrder}
-use Rattle.yp_base.specs.Exact.{atoms_exact}
-use Rattle.yp_base.specs.RowLaws.{value_at_put, puts_order, still_some}
-use Rattle.std.proofs.lemmas.Map.Views.{tells_apart}
+use Rattle.yp_base.specs.PathLaws.{are_one, IsBefore}
+use Rattle.yp_base.specs.RowLaws.{value_at_put, value_at_puts, puts_order, still_some}
+use Rattle.yp_tree.specs.Alike.{same_rows}
 use Rattle.yp_tree.specs.Listed.{without_row}
 use Rattle.yp_edit.specs.declared.changed.ChangedRow.{ChangedRow}
-use Rattle.yp_edit.specs.Changes.{is_atom, same_value, are_alike, change_of, changed_rows}
+use Rattle.yp_edit.specs.ChangeLaws.{paths_in, change_in, AreSorted, none_before, neither, alike_is, changed_at, changed_sorted}
+use Rattle.yp_edit.specs.Changes.{are_alike, change_of, changed_rows}
 use Rattle.yp_edit.specs.Commits.{Differ, KeepsOthers, row_with, added_row, given_value, given_row, set_rows, without_missing}
-use Rattle.yp_edit.proofs.Alike.{IsBefore, keys, AreSorted, at, are_one, none_before, same_rows}
-use Rattle.yp_edit.proofs.Differing.{neither, changed_entries, changed_sorted, changed_at}
-use Rattle.yp_edit.proofs.Drafts.{or_else, value_at_puts, each_there}
+use Rattle.yp_edit.proofs.Drafts.{each_there}
 use Rattle.yp_edit.proofs.Taking.{value_at_without_row, without_row_order}
 
 -- ---- rows that are put
@@ -68,26 +66,26 @@ of_found g None = None
 of_found g (Some change) = row_value (g change)
 
 module _ (g : ChangedRow → Option Row) (of_path : (change : ChangedRow) (row : Row) → g change ≡ Some row → row.path ≡ change.path) where
-  brought_at : (q : List Seg) (changes : List ChangedRow) → AreSorted (changed_entries changes) → value_at q (filter_map g changes) ≡ of_found g (at q (changed_entries changes))
+  brought_at : (q : List Seg) (changes : List ChangedRow) → AreSorted changes → value_at q (filter_map g changes) ≡ of_found g (change_in q changes)
   unfolding IsStrictlySortedBy
   brought_at q [] s = refl
   brought_at q (change ∷ changes) s =
-      elim (g change) as (λ r. g change ≡ r → value_at q (cons_option r (filter_map g changes)) ≡ of_found g (at q (changed_entries (change ∷ changes)))) [
-        | None ↦ λ is. brought_at q changes s.1 ∙ elim (is_eq (path_cmp q change.path)) as (λ b. is_eq (path_cmp q change.path) ≡ b → of_found g (at q (changed_entries changes)) ≡ of_found g (cond b (Some change) (at q (changed_entries changes)))) [
+      elim (g change) as (λ r. g change ≡ r → value_at q (cons_option r (filter_map g changes)) ≡ of_found g (change_in q (change ∷ changes))) [
+        | None ↦ λ is. brought_at q changes s.1 ∙ elim (is_eq (path_cmp q change.path)) as (λ b. is_eq (path_cmp q change.path) ≡ b → of_found g (change_in q changes) ≡ of_found g (cond b (Some change) (change_in q changes))) [
           | true ↦ λ here.
-              ap (of_found g) (none_before q (changed_entries changes) (subst (λ (p : List Seg). IsBefore p (keys (changed_entries changes))) (sym (are_one q change.path here)) s.0))
+              ap (of_found g) (none_before q changes (subst (λ (p : List Seg). IsBefore p (paths_in changes)) (sym (are_one q change.path here)) s.0))
               ∙ sym (ap row_value is)
           | false ↦ λ here. refl
         ] refl
         | Some row ↦ λ is.
             ap (λ p. cond (is_eq (path_cmp q p)) (Some row.value) (value_at q (filter_map g changes))) (of_path change row is)
-            ∙ elim (is_eq (path_cmp q change.path)) as (λ b. cond b (Some row.value) (value_at q (filter_map g changes)) ≡ of_found g (cond b (Some change) (at q (changed_entries changes)))) [
+            ∙ elim (is_eq (path_cmp q change.path)) as (λ b. cond b (Some row.value) (value_at q (filter_map g changes)) ≡ of_found g (cond b (Some change) (change_in q changes))) [
               | true ↦ sym (ap row_value is)
               | false ↦ brought_at q changes s.1
             ]
       ] refl
 
-  brought_before : (p : List Seg) (changes : List ChangedRow) → IsBefore p (keys (changed_entries changes)) → IsBefore p (map path_of (filter_map g changes))
+  brought_before : (p : List Seg) (changes : List ChangedRow) → IsBefore p (paths_in changes) → IsBefore p (map path_of (filter_map g changes))
   brought_before p [] all = tt
   brought_before p (change ∷ changes) all =
       elim (g change) as (λ r. g change ≡ r → IsBefore p (map path_of (cons_option r (filter_map g changes)))) [
@@ -95,7 +93,7 @@ module _ (g : ChangedRow → Option Row) (of_path : (change : ChangedRow) (row :
         | Some row ↦ λ is. (ap (path_cmp p) (of_path change row is) ∙ all.0, brought_before p changes all.1)
       ] refl
 
-  brought_order : (changes : List ChangedRow) → AreSorted (changed_entries changes) → AreInOrder (filter_map g changes)
+  brought_order : (changes : List ChangedRow) → AreSorted changes → AreInOrder (filter_map g changes)
   unfolding IsStrictlySortedBy
   brought_order [] s = tt
   brought_order (change ∷ changes) s =
@@ -146,23 +144,23 @@ none_kept : (b : Bool) (value : Option Value) → value ≡ None → cond b valu
 none_kept true value h = h
 none_kept false value h = h
 
-left_at : (value : ChangedRow → Option Value) (q : List Seg) (changes : List ChangedRow) (rows : List Row) → AreSorted (changed_entries changes) → AreInOrder rows
-    → value_at q (without_missing value changes rows) ≡ cond (is_missing value (at q (changed_entries changes))) None (value_at q rows)
+left_at : (value : ChangedRow → Option Value) (q : List Seg) (changes : List ChangedRow) (rows : List Row) → AreSorted changes → AreInOrder rows
+    → value_at q (without_missing value changes rows) ≡ cond (is_missing value (change_in q changes)) None (value_at q rows)
 unfolding IsStrictlySortedBy
 left_at value q [] rows s order = refl
 left_at value q (change ∷ changes) rows s order =
-    let nothing_else : is_eq (path_cmp q change.path) ≡ true → at q (changed_entries changes) ≡ None = λ here.
-    none_before q (changed_entries changes) (subst (λ (p : List Seg). IsBefore p (keys (changed_entries changes))) (sym (are_one q change.path here)) s.0) in
-    elim (is_some (value change)) as (λ n. is_some (value change) ≡ n → value_at q (without_missing value changes (cond n rows (without_row change.path rows))) ≡ cond (is_missing value (at q (changed_entries (change ∷ changes)))) None (value_at q rows)) [
-      | true ↦ λ is. left_at value q changes rows s.1 order ∙ elim (is_eq (path_cmp q change.path)) as (λ b. is_eq (path_cmp q change.path) ≡ b → cond (is_missing value (at q (changed_entries changes))) None (value_at q rows) ≡ cond (is_missing value (cond b (Some change) (at q (changed_entries changes)))) None (value_at q rows)) [
+    let nothing_else : is_eq (path_cmp q change.path) ≡ true → change_in q changes ≡ None = λ here.
+    none_before q changes (subst (λ (p : List Seg). IsBefore p (paths_in changes)) (sym (are_one q change.path here)) s.0) in
+    elim (is_some (value change)) as (λ n. is_some (value change) ≡ n → value_at q (without_missing value changes (cond n rows (without_row change.path rows))) ≡ cond (is_missing value (change_in q (change ∷ changes))) None (value_at q rows)) [
+      | true ↦ λ is. left_at value q changes rows s.1 order ∙ elim (is_eq (path_cmp q change.path)) as (λ b. is_eq (path_cmp q change.path) ≡ b → cond (is_missing value (change_in q changes)) None (value_at q rows) ≡ cond (is_missing value (cond b (Some change) (change_in q changes))) None (value_at q rows)) [
         | true ↦ λ here. ap (λ f. cond (is_missing value f) None (value_at q rows)) (nothing_else here) ∙ sym (ap (λ n. cond (not n) None (value_at q rows)) is)
         | false ↦ λ here. refl
       ] refl
       | false ↦ λ is.
           left_at value q changes (without_row change.path rows) s.1 (without_row_order change.path rows order)
-          ∙ ap (cond (is_missing value (at q (changed_entries changes))) None) (value_at_without_row q change.path rows order)
-          ∙ elim (is_eq (path_cmp q change.path)) as (λ b. is_eq (path_cmp q change.path) ≡ b → cond (is_missing value (at q (changed_entries changes))) None (cond b None (value_at q rows)) ≡ cond (is_missing value (cond b (Some change) (at q (changed_entries changes)))) None (value_at q rows)) [
-            | true ↦ λ here. none_kept (is_missing value (at q (changed_entries changes))) None refl ∙ sym (ap (λ n. cond (not n) None (value_at q rows)) is)
+          ∙ ap (cond (is_missing value (change_in q changes)) None) (value_at_without_row q change.path rows order)
+          ∙ elim (is_eq (path_cmp q change.path)) as (λ b. is_eq (path_cmp q change.path) ≡ b → cond (is_missing value (change_in q changes)) None (cond b None (value_at q rows)) ≡ cond (is_missing value (cond b (Some change) (change_in q changes))) None (value_at q rows)) [
+            | true ↦ λ here. none_kept (is_missing value (change_in q changes)) None refl ∙ sym (ap (λ n. cond (not n) None (value_at q rows)) is)
             | false ↦ λ here. refl
           ] refl
     ] refl
@@ -175,36 +173,9 @@ left value before after rows q before_order order =
 
 -- ---- changes that are made
 
-same_atom : (value : Value) (atom : Atom) → is_atom value atom ≡ true → value ≡ Plain atom
-same_atom (Plain other) atom h = ap (λ (a : Atom). Plain a) (tells_apart atoms_exact other atom h)
-same_atom Member atom h = absurd (true≢false (sym h))
-same_atom Empty atom h = absurd (true≢false (sym h))
-same_atom Present atom h = absurd (true≢false (sym h))
-
-same_is : (one other : Value) → same_value one other ≡ true → one ≡ other
-same_is one (Plain atom) h = same_atom one atom h
-same_is Member Member h = refl
-same_is (Plain a) Member h = absurd (true≢false (sym h))
-same_is Empty Member h = absurd (true≢false (sym h))
-same_is Present Member h = absurd (true≢false (sym h))
-same_is Empty Empty h = refl
-same_is (Plain a) Empty h = absurd (true≢false (sym h))
-same_is Member Empty h = absurd (true≢false (sym h))
-same_is Present Empty h = absurd (true≢false (sym h))
-same_is Present Present h = refl
-same_is (Plain a) Present h = absurd (true≢false (sym h))
-same_is Member Present h = absurd (true≢false (sym h))
-same_is Empty Present h = absurd (true≢false (sym h))
-
-pub alike_is : (one other : Option Value) → are_alike one other ≡ true → one ≡ other
-alike_is None None h = refl
-alike_is None (Some new) h = absurd (true≢false (sym h))
-alike_is (Some old) None h = absurd (true≢false (sym h))
-alike_is (Some old) (Some new) h = ap (λ (v : Value). Some v) (same_is old new h)
-
 -- what a change makes of a value
 made_of : Option Value → Option ChangedRow → Option Value
-made_of old change = cond (is_missing new_value change) None (or_else (of_found given_row change) (or_else (of_found added_row change) old))
+made_of old change = cond (is_missing new_value change) None (option_or (of_found given_row change) (option_or (of_found added_row change) old))
 
 made_new : (q : List Seg) (old new : Option Value) → made_of old (Some (record { path = q; old = old; new = new })) ≡ new
 unfolding made_of
@@ -238,8 +209,8 @@ made_all before after order after_order =
     left new_value before after (put_rows given (put_rows added before)) q order second_order
     ∙ ap (cond (is_missing new_value (change_of q (value_at q before) (value_at q after))) None) (
     value_at_puts q given (put_rows added before) (brought_order given_row given_path changes sorted)
-    ∙ ap (or_else (value_at q given)) (value_at_puts q added before (brought_order added_row added_path changes sorted))
-    ∙ (λ i. or_else (brought given_row given_path before after q order i) (or_else (brought added_row added_path before after q order i) (value_at q before))))
+    ∙ ap (option_or (value_at q given)) (value_at_puts q added before (brought_order added_row added_path changes sorted))
+    ∙ (λ i. option_or (brought given_row given_path before after q order i) (option_or (brought added_row added_path before after q order i) (value_at q before))))
     ∙ made_right q (value_at q before) (value_at q after))
 
 -- rows that differ by the same are the same

@@ -13,15 +13,11 @@ use Rattle.yp_base.specs.declared.txt.Txt.{Txt}
 use Rattle.yp_base.specs.Types.{same_text, is_among, are_distinct}
 use Rattle.yp_edit.specs.declared.patch.Edit.{Edit}
 use Rattle.yp_edit.specs.Shapes.{ids_of}
-use Rattle.yp_edit.proofs.Alike.{tie_reverse}
-use Rattle.yp_edit.proofs.Drafts.{swapped}
-
-turned : (a b : List ℕ) → same_text a b ≡ same_text b a
-turned a b = texts_ties a b ∙ ap is_eq (nat_list_cmp_total.antisymm a b) ∙ tie_reverse (slice_cmp nat_cmp b a) ∙ sym (texts_ties b a)
+use Rattle.yp_base.specs.PathLaws.{or_turned, texts_turned}
 
 among_more : (text key : List ℕ) (texts : List (List ℕ)) → is_among text (texts ++ key ∷ []) ≡ (same_text key text || is_among text texts)
-among_more text key [] = ap (λ b. b || false) (turned text key)
-among_more text key (other ∷ texts) = ap (λ b. same_text text other || b) (among_more text key texts) ∙ swapped (same_text text other) (same_text key text) (is_among text texts)
+among_more text key [] = ap (λ b. b || false) (texts_turned text key)
+among_more text key (other ∷ texts) = ap (λ b. same_text text other || b) (among_more text key texts) ∙ or_turned (same_text text other) (same_text key text) (is_among text texts)
 
 -- one more text, which isn't among distinct ones
 distinct_more : (key : List ℕ) (texts : List (List ℕ)) → are_distinct texts ≡ true → is_among key texts ≡ false → are_distinct (texts ++ key ∷ []) ≡ true
@@ -77,14 +73,14 @@ seen_more text (other ∷ seen) key =
     elim (slice_cmp nat_cmp key.now other.now) as (λ o. slice_cmp nat_cmp key.now other.now ≡ o → is_seen text (match_ordering o (key ∷ other ∷ seen) (other ∷ seen) (other ∷ insert_key (λ (one two : Bor Txt). slice_cmp nat_cmp one.now two.now) seen key)) ≡ (p key || (p other || is_seen text seen))) [
       | Less ↦ λ e. refl
       | Equal ↦ λ e. sym (or_self_left (p other) (is_seen text seen)) ∙ ap (λ b. b || (p other || is_seen text seen)) (ap is_eq (sym (alike_right nat_list_cmp_total key.now other.now text e)))
-      | Greater ↦ λ e. ap (λ b. p other || b) (seen_more text seen key) ∙ swapped (p other) (p key) (is_seen text seen)
+      | Greater ↦ λ e. ap (λ b. p other || b) (seen_more text seen key) ∙ or_turned (p other) (p key) (is_seen text seen)
     ] refl
 
 -- one more edit is seen
 pub edit_seen : (edits : List Edit) (i : ℕ) (edit : Edit) (text : List ℕ) (was is : Bool) → i < length edits → edit ≡ get_or edits i edit → is ≡ (is_eq (slice_cmp nat_cmp text edit.id) || was) → was ≡ is_among text (ids_of (take i edits)) → is ≡ is_among text (ids_of (take (i + 1) edits))
 edit_seen edits i edit text was is here at grown so_far =
     grown
-    ∙ (λ j. sym (turned edit.id text ∙ texts_ties text edit.id) j || so_far j)
+    ∙ (λ j. sym (texts_turned edit.id text ∙ texts_ties text edit.id) j || so_far j)
     ∙ sym (among_more text edit.id (ids_of (take i edits)))
     ∙ ap (is_among text) (sym (ids_more edits i edit here at))
 

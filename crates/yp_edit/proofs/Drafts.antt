@@ -1,5 +1,6 @@
 -- Rows that are put over those that are left.
-use Rattle.std.proofs.Common.{◌≡◌, ◌+◌, suc, List, [], ◌∷◌, length, map, refl, sym, ap, subst, ◌∙◌, cond, Bool, true, false, true≢false, not, ◌||◌, Option, Some, None, arith}
+use Rattle.std.proofs.Common.{◌≡◌, ◌+◌, suc, List, [], ◌∷◌, length, map, refl, sym, ap, ◌∙◌, cond, Bool, true, false, true≢false, not, ◌||◌, Option, Some, None, arith}
+use Rattle.std.specs.Option.{option_or}
 use Rattle.std.specs.Prelude.{is_some, Result, Ok, Err, IfOk}
 use Rattle.std.specs.Ordering.{is_eq, match_ordering}
 use Rattle.std.specs.List.{AllByRecursion}
@@ -13,32 +14,16 @@ use Rattle.yp_base.specs.declared.row.Row.{Row}
 use Rattle.yp_base.specs.Order.{path_cmp, is_within}
 use Rattle.yp_base.specs.Rows.{path_of, value_at, put_row, put_rows, has_within, rows_without, AreInOrder}
 use Rattle.yp_base.specs.Exact.{paths_exact}
-use Rattle.yp_base.specs.RowLaws.{value_at_put, value_at_without, put_keeps_order, puts_order, picked-puts}
+use Rattle.yp_base.specs.PathLaws.{or_turned, tie_turned, ties_itself, IsBefore}
+use Rattle.yp_base.specs.RowLaws.{value_at_put, value_at_puts, value_at_without, put_keeps_order, puts_order, picked-puts}
 use Rattle.yp_tree.specs.Listed.{without_row}
 use Rattle.yp_edit.specs.Bases.{Touched, is_listed, left, untouched, Touches, StaysTouched, TouchesWithin}
 use Rattle.yp_edit.specs.Drafts.{drafted, IsDraft}
-use Rattle.yp_edit.proofs.Alike.{IsBefore, are_one, tie_turned, ties_itself, same_rows, none_there}
+use Rattle.yp_tree.specs.Alike.{same_rows}
 use Rattle.yp_edit.proofs.Taking.{value_at_without_row, without_row_order}
 use Rattle.yp_edit.proofs.Bases.{left_order, touched_gone, touches_left}
 
-abbrev pub or_else : Option Value → Option Value → Option Value
-or_else None other = other
-or_else (Some value) other = Some value
-
-either : (here : Bool) (value : Value) (there other : Option Value) → (here ≡ true → there ≡ None) → or_else there (cond here (Some value) other) ≡ or_else (cond here (Some value) there) other
-either true value there other none = ap (λ (v : Option Value). or_else v (Some value)) (none refl)
-either false value there other none = refl
-
--- the value at a path: that of the row that is put, or else that of the row that is left
-pub value_at_puts : (q : List Seg) (put rows : List Row) → AreInOrder put → value_at q (put_rows put rows) ≡ or_else (value_at q put) (value_at q rows)
-unfolding IsStrictlySortedBy
-value_at_puts q [] rows order = refl
-value_at_puts q (row ∷ put) rows order =
-    value_at_puts q put (put_row row rows) order.1
-    ∙ ap (or_else (value_at q put)) (value_at_put q row rows)
-    ∙ either (is_eq (path_cmp q row.path)) row.value (value_at q put) (value_at q rows) (λ here. none_there q put (subst (λ (p : List Seg). IsBefore p (map path_of put)) (sym (are_one q row.path here)) order.0))
-
-some_either : (there other : Option Value) → is_some (or_else there other) ≡ (is_some there || is_some other)
+some_either : (there other : Option Value) → is_some (option_or there other) ≡ (is_some there || is_some other)
 some_either None other = refl
 some_either (Some value) other = refl
 
@@ -54,7 +39,7 @@ there_else q put rows here left order is missing is_left = is_left ∙ sym (ther
 
 -- ---- a row that is put
 
-put_over : (here : Bool) (value : Value) (there other : Option Value) → or_else (cond here (Some value) there) (cond here None other) ≡ cond here (Some value) (or_else there other)
+put_over : (here : Bool) (value : Value) (there other : Option Value) → option_or (cond here (Some value) there) (cond here None other) ≡ cond here (Some value) (option_or there other)
 put_over true value there other = refl
 put_over false value there other = refl
 
@@ -64,7 +49,7 @@ put_more row put rows put_order order =
     (puts_order (put_row row put) (without_row row.path rows) (without_row_order row.path rows order))
     (put_keeps_order row (put_rows put rows) (puts_order put rows order)) (λ q.
     value_at_puts q (put_row row put) (without_row row.path rows) (put_keeps_order row put put_order)
-    ∙ (λ i. or_else (value_at_put q row put i) (value_at_without_row q row.path rows order i))
+    ∙ (λ i. option_or (value_at_put q row put i) (value_at_without_row q row.path rows order i))
     ∙ put_over (is_eq (path_cmp q row.path)) row.value (value_at q put) (value_at q rows)
     ∙ ap (cond (is_eq (path_cmp q row.path)) (Some row.value)) (sym (value_at_puts q put rows put_order))
     ∙ sym (value_at_put q row (put_rows put rows)))
@@ -75,11 +60,6 @@ pub cut_both : (target : List Seg) (put rows : List Row) → AreInOrder rows →
 cut_both target put rows order = sym (picked-puts (λ path. not (is_within target path)) put rows order)
 
 -- ---- whether there are any
-
-pub swapped : (a b c : Bool) → (a || (b || c)) ≡ (b || (a || c))
-swapped true true c = refl
-swapped true false c = refl
-swapped false b c = refl
 
 grouped : (a b c : Bool) → (a || (b || c)) ≡ ((b || a) || c)
 grouped true true c = refl
@@ -93,7 +73,7 @@ within_put target new (row ∷ rows) =
     elim (path_cmp new.path row.path) as (λ o. path_cmp new.path row.path ≡ o → has_within target (match_ordering o (new ∷ row ∷ rows) (record row { value = new.value } ∷ rows) (row ∷ put_row new rows)) ≡ (is_within target new.path || (is_within target row.path || has_within target rows))) [
       | Less ↦ λ e. refl
       | Equal ↦ λ e. sym (or_self_left (is_within target row.path) (has_within target rows)) ∙ ap (λ p. is_within target p || (is_within target row.path || has_within target rows)) (sym (paths_exact new.path row.path e))
-      | Greater ↦ λ e. ap (λ b. is_within target row.path || b) (within_put target new rows) ∙ swapped (is_within target row.path) (is_within target new.path) (has_within target rows)
+      | Greater ↦ λ e. ap (λ b. is_within target row.path || b) (within_put target new rows) ∙ or_turned (is_within target row.path) (is_within target new.path) (has_within target rows)
     ] refl
 
 pub within_puts : (target : List Seg) (put rows : List Row) → has_within target (put_rows put rows) ≡ (has_within target put || has_within target rows)

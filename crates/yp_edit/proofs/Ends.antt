@@ -1,5 +1,5 @@
 -- The end of a path.
-use Rattle.std.proofs.Common.{◌≡◌, ℕ, ◌<◌, ◌==◌, Bool, true, false, true≢false, not, ◌&&◌, List, [], ◌∷◌, ◌++◌, length, map, append-nil, append_assoc, Option, Some, None, refl, sym, ap, ◌∙◌, arith, nat_lt}
+use Rattle.std.proofs.Common.{◌≡◌, ℕ, ◌<◌, ◌==◌, Bool, true, false, true≢false, not, ◌&&◌, List, [], ◌∷◌, ◌++◌, length, map, append-nil, append_assoc, Option, Some, None, refl, sym, ap, subst, ◌∙◌, IfSome}
 use Rattle.std.specs.List.{AllByRecursion, list_all}
 use Rattle.std.proofs.lemmas.Bool.{and_parts}
 use Rattle.std.proofs.lemmas.List.Folds.{list_all-map}
@@ -7,37 +7,17 @@ use Rattle.yp_base.specs.declared.path.Seg.{Seg}
 use Rattle.yp_schema.specs.declared.schema.SchemaNode.{SchemaNode}
 use Rattle.yp_base.specs.Paths.{same_number, last_node}
 use Rattle.yp_schema.specs.Nodes.{node_at}
-use Rattle.yp_schema.specs.Datastore.{is_segment, keys_of_kind, goes_down, is_path_of, is_place, ends_in_key}
+use Rattle.yp_schema.specs.SchemaLaws.{segment_within, path_end}
+use Rattle.yp_schema.specs.Datastore.{is_segment, goes_down, is_path_of, is_place, ends_in_key}
 use Rattle.yp_edit.specs.Patches.{paths_above}
-
-pub last_node-append : (front : List Seg) (seg : Seg) → last_node (front ++ seg ∷ []) ≡ Some seg.node
-last_node-append [] seg = refl
-last_node-append (first ∷ []) seg = refl
-last_node-append (first ∷ next ∷ front) seg = last_node-append (next ∷ front) seg
 
 -- a list with a copy behind it is the list with the value itself behind it
 pub with_copy : (front longer : List Seg) (copy seg : Seg) → longer ≡ front ++ copy ∷ [] → copy ≡ seg → longer ≡ front ++ seg ∷ []
 with_copy front longer copy seg is same = is ∙ ap (λ (s : Seg). front ++ s ∷ []) same
 
-below_count : (a b : ℕ) → nat_lt a b ≡ true → a < b
-below_count a b h = grind (arith, h)
-
-segment_within : (nodes : List SchemaNode) (seg : Seg) → is_segment nodes seg ≡ true → seg.node < length nodes
-segment_within nodes seg h = below_count seg.node (length nodes) (and_parts (nat_lt seg.node (length nodes)) (keys_of_kind (node_at seg.node nodes).kind nodes (node_at seg.node nodes) seg.keys) h).0
-
-goes_within : (nodes : List SchemaNode) (parent : Option ℕ) (path : List Seg) (n : ℕ) → goes_down nodes parent path ≡ true → last_node path ≡ Some n → n < length nodes
-goes_within nodes parent [] n down is = absurd (cc)
-goes_within nodes parent (seg ∷ []) n down is =
-    let here = and_parts (same_number (node_at seg.node nodes).parent parent && is_segment nodes seg) true down in
-    let within = segment_within nodes seg (and_parts (same_number (node_at seg.node nodes).parent parent) (is_segment nodes seg) here.0).1 in
-    let same : seg.node ≡ n = cc in omega (arith, within, same)
-goes_within nodes parent (seg ∷ next ∷ path) n down is =
-    goes_within nodes (Some seg.node) (next ∷ path) n (and_parts (same_number (node_at seg.node nodes).parent parent && is_segment nodes seg) (goes_down nodes (Some seg.node) (next ∷ path)) down).1 is
-
 -- the node that a path of a schema ends in is one of the schema's
 pub end_within : (nodes : List SchemaNode) (path : List Seg) (n : ℕ) → is_path_of nodes path ≡ true → last_node path ≡ Some n → n < length nodes
-end_within nodes [] n is last = absurd (true≢false (sym is))
-end_within nodes (seg ∷ path) n is last = goes_within nodes None (seg ∷ path) n is last
+end_within nodes path n is last = subst (λ (o : Option ℕ). IfSome o (λ n. n < length nodes)) last (path_end nodes path is)
 
 goes_all : (nodes : List SchemaNode) (parent : Option ℕ) (path : List Seg) → goes_down nodes parent path ≡ true → AllByRecursion (λ seg. seg.node < length nodes) path
 goes_all nodes parent [] down = tt

@@ -2,16 +2,16 @@
 use Rattle.std.proofs.Common.{◌≡◌, ℕ, ◌+◌, List, [], ◌∷◌, ◌++◌, refl, sym, ap, subst, ◌∙◌, cond, Bool, true, false, true≢false, not, ◌&&◌, ◌||◌, Option, Some, None, inl, inr, ⊎_elim}
 use Rattle.std.specs.Prelude.{◌⊎◌, is_some, Result, Ok, Err, IfOk, nat_lt, length}
 use Rattle.std.specs.List.{list_all, AllByRecursion}
-use Rattle.std.specs.Ordering.{is_eq, eq_by_cmp}
-use Rattle.std.proofs.lemmas.Bool.{and_parts, and_from}
+use Rattle.std.specs.Ordering.{eq_by_cmp}
+use Rattle.std.proofs.lemmas.Bool.{and_parts, and_from, or_cases}
 use Rattle.std.proofs.lemmas.List.Folds.{list_all-map}
 use Rattle.yp_base.specs.declared.path.Seg.{Seg}
 use Rattle.yp_base.specs.declared.row.Value.{Value}
 use Rattle.yp_base.specs.declared.row.Row.{Row}
-use Rattle.yp_base.specs.Order.{segment_cmp, path_cmp, is_within}
-use Rattle.yp_base.specs.Rows.{value_at, put_row, put_rows, has_within, rows_without}
+use Rattle.yp_base.specs.Order.{segment_cmp, is_within}
+use Rattle.yp_base.specs.Rows.{value_at, put_rows, has_within, rows_without}
 use Rattle.yp_base.specs.Exact.{segments_decide}
-use Rattle.yp_base.specs.RowLaws.{value_at_without, puts_order, without_keeps_order, all_put}
+use Rattle.yp_base.specs.RowLaws.{all_puts, holds_at, value_at_without, puts_order, without_keeps_order}
 use Rattle.yp_schema.specs.declared.schema.SchemaNode.{SchemaNode}
 use Rattle.yp_schema.specs.Datastore.{is_path_of, is_place, ends_in_key, ends_in_entry, IsRowOf, has_row, IsDatastore, AreWhole}
 use Rattle.yp_path.specs.declared.fault.PathFault.{PathFault}
@@ -27,15 +27,14 @@ use Rattle.yp_edit.specs.declared.patch.Edit.{Edit}
 use Rattle.yp_edit.specs.declared.patch.Patch.{Patch}
 use Rattle.yp_base.specs.Results.{◌>>=◌}
 use Rattle.yp_edit.specs.Patches.{RefusedEdit, refused, path_or, no_key, target_of, rows_or, value_rows, paths_above, has_its_row, stand_above, row_limit, within_limit, new_rows, performed, edited, of_edit, all_edited, applied}
-use Rattle.yp_edit.proofs.Alike.{are_one}
 use Rattle.yp_edit.proofs.Applied.{then_ok, choice_ok, numbered_ok}
 use Rattle.yp_edit.proofs.Committing.{puts_stay}
 use Rattle.yp_edit.proofs.Drafts.{there_first, there_of_puts}
 use Rattle.yp_edit.proofs.Ends.{may_stand}
 use Rattle.yp_base.specs.PathLaws.{within_longer}
 use Rattle.yp_base.specs.TextLaws.{read_fits}
-use Rattle.yp_path.proofs.Reading.{path_of_text}
-use Rattle.yp_data_json.proofs.Wholes.{read_whole}
+use Rattle.yp_path.specs.TargetLaws.{path_of_text}
+use Rattle.yp_data_json.specs.ReadLaws.{ReadsWhole}
 
 -- ---- paths
 
@@ -70,20 +69,6 @@ passes_above t (s ∷ front) seg more h =
 
 -- ---- rows
 
--- what holds of the path of each row holds of a path that has a row
-pub holds_at : (P : List Seg → Type 0) (rows : List Row) (path : List Seg) → AllByRecursion (λ row. P row.path) rows → has_row path rows ≡ true → P path
-holds_at P [] path all there = absurd (true≢false (sym there))
-holds_at P (row ∷ rows) path all there =
-    elim (is_eq (path_cmp path row.path)) as (λ b. is_eq (path_cmp path row.path) ≡ b → is_some (cond b (Some row.value) (value_at path rows)) ≡ true → P path) [
-      | true ↦ λ e h. subst P (sym (are_one path row.path e)) all.0
-      | false ↦ λ e h. holds_at P rows path all.1 h
-    ] refl there
-
--- what holds of the rows and of those that are put holds of all
-pub all_puts : (P : Row → Type 0) (news rows : List Row) → AllByRecursion P news → AllByRecursion P rows → AllByRecursion P (put_rows news rows)
-all_puts P [] rows new all = all
-all_puts P (first ∷ news) rows new all = all_puts P news (put_row first rows) new.1 (all_put P first rows new.0 all)
-
 all_without : (P : Row → Type 0) (target : List Seg) (rows : List Row) → AllByRecursion P rows → AllByRecursion P (rows_without target rows)
 all_without P target [] all = tt
 all_without P target (row ∷ rows) all =
@@ -100,10 +85,6 @@ still_there target path rows apart there = ap is_some (value_at_without path tar
 left_apart : (b : Bool) (value : Option Value) → is_some (cond b None value) ≡ true → (b ≡ false) × (is_some value ≡ true)
 left_apart true value h = absurd (true≢false (sym h))
 left_apart false value h = (refl, h)
-
-pub or_cases : {A : Type 0} (a b : Bool) → (a || b) ≡ true → (a ≡ true → A) → (b ≡ true → A) → A
-or_cases true b h one other = one refl
-or_cases false b h one other = other h
 
 -- ---- what an edit does
 
@@ -151,9 +132,8 @@ module _ (nodes : List SchemaNode) (target : List Seg) (rows : List Row) (datast
       in_order = puts_order new rows datastore.in_order;
       of_schema = all_puts (IsRowOf nodes) new rows whole.writable.of_schema datastore.of_schema;
       entries = λ above rest within entry there.
-          or_cases (has_row (above ++ rest) new) (has_row (above ++ rest) rows) (sym (there_of_puts (above ++ rest) new rows whole.writable.in_order) ∙ there)
-          (entry_put above rest stands entry)
-          (λ before. puts_stay above new rows (datastore.entries above rest refl entry before));
+          ⊎_elim (entry_put above rest stands entry) (λ before. puts_stay above new rows (datastore.entries above rest refl entry before))
+          (or_cases (has_row (above ++ rest) new) (has_row (above ++ rest) rows) (sym (there_of_puts (above ++ rest) new rows whole.writable.in_order) ∙ there));
     }
 
     -- what must stand above a path stays without what is at or below it
@@ -166,37 +146,6 @@ module _ (nodes : List SchemaNode) (target : List Seg) (rows : List Row) (datast
 -- rows that an edit brings
 abbrev Brought : List SchemaNode → List Seg → List Row → List Row → Type 0
 Brought nodes target rows new = AreWhole nodes target new × Supported nodes target rows
-
-value_whole : (nodes : List SchemaNode) (target : List Seg) (value : Option Data) → is_place nodes target ≡ true → IfOk (value_rows nodes target value) (AreWhole nodes target)
-value_whole nodes target None place = tt
-value_whole nodes target (Some d) place =
-    elim (rows_read nodes target d) as (λ (r : Result (List Row) DataFault). rows_read nodes target d ≡ r → IfOk (rows_or r) (AreWhole nodes target)) [
-      | Ok rows ↦ λ e. read_whole nodes target d rows place e
-      | Err fault ↦ λ e. tt
-    ] refl
-
-brought : (nodes : List SchemaNode) (target : List Seg) (value : Option Data) (rows : List Row) → is_place nodes target ≡ true → IfOk (new_rows nodes target value rows) (Brought nodes target rows)
-brought nodes target value rows place =
-    then_ok (AreWhole nodes target) (Brought nodes target rows) (value_rows nodes target value) _ (value_whole nodes target value place) (λ new whole.
-    elim (stand_above nodes target rows) as (λ b. stand_above nodes target rows ≡ b → IfOk (cond b (Ok new) (refused DataMissing)) (Brought nodes target rows)) [
-      | true ↦ λ e. (whole, supported nodes target rows e)
-      | false ↦ λ e. tt
-    ] refl)
-
-by_keeps : (op : EditOp) (nodes : List SchemaNode) (target : List Seg) (value : Option Data) (rows : List Row) → is_place nodes target ≡ true → IsDatastore nodes rows → IfOk (performed op nodes target value rows) (IsDatastore nodes)
-by_keeps Create nodes target value rows place datastore =
-    then_ok (Brought nodes target rows) (IsDatastore nodes) (new_rows nodes target value rows) _ (brought nodes target value rows place)
-    (λ new given. choice_ok (IsDatastore nodes) (has_within target rows) _ _ tt (puts_datastore nodes target rows datastore new given.0 given.1))
-by_keeps Merge nodes target value rows place datastore =
-    then_ok (Brought nodes target rows) (IsDatastore nodes) (new_rows nodes target value rows) _ (brought nodes target value rows place)
-    (λ new given. puts_datastore nodes target rows datastore new given.0 given.1)
-by_keeps Replace nodes target value rows place datastore =
-    then_ok (Brought nodes target rows) (IsDatastore nodes) (new_rows nodes target value rows) _ (brought nodes target value rows place)
-    (λ new given. puts_datastore nodes target (rows_without target rows) (without_datastore nodes target rows datastore) new given.0 (supported_without nodes target rows datastore new given.0 given.1))
-by_keeps Delete nodes target value rows place datastore = choice_ok (IsDatastore nodes) (has_within target rows) _ _ (without_datastore nodes target rows datastore) tt
-by_keeps Remove nodes target value rows place datastore = without_datastore nodes target rows datastore
-by_keeps Insert nodes target value rows place datastore = tt
-by_keeps Move nodes target value rows place datastore = tt
 
 -- a target is a path of the schema
 place_at : (b : Bool) (nodes : List SchemaNode) (path : List Seg) (refusal : Refusal) → ends_in_key nodes path ≡ b → is_path_of nodes path ≡ true → IfOk (cond b (Err refusal) (Ok path)) (λ target. is_place nodes target ≡ true)
@@ -211,20 +160,52 @@ target_place nodes text =
       | Err fault ↦ λ e. tt
     ] refl
 
-edit_keeps : (nodes : List SchemaNode) (rows : List Row) (edit : Edit) → IsDatastore nodes rows → IfOk (edited nodes rows edit) (IsDatastore nodes)
-edit_keeps nodes rows edit datastore =
-    then_ok (λ target. is_place nodes target ≡ true) (IsDatastore nodes) (target_of nodes edit.target) _ (target_place nodes edit.target) (λ target place.
-    then_ok (IsDatastore nodes) (IsDatastore nodes) (performed edit.op nodes target edit.value rows) within_limit (by_keeps edit.op nodes target edit.value rows place datastore)
-    (λ x h. choice_ok (IsDatastore nodes) (nat_lt row_limit (length x)) _ _ tt h))
+module _ (read_whole : ReadsWhole) where
+  value_whole : (nodes : List SchemaNode) (target : List Seg) (value : Option Data) → is_place nodes target ≡ true → IfOk (value_rows nodes target value) (AreWhole nodes target)
+  value_whole nodes target None place = tt
+  value_whole nodes target (Some d) place =
+      elim (rows_read nodes target d) as (λ (r : Result (List Row) DataFault). rows_read nodes target d ≡ r → IfOk (rows_or r) (AreWhole nodes target)) [
+        | Ok rows ↦ λ e. read_whole nodes target d rows place e
+        | Err fault ↦ λ e. tt
+      ] refl
 
--- ---- a patch
+  brought : (nodes : List SchemaNode) (target : List Seg) (value : Option Data) (rows : List Row) → is_place nodes target ≡ true → IfOk (new_rows nodes target value rows) (Brought nodes target rows)
+  brought nodes target value rows place =
+      then_ok (AreWhole nodes target) (Brought nodes target rows) (value_rows nodes target value) _ (value_whole nodes target value place) (λ new whole.
+      elim (stand_above nodes target rows) as (λ b. stand_above nodes target rows ≡ b → IfOk (cond b (Ok new) (refused DataMissing)) (Brought nodes target rows)) [
+        | true ↦ λ e. (whole, supported nodes target rows e)
+        | false ↦ λ e. tt
+      ] refl)
 
-all_keep : (nodes : List SchemaNode) (n : ℕ) (rows : List Row) (edits : List Edit) → IsDatastore nodes rows → IfOk (all_edited nodes n rows edits) (IsDatastore nodes)
-all_keep nodes n rows [] datastore = datastore
-all_keep nodes n rows (edit ∷ edits) datastore =
-    then_ok (IsDatastore nodes) (IsDatastore nodes) (of_edit n (edited nodes rows edit)) _ (numbered_ok (IsDatastore nodes) n (edited nodes rows edit) (edit_keeps nodes rows edit datastore))
-    (λ x h. all_keep nodes (n + 1) x edits h)
+  by_keeps : (op : EditOp) (nodes : List SchemaNode) (target : List Seg) (value : Option Data) (rows : List Row) → is_place nodes target ≡ true → IsDatastore nodes rows → IfOk (performed op nodes target value rows) (IsDatastore nodes)
+  by_keeps Create nodes target value rows place datastore =
+      then_ok (Brought nodes target rows) (IsDatastore nodes) (new_rows nodes target value rows) _ (brought nodes target value rows place)
+      (λ new given. choice_ok (IsDatastore nodes) (has_within target rows) _ _ tt (puts_datastore nodes target rows datastore new given.0 given.1))
+  by_keeps Merge nodes target value rows place datastore =
+      then_ok (Brought nodes target rows) (IsDatastore nodes) (new_rows nodes target value rows) _ (brought nodes target value rows place)
+      (λ new given. puts_datastore nodes target rows datastore new given.0 given.1)
+  by_keeps Replace nodes target value rows place datastore =
+      then_ok (Brought nodes target rows) (IsDatastore nodes) (new_rows nodes target value rows) _ (brought nodes target value rows place)
+      (λ new given. puts_datastore nodes target (rows_without target rows) (without_datastore nodes target rows datastore) new given.0 (supported_without nodes target rows datastore new given.0 given.1))
+  by_keeps Delete nodes target value rows place datastore = choice_ok (IsDatastore nodes) (has_within target rows) _ _ (without_datastore nodes target rows datastore) tt
+  by_keeps Remove nodes target value rows place datastore = without_datastore nodes target rows datastore
+  by_keeps Insert nodes target value rows place datastore = tt
+  by_keeps Move nodes target value rows place datastore = tt
 
--- a patch leaves a datastore a datastore
-pub patch_keeps : (nodes : List SchemaNode) (rows after : List Row) (patch : Patch) → IsDatastore nodes rows → applied nodes rows patch ≡ Ok after → IsDatastore nodes after
-patch_keeps nodes rows after patch datastore is = subst (λ (r : Result (List Row) RefusedEdit). IfOk r (IsDatastore nodes)) is (all_keep nodes 0 rows patch.edits datastore)
+  edit_keeps : (nodes : List SchemaNode) (rows : List Row) (edit : Edit) → IsDatastore nodes rows → IfOk (edited nodes rows edit) (IsDatastore nodes)
+  edit_keeps nodes rows edit datastore =
+      then_ok (λ target. is_place nodes target ≡ true) (IsDatastore nodes) (target_of nodes edit.target) _ (target_place nodes edit.target) (λ target place.
+      then_ok (IsDatastore nodes) (IsDatastore nodes) (performed edit.op nodes target edit.value rows) within_limit (by_keeps edit.op nodes target edit.value rows place datastore)
+      (λ x h. choice_ok (IsDatastore nodes) (nat_lt row_limit (length x)) _ _ tt h))
+
+  -- ---- a patch
+
+  all_keep : (nodes : List SchemaNode) (n : ℕ) (rows : List Row) (edits : List Edit) → IsDatastore nodes rows → IfOk (all_edited nodes n rows edits) (IsDatastore nodes)
+  all_keep nodes n rows [] datastore = datastore
+  all_keep nodes n rows (edit ∷ edits) datastore =
+      then_ok (IsDatastore nodes) (IsDatastore nodes) (of_edit n (edited nodes rows edit)) _ (numbered_ok (IsDatastore nodes) n (edited nodes rows edit) (edit_keeps nodes rows edit datastore))
+      (λ x h. all_keep nodes (n + 1) x edits h)
+
+  -- a patch leaves a datastore a datastore
+  pub patch_keeps : (nodes : List SchemaNode) (rows after : List Row) (patch : Patch) → IsDatastore nodes rows → applied nodes rows patch ≡ Ok after → IsDatastore nodes after
+  patch_keeps nodes rows after patch datastore is = subst (λ (r : Result (List Row) RefusedEdit). IfOk r (IsDatastore nodes)) is (all_keep nodes 0 rows patch.edits datastore)

@@ -1,4 +1,3 @@
-pub mod Alike
 pub mod Applied
 pub mod Bases
 pub mod Committing

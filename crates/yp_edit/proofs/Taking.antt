@@ -1,5 +1,5 @@
 -- Rows in order without one of them.
-use Rattle.std.proofs.Common.{◌≡◌, suc, List, [], ◌∷◌, length, map, refl, sym, ap, subst, ◌∙◌, cond, Bool, true, false, true≢false, not, ◌||◌, Some, None}
+use Rattle.std.proofs.Common.{◌≡◌, suc, List, [], ◌∷◌, length, map, refl, sym, ap, subst, ◌∙◌, cond, true, false, true≢false, not, ◌||◌, Some, None}
 use Rattle.std.specs.Prelude.{is_some}
 use Rattle.std.specs.Ordering.{is_eq}
 use Rattle.std.specs.List.Sorted.{IsStrictlySortedBy}
@@ -9,7 +9,8 @@ use Rattle.yp_base.specs.declared.row.Row.{Row}
 use Rattle.yp_base.specs.Order.{path_cmp, is_within}
 use Rattle.yp_base.specs.Rows.{path_of, value_at, has_within, rows_without, AreInOrder}
 use Rattle.yp_tree.specs.Listed.{without_row}
-use Rattle.yp_edit.proofs.Alike.{IsBefore, are_one, tie_turned, none_there}
+use Rattle.yp_base.specs.PathLaws.{are_one, tie_turned, IsBefore}
+use Rattle.yp_base.specs.RowLaws.{none_past}
 
 before_without : (path other : List Seg) (rows : List Row) → IsBefore path (map path_of rows) → IsBefore path (map path_of (without_row other rows))
 before_without path other [] all = tt
@@ -39,7 +40,7 @@ value_at_without_row q path (row ∷ rows) order =
           elim (is_eq (path_cmp q row.path)) as (λ b. is_eq (path_cmp q row.path) ≡ b → value_at q rows ≡ cond (is_eq (path_cmp q path)) None (cond b (Some row.value) (value_at q rows))) [
             | true ↦ λ k.
                 let at_q : is_eq (path_cmp q path) ≡ true = ap (λ p. is_eq (path_cmp q p)) same ∙ k in
-                rw at_q (none_there q rows (subst (λ (p : List Seg). IsBefore p (map path_of rows)) (sym (are_one q row.path k)) order.0))
+                rw at_q (none_past q rows (subst (λ (p : List Seg). IsBefore p (map path_of rows)) (sym (are_one q row.path k)) order.0))
             | false ↦ λ k.
                 let at_q : is_eq (path_cmp q path) ≡ false = ap (λ p. is_eq (path_cmp q p)) same ∙ k in
                 rw at_q refl

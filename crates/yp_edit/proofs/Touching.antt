@@ -18,7 +18,8 @@ use Rattle.yp_base.specs.Exact.{paths_exact}
 use Rattle.yp_base.specs.RowLaws.{value_at_without, without_keeps_order}
 use Rattle.yp_tree.specs.Listed.{row_of}
 use Rattle.yp_edit.specs.Bases.{Touched, KeepsValues, is_listed, left, untouched, Touches, StaysTouched, TouchesWithin}
-use Rattle.yp_edit.proofs.Alike.{IsBefore, are_one, tie_turned, ties_itself, same_rows}
+use Rattle.yp_base.specs.PathLaws.{are_one, tie_turned, ties_itself, IsBefore}
+use Rattle.yp_tree.specs.Alike.{same_rows}
 use Rattle.yp_edit.proofs.Taking.{one_taken}
 use Rattle.yp_edit.proofs.Walking.{before_picked}
 use Rattle.yp_edit.proofs.Bases.{value_at_picked, value_at_left, left_order, other_there, is_some_copied, still_listed}

@@ -12,7 +12,7 @@ use Rattle.yp_base.specs.Order.{path_cmp, is_within}
 use Rattle.yp_base.specs.OrderLaws.{paths_total}
 use Rattle.yp_base.specs.Rows.{path_of, next_row, AreInOrder}
 use Rattle.std.proofs.lemmas.Bool.{and_parts}
-use Rattle.yp_edit.proofs.Alike.{IsBefore}
+use Rattle.yp_base.specs.PathLaws.{IsBefore}
 use Rattle.yp_base.specs.PathLaws.{less_told}
 
 -- the rows past a path that are at or below a target

@@ -1,8 +1,10 @@
 pub mod Answers
 pub mod Bases
+pub mod ChangeLaws
 pub mod Changes
 pub mod Commits
 pub mod Drafts
+pub mod PatchLaws
 pub mod Patches
 pub mod Records
 pub mod Shapes

@@ -10,6 +10,7 @@ use crate::commit::commit;
 use crate::edit::make;
 use crate::fault::EditFault;
 use crate::halt::{Halt, Refusal};
+use crate::laws::a_patch_keeps_a_datastore;
 use crate::patch::{Edit, Edits, Patch};
 use crate::trial::Trial;
 use std::alloc::Global;
@@ -102,6 +103,7 @@ pub fn apply<L: Ledger>(
     ensures unchanged { OnErr result (tree.new ≡ tree.old) }
     ensures datastore { IsDatastore schema.now tree.old → OnOk result (IsDatastore schema.now tree.new) }
 {
+    a_patch_keeps_a_datastore();
     let _rows = tree.len();
     let changed = changes_of(alloc, schema, tree, patch, steps)?;
     commit(alloc, tree, &changed)?;

@@ -14,6 +14,7 @@ mod draft;
 mod edit;
 pub mod fault;
 mod halt;
+pub mod laws;
 mod members;
 pub mod patch;
 pub mod reading;

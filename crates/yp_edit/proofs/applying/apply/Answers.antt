@@ -2,8 +2,7 @@ use Rattle.std.proofs.Common.{◌∙◌}
 use Rattle.std.proofs.lemmas.Result.{err_from_is_err_and}
 use Rattle.std.specs.Prelude.{Err}
 use Rattle.yp_edit.proofs.Applied.{patch_changes, patch_made}
-use Rattle.yp_edit.proofs.Differing.{none_differ}
-use Rattle.yp_edit.proofs.Keeping.{patch_keeps}
+use Rattle.yp_edit.specs.ChangeLaws.{none_differ}
 use Rattle.yp_edit.proofs.Refusals.{names_one}
 use Rattle.yp_edit.proofs.applying.apply.Goals as goal
 
@@ -25,4 +24,4 @@ returns-in_err-changed-clause-number g c =
     rw (p.1, p.2) (names_one c.args.schema.now c.args.tree.now c.args.patch.now (Err c.in_err-changed.field-0.0) c.in_err-changed.ensures)
 
 pub returns-clause-datastore : goal.returns-clause-datastore
-returns-clause-datastore g c datastore = patch_keeps c.args.schema.now c.args.tree.now c.commit.new.tree c.args.patch.now datastore (patch_made c.args.schema.now c.args.tree.now c.commit.new.tree c.args.patch.now c.in_ok-changed.changed c.len-rows.ensures.order c.in_ok-changed.ensures c.in_ok-commit.ensures.made)
+returns-clause-datastore g c datastore = c.a_patch_keeps_a_datastore.ensures c.args.schema.now c.args.tree.now c.commit.new.tree c.args.patch.now datastore (patch_made c.args.schema.now c.args.tree.now c.commit.new.tree c.args.patch.now c.in_ok-changed.changed c.len-rows.ensures.order c.in_ok-changed.ensures c.in_ok-commit.ensures.made)

@@ -2,8 +2,9 @@ use Rattle.std.proofs.Common.{◌≡◌, ◌<◌, ◌++◌, ◌∷◌, Bool, Lis
 use Rattle.std.specs.List.{AllByRecursion, list_all}
 use Rattle.yp_base.specs.declared.path.Seg.{Seg}
 use Rattle.yp_base.specs.Paths.{last_node}
+use Rattle.yp_schema.specs.SchemaLaws.{last_node_append}
 use Rattle.yp_edit.specs.Patches.{has_its_row, paths_above}
-use Rattle.yp_edit.proofs.Ends.{each_within, last_node-append, with_copy, one_further, one_fails}
+use Rattle.yp_edit.proofs.Ends.{each_within, with_copy, one_further, one_fails}
 use Rattle.yp_edit.proofs.edit.stands_above.Goals as goal
 
 pub loop-segment-init : goal.loop-segment-init
@@ -19,7 +20,7 @@ loop-segment-init g c =
 pub has_its_row-requires-clause-last : goal.has_its_row-requires-clause-last
 has_its_row-requires-clause-last g c =
     ap last_node (with_copy c.loop-segment.above c.in_ok-longer.longer c.in_ok-copy.field-0 c.in-Some.segment.now c.in_ok-longer.ensures c.in_ok-copy.ensures)
-    ∙ last_node-append c.loop-segment.above c.in-Some.segment.now
+    ∙ last_node_append c.loop-segment.above c.in-Some.segment.now
 
 pub returns-then-not-has_its_row : goal.returns-then-not-has_its_row
 returns-then-not-has_its_row g c =
