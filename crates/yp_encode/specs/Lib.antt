@@ -1,3 +1,4 @@
+pub mod FloatLaws
 pub mod Lines
 pub mod Sendable
 pub mod Texts

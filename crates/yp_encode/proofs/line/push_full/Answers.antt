@@ -2,7 +2,7 @@ use Rattle.std.proofs.Common.{ap, ◌∙◌, [], string_bytes}
 use Rattle.serde_json.specs.View.{view}
 use Rattle.serde_json.specs.Written.{has_float}
 use Rattle.yp_data_json.specs.Writing.{rows_json}
-use Rattle.yp_encode.proofs.Floats.{rows_none}
+use Rattle.yp_encode.specs.FloatLaws.{rows_none}
 use Rattle.yp_encode.proofs.Told.{full_told}
 use Rattle.yp_encode.proofs.line.push_full.Goals as goal
 

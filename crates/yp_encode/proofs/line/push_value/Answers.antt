@@ -1,6 +1,6 @@
 use Rattle.std.proofs.Common.{ap, ◌∙◌}
 use Rattle.serde_json.specs.Written.{has_float}
-use Rattle.yp_encode.proofs.Floats.{rows_none}
+use Rattle.yp_encode.specs.FloatLaws.{rows_none}
 use Rattle.yp_encode.proofs.line.push_value.Goals as goal
 
 pub push_json-requires : goal.push_json-requires
