@@ -1,48 +1,33 @@
 -- Commands leave a datastore a datastore.
-use Rattle.std.proofs.Common.{◌≡◌, List, [], ◌∷◌, Bool, true, false, true≢false, refl, sym, subst}
-use Rattle.std.specs.Prelude.{Result, Ok, Err, OnOk, OnErr}
+use Rattle.std.proofs.Common.{◌≡◌, List, [], ◌∷◌, Bool, true, false, Result, Ok, Err, refl}
 use Rattle.yp_base.specs.declared.row.Row.{Row}
-use Rattle.yp_base.specs.RowLaws.{none_order}
 use Rattle.yp_schema.specs.declared.schema.SchemaNode.{SchemaNode}
 use Rattle.yp_schema.specs.Datastore.{IsDatastore}
 use Rattle.yp_nacm.specs.declared.execute.Operation.TheVariants.{Establish}
 use Rattle.yp_edit.specs.Patches.{RefusedEdit, applied}
-use Rattle.yp_edit.proofs.Keeping.{patch_keeps}
+use Rattle.yp_edit.specs.PatchLaws.{PatchesKeepDatastores}
 use Rattle.yp_journal.specs.declared.command.Command.{Command}
 use Rattle.yp_journal.specs.declared.command.Command.TheVariants.{Tick, Edit, Rules, Everything}
 use Rattle.yp_journal.specs.declared.entry.Entry.{Entry}
-use Rattle.yp_journal.specs.declared.receiver.ReceiverInfo.{ReceiverInfo}
-use Rattle.yp_journal.specs.History.{JournalState, first_state, rows_after, may_ask, subscribed, next_state, state_of}
+use Rattle.yp_journal.specs.History.{JournalState, rows_after, may_ask, subscribed, next_state, state_of}
 
--- no rows are a datastore
-pub opening_datastore : (nodes : List SchemaNode) (receivers : List ReceiverInfo) → IsDatastore nodes (first_state receivers).rows
-opening_datastore nodes receivers = record {
-  in_order = none_order;
-  of_schema = tt;
-  entries = λ above rest within entry there. absurd (true≢false (sym there));
-}
+module _ (patch_keeps : PatchesKeepDatastores) where
+  -- a command leaves a datastore a datastore
+  pub command_keeps : (nodes : List SchemaNode) (state : JournalState) (command : Command) → IsDatastore nodes state.rows → IsDatastore nodes (next_state nodes state command).rows
+  command_keeps nodes state (Tick tick) datastore = datastore
+  command_keeps nodes state (Edit patch) datastore =
+      elim (applied nodes state.rows patch) as (λ (r : Result (List Row) RefusedEdit). applied nodes state.rows patch ≡ r → IsDatastore nodes (rows_after state.rows r)) [
+        | Ok after ↦ λ is. patch_keeps nodes state.rows after patch datastore is
+        | Err fault ↦ λ is. datastore
+      ] refl
+  command_keeps nodes state (Rules policy) datastore = datastore
+  command_keeps nodes state (Everything by) datastore =
+      elim (may_ask state by Establish) as (λ (may : Bool). IsDatastore nodes (subscribed may state by).rows) [
+        | true ↦ datastore
+        | false ↦ datastore
+      ]
 
--- a command leaves a datastore a datastore
-pub command_keeps : (nodes : List SchemaNode) (state : JournalState) (command : Command) → IsDatastore nodes state.rows → IsDatastore nodes (next_state nodes state command).rows
-command_keeps nodes state (Tick tick) datastore = datastore
-command_keeps nodes state (Edit patch) datastore =
-    elim (applied nodes state.rows patch) as (λ (r : Result (List Row) RefusedEdit). applied nodes state.rows patch ≡ r → IsDatastore nodes (rows_after state.rows r)) [
-      | Ok after ↦ λ is. patch_keeps nodes state.rows after patch datastore is
-      | Err fault ↦ λ is. datastore
-    ] refl
-command_keeps nodes state (Rules policy) datastore = datastore
-command_keeps nodes state (Everything by) datastore =
-    elim (may_ask state by Establish) as (λ (may : Bool). IsDatastore nodes (subscribed may state by).rows) [
-      | true ↦ datastore
-      | false ↦ datastore
-    ]
-
--- and so do the entries of a journal
-pub entries_keep : (nodes : List SchemaNode) (state : JournalState) (entries : List Entry) → IsDatastore nodes state.rows → IsDatastore nodes (state_of nodes state entries).rows
-entries_keep nodes state [] datastore = datastore
-entries_keep nodes state (entry ∷ entries) datastore = entries_keep nodes (next_state nodes state entry.command) entries (command_keeps nodes state entry.command datastore)
-
--- the same of a command that is taken, or for which memory ran out
-pub command_kept : {X E : Type 0} (taken : Result X E) (nodes : List SchemaNode) (old new : JournalState) (command : Command) → OnOk taken (new ≡ next_state nodes old command) → OnErr taken (new ≡ old) → IsDatastore nodes old.rows → IsDatastore nodes new.rows
-command_kept (Ok x) nodes old new command is same datastore = subst (λ (state : JournalState). IsDatastore nodes state.rows) (sym is) (command_keeps nodes old command datastore)
-command_kept (Err e) nodes old new command is same datastore = subst (λ (state : JournalState). IsDatastore nodes state.rows) (sym same) datastore
+  -- and so do the entries of a journal
+  pub entries_keep : (nodes : List SchemaNode) (state : JournalState) (entries : List Entry) → IsDatastore nodes state.rows → IsDatastore nodes (state_of nodes state entries).rows
+  entries_keep nodes state [] datastore = datastore
+  entries_keep nodes state (entry ∷ entries) datastore = entries_keep nodes (next_state nodes state entry.command) entries (command_keeps nodes state entry.command datastore)

@@ -9,8 +9,10 @@ ghost use Rattle.yp_journal.specs.declared.entry.Entry.{Entry};
 ghost use Rattle.yp_journal.specs.declared.receiver.ReceiverInfo.{ReceiverInfo};
 ghost use Rattle.yp_journal.specs.History.{JournalState, first_state, one_further, next_state, reply_to, is_refusal, state_after, state_of, MayFollow, IsLegal};
 
+use yp_edit::laws::a_patch_keeps_a_datastore;
+
 /// A refused command changes the position alone.
-#[tactic(auto, using(crate::proofs::Journals::refusal_alone))]
+#[tactic(auto, using(crate::specs::JournalLaws::refusal_alone))]
 pub fn a_refusal_moves_the_position_alone()
     ensures refusal_alone { (nodes : List SchemaNode) (state : JournalState) (command : Command)
         → is_refusal (reply_to nodes state command) ≡ true → next_state nodes state command ≡ one_further state }
@@ -18,7 +20,7 @@ pub fn a_refusal_moves_the_position_alone()
 
 /// The state after one command or entry more is what the command leaves of the state before, the position
 /// is one further with each entry, and the receivers stay.
-#[tactic(auto, using(crate::proofs::Journals::state_more, crate::proofs::Journals::entries_more, crate::proofs::Journals::position_of, crate::proofs::Journals::receivers_stay))]
+#[tactic(auto, using(crate::specs::JournalLaws::state_more, crate::specs::JournalLaws::entries_more, crate::specs::JournalLaws::position_of, crate::specs::JournalLaws::receivers_stay))]
 pub fn a_journal_goes_on_entry_by_entry()
     ensures commands { (nodes : List SchemaNode) (state : JournalState) (commands : List Command) (command : Command)
         → state_after nodes state (commands ++ command ∷ []) ≡ next_state nodes (state_after nodes state commands) command }
@@ -31,7 +33,7 @@ pub fn a_journal_goes_on_entry_by_entry()
 {}
 
 /// A policy stays until another one comes, and one that comes leaves the rows and the subscriptions.
-#[tactic(auto, using(crate::proofs::Journals::policy_stays))]
+#[tactic(auto, using(crate::specs::JournalLaws::policy_stays))]
 pub fn a_policy_stays_until_another_comes()
     ensures stays { (nodes : List SchemaNode) (state : JournalState) (command : Command)
         → ((policy : Policy) → command ≢ Rules policy) → (next_state nodes state command).policy ≡ state.policy }
@@ -41,7 +43,7 @@ pub fn a_policy_stays_until_another_comes()
 {}
 
 /// A legal journal stays legal with one entry more that may follow.
-#[tactic(auto, using(crate::proofs::Journals::legal_more))]
+#[tactic(auto, using(crate::specs::JournalLaws::legal_more))]
 pub fn a_legal_journal_goes_on()
     ensures legal_more { (nodes : List SchemaNode) (state : JournalState) (entries : List Entry) (entry : Entry)
         → IsLegal nodes state entries → MayFollow nodes (state_of nodes state entries) entry → IsLegal nodes state (entries ++ entry ∷ []) }
@@ -55,4 +57,6 @@ pub fn a_journal_keeps_a_datastore()
         → IsDatastore nodes state.rows → IsDatastore nodes (next_state nodes state command).rows }
     ensures entries { (nodes : List SchemaNode) (state : JournalState) (entries : List Entry)
         → IsDatastore nodes state.rows → IsDatastore nodes (state_of nodes state entries).rows }
-{}
+{
+    a_patch_keeps_a_datastore();
+}

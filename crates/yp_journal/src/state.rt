@@ -99,6 +99,7 @@ fn apply_with<L: Ledger>(
     ensures changed { IfOk result (λ changed. changed ≡ changed_rows tree.old tree.new) }
     ensures number { NamesOneOf result (length patch.now.edits) }
     ensures unchanged { OnErr result (tree.new ≡ tree.old) }
+    ensures datastore { IsDatastore schema.now tree.old → OnOk result (IsDatastore schema.now tree.new) }
 {
     let mut steps = Steps::<L>::open(blank);
     apply(alloc, schema, tree, patch, &mut steps)
@@ -172,7 +173,7 @@ impl State {
     /// receiver's user may not establish one (RFC 8341 section 3.4.4). After `NoMemory` the state is as it
     /// was; it is returned too where 2147483648 ids were given and a subscription is asked for. Rows that
     /// are a datastore of the schema stay one.
-    #[tactic(auto, using(yp_edit::proofs::Differing::none_differ, crate::proofs::Keeping::command_kept))]
+    #[tactic(auto, using(yp_edit::specs::ChangeLaws::none_differ))]
     pub fn accept(
         &mut self,
         alloc: Global,
@@ -226,7 +227,7 @@ impl State {
     }
 
     /// Edits the datastore.
-    #[tactic(auto, using(yp_edit::proofs::Differing::none_differ))]
+    #[tactic(auto, using(yp_edit::specs::ChangeLaws::none_differ))]
     fn edit(&mut self, alloc: Global, schema: &Schema, patch: &Patch) -> Result<Outcome, NoMemory>
         requires few { length patch.now.edits < 2 ^ 32 }
         requires position { self.old.position < 2 ^ 63 }
@@ -235,6 +236,7 @@ impl State {
         ensures stamp { IfOk result (λ outcome. outcome.stamp ≡ self.new.stamp) }
         ensures changed { IfOk result (λ outcome. outcome.changed ≡ changed_rows self.old.rows self.new.rows) }
         ensures unchanged { OnErr result (self.new ≡ self.old) }
+        ensures datastore { IsDatastore schema.now self.old.rows → IsDatastore schema.now self.new.rows }
     {
         match apply_with::<Brand>(alloc, schema, &mut self.tree, patch, Blank::new(1)) {
             Ok(changed) => Ok(self.advance(Reply::Done, changed)),

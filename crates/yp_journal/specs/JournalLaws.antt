@@ -1,14 +1,17 @@
--- Journals of one more entry.
-use Rattle.std.proofs.Common.{◌≡◌, ◌+◌, List, [], ◌∷◌, ◌++◌, length, Bool, true, false, Result, Ok, Err, ◌≢◌, refl, ◌∙◌, arith}
+-- What follows of journals: of one more entry, of refusals, and of the rows that commands leave.
+use Rattle.std.proofs.Common.{◌≡◌, ◌+◌, List, [], ◌∷◌, ◌++◌, length, Bool, true, false, true≢false, Result, Ok, Err, ◌≢◌, refl, sym, ◌∙◌, arith}
 use Rattle.yp_base.specs.declared.row.Row.{Row}
+use Rattle.yp_base.specs.RowLaws.{none_order}
 use Rattle.yp_schema.specs.declared.schema.SchemaNode.{SchemaNode}
+use Rattle.yp_schema.specs.Datastore.{IsDatastore}
 use Rattle.yp_nacm.specs.declared.execute.Operation.TheVariants.{Establish}
 use Rattle.yp_nacm.specs.declared.policy.Policy.{Policy}
 use Rattle.yp_edit.specs.Patches.{RefusedEdit, applied}
 use Rattle.yp_journal.specs.declared.command.Command.{Command}
 use Rattle.yp_journal.specs.declared.command.Command.TheVariants.{Tick, Edit, Rules, Everything}
 use Rattle.yp_journal.specs.declared.entry.Entry.{Entry}
-use Rattle.yp_journal.specs.History.{JournalState, one_further, rows_after, patch_reply, may_ask, subscribed, subscription_reply, next_state, reply_to, is_refusal, state_after, state_of, MayFollow, IsLegal}
+use Rattle.yp_journal.specs.declared.receiver.ReceiverInfo.{ReceiverInfo}
+use Rattle.yp_journal.specs.History.{JournalState, first_state, one_further, rows_after, patch_reply, may_ask, subscribed, subscription_reply, next_state, reply_to, is_refusal, state_after, state_of, MayFollow, IsLegal}
 
 -- a refused command leaves all but the position
 pub refusal_alone : (nodes : List SchemaNode) (state : JournalState) (command : Command) → is_refusal (reply_to nodes state command) ≡ true → next_state nodes state command ≡ one_further state
@@ -83,3 +86,15 @@ policy_stays nodes state (Everything by) other =
       | true ↦ refl
       | false ↦ refl
     ]
+
+-- no rows are a datastore
+pub opening_datastore : (nodes : List SchemaNode) (receivers : List ReceiverInfo) → IsDatastore nodes (first_state receivers).rows
+opening_datastore nodes receivers = record {
+  in_order = none_order;
+  of_schema = tt;
+  entries = λ above rest within entry there. absurd (true≢false (sym there));
+}
+
+-- the statement of a law: a command leaves a datastore a datastore
+abbrev pub CommandsKeepDatastores : Type 0
+CommandsKeepDatastores = (nodes : List SchemaNode) (state : JournalState) (command : Command) → IsDatastore nodes state.rows → IsDatastore nodes (next_state nodes state command).rows
