@@ -1,21 +1,18 @@
 -- The edits of changed rows, made one after another.
-use Rattle.std.proofs.Common.{◌≡◌, Bool, true, false, not, ◌&&◌, List, [], ◌∷◌, ◌++◌, map, Option, Some, None, refl, sym, ap, subst, ◌∙◌, cond, append-nil}
+use Rattle.std.proofs.Common.{◌≡◌, Bool, true, List, [], ◌∷◌, ◌++◌, map, Option, None, refl, sym, ap, subst, ◌∙◌, append-nil}
 use Rattle.std.specs.List.{AllByRecursion}
 use Rattle.yp_base.specs.declared.path.Seg.{Seg}
 use Rattle.yp_base.specs.declared.row.Row.{Row}
 use Rattle.yp_base.specs.declared.notice.Change.{Change}
 use Rattle.yp_base.specs.Rows.{value_at}
 use Rattle.yp_schema.specs.declared.schema.SchemaNode.{SchemaNode}
-use Rattle.yp_schema.specs.Datastore.{is_path_of, IsRowOf, IsDatastore}
-use Rattle.yp_schema.specs.SchemaLaws.{row_path}
+use Rattle.yp_schema.specs.Datastore.{is_path_of, IsDatastore}
 use Rattle.yp_edit.specs.declared.changed.ChangedRow.{ChangedRow}
 use Rattle.yp_edit.specs.Changes.{changed_rows}
-use Rattle.yp_edit.specs.Drafts.{is_covered}
-use Rattle.yp_encode.specs.Sendable.{IsSendableChange}
 use Rattle.yp_nacm.specs.Decision.{visible_rows}
 use Rattle.yp_edit.specs.Records.{change_record}
 use Rattle.yp_touch.specs.Roots.{row_edit}
-use Rattle.yp_touch.proofs.Edited.{sendable_of}
+use Rattle.yp_touch.specs.RecordLaws.{have_paths}
 use Rattle.yp_touch.proofs.Recorded.{topmost, recorded}
 use Rattle.yp_touch.proofs.Selected.{IsBetween, all_between, changed_paths_keep}
 
@@ -23,10 +20,6 @@ use Rattle.yp_touch.proofs.Selected.{IsBetween, all_between, changed_paths_keep}
 pub record IsChangeTo (nodes : List SchemaNode) (rows : List Row) (row : ChangedRow) : Type 0 where
   pub path : is_path_of nodes row.path ≡ true
   pub value : row.new ≡ value_at row.path rows
-
-have_paths : (nodes : List SchemaNode) (rows : List Row) → AllByRecursion (IsRowOf nodes) rows → AllByRecursion (λ row. is_path_of nodes row.path ≡ true) rows
-have_paths nodes [] all = tt
-have_paths nodes (row ∷ rows) all = (row_path nodes row all.0, have_paths nodes rows all.1)
 
 each_change : (nodes : List SchemaNode) (old new : List Row) (rows : List ChangedRow) → AllByRecursion (λ row. is_path_of nodes row.path ≡ true) rows → AllByRecursion (IsBetween old new) rows → AllByRecursion (IsChangeTo nodes new) rows
 each_change nodes old new [] paths values = tt
@@ -43,38 +36,6 @@ changes_to nodes before rows changed old new are =
 -- the edits that are made of a selection where a root was found before
 abbrev pub edits_from : (List Seg → Bool) → List Row → Option (List Seg) → List ChangedRow → List Change
 edits_from readable selected root rows = map (row_edit selected) (topmost readable root rows)
-
--- ---- each can be sent
-
-all_sendable : (nodes : List SchemaNode) (readable : List Seg → Bool) (rows : List Row) (root : Option (List Seg)) (changed : List ChangedRow) → IsDatastore nodes rows → AllByRecursion (IsChangeTo nodes rows) changed
-    → AllByRecursion (IsSendableChange nodes) (edits_from readable (visible_rows readable rows) root changed)
-all_sendable nodes readable rows root [] datastore all = tt
-all_sendable nodes readable rows root (row ∷ changed) datastore all =
-    elim (readable row.path) as (λ b. readable row.path ≡ b → AllByRecursion (IsSendableChange nodes) (map (row_edit (visible_rows readable rows))
-    (cond (b && not (is_covered root row.path)) (row ∷ topmost readable (Some row.path) changed) (topmost readable root changed)))) [
-      | true ↦ λ may. elim (is_covered root row.path) as (λ k. AllByRecursion (IsSendableChange nodes) (map (row_edit (visible_rows readable rows))
-          (cond (not k) (row ∷ topmost readable (Some row.path) changed) (topmost readable root changed)))) [
-            | true ↦ all_sendable nodes readable rows root changed datastore all.1
-            | false ↦ (sendable_of nodes readable rows row datastore.in_order datastore.of_schema all.0.path may all.0.value, all_sendable nodes readable rows (Some row.path) changed datastore all.1)
-          ]
-      | false ↦ λ may. all_sendable nodes readable rows root changed datastore all.1
-    ] refl
-
--- each edit of the record of a step can be sent
-pub record_sendable : (nodes : List SchemaNode) (readable : List Seg → Bool) (before after : List Row) → IsDatastore nodes before → IsDatastore nodes after → AllByRecursion (IsSendableChange nodes) (change_record (visible_rows readable before) (visible_rows readable after))
-record_sendable nodes readable before after old new =
-    subst (λ (changes : List Change). AllByRecursion (IsSendableChange nodes) changes) (recorded readable before after old.in_order)
-    (all_sendable nodes readable after None (changed_rows before after) new (changes_to nodes before after (changed_rows before after) old new refl))
-
--- where all may be read, all is selected
-all_seen : (rows : List Row) → visible_rows (λ path. true) rows ≡ rows
-all_seen [] = refl
-all_seen (row ∷ rows) = ap (λ (rows : List Row). row ∷ rows) (all_seen rows)
-
-pub datastores_sendable : (nodes : List SchemaNode) (before after : List Row) → IsDatastore nodes before → IsDatastore nodes after → AllByRecursion (IsSendableChange nodes) (change_record before after)
-datastores_sendable nodes before after old new =
-    subst (λ (changes : List Change). AllByRecursion (IsSendableChange nodes) changes) (λ i. change_record (all_seen before i) (all_seen after i))
-    (record_sendable nodes (λ path. true) before after old new)
 
 -- ---- one after another
 

@@ -1,33 +1,20 @@
 -- The edits of the topmost changed rows that may be read are the record of a step.
-use Rattle.std.proofs.Common.{◌≡◌, Bool, true, false, not, ◌&&◌, List, [], ◌∷◌, map, Option, Some, None, refl, sym, ap, subst, ◌∙◌, cond}
+use Rattle.std.proofs.Common.{◌≡◌, Bool, true, false, not, ◌&&◌, List, [], ◌∷◌, map, Option, Some, None, refl, sym, ap, ◌∙◌, cond}
 use Rattle.std.specs.List.{AllByRecursion}
-use Rattle.std.specs.List.Sorted.{IsStrictlySortedBy}
 use Rattle.yp_base.specs.declared.path.Seg.{Seg}
 use Rattle.yp_base.specs.declared.row.Row.{Row}
-use Rattle.yp_base.specs.Order.{path_cmp}
 use Rattle.yp_base.specs.Rows.{AreInOrder, value_at}
 use Rattle.yp_base.specs.RowLaws.{some_keep_order}
 use Rattle.yp_nacm.specs.Decision.{visible_rows}
 use Rattle.yp_edit.specs.declared.changed.ChangedRow.{ChangedRow}
 use Rattle.yp_edit.specs.Changes.{changed_rows}
 use Rattle.yp_edit.specs.Drafts.{is_covered}
-use Rattle.yp_edit.proofs.Alike.{keys}
-use Rattle.yp_edit.proofs.Differing.{changed_entries, changed_sorted}
+use Rattle.yp_edit.specs.ChangeLaws.{paths_in, changed_sorted}
 use Rattle.yp_base.specs.Paths.{topmost as roots_of}
 use Rattle.yp_edit.specs.Records.{change_at, changed_paths, change_record}
 use Rattle.yp_touch.specs.Roots.{row_edit}
 use Rattle.yp_touch.proofs.Selected.{IsBetween, all_between, value_readable, chosen, changed_selected}
 use Rattle.yp_touch.proofs.Topmost.{tops, roots_found}
-
-abbrev paths_in : List ChangedRow → List (List Seg)
-paths_in rows = map (λ row. row.path) rows
-
-keys_in : (rows : List ChangedRow) → keys (changed_entries rows) ≡ paths_in rows
-keys_in [] = refl
-keys_in (row ∷ rows) = ap (λ (paths : List (List Seg)). row.path ∷ paths) (keys_in rows)
-
-paths_sorted : (old new : List Row) → AreInOrder old → IsStrictlySortedBy path_cmp (changed_paths old new)
-paths_sorted old new order = subst (λ (paths : List (List Seg)). IsStrictlySortedBy path_cmp paths) (keys_in (changed_rows old new)) (changed_sorted old new order)
 
 module _ (readable : List Seg → Bool) where
   -- the changed rows that may be read and that no other such row is above, where a root was found before
@@ -72,7 +59,7 @@ module _ (readable : List Seg → Bool) where
       let change = change_at (visible_rows readable old) (visible_rows readable new) in
       let paths : changed_paths (visible_rows readable old) (visible_rows readable new) ≡ paths_in (chosen readable (changed_rows old new)) = ap paths_in (changed_selected readable old new order) in
       let roots : roots_of (changed_paths (visible_rows readable old) (visible_rows readable new)) ≡ paths_in (topmost None (changed_rows old new)) =
-      roots_found (changed_paths (visible_rows readable old) (visible_rows readable new)) (paths_sorted (visible_rows readable old) (visible_rows readable new) (some_keep_order readable old order))
+      roots_found (changed_paths (visible_rows readable old) (visible_rows readable new)) (changed_sorted (visible_rows readable old) (visible_rows readable new) (some_keep_order readable old order))
       ∙ ap (tops None) paths
       ∙ sym (paths_topmost None (changed_rows old new)) in
       sym (edits_of old new None (changed_rows old new) (all_between old new)) ∙ ap (map change) (sym roots)

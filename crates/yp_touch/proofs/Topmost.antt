@@ -9,8 +9,7 @@ use Rattle.yp_base.specs.declared.path.Seg.{Seg}
 use Rattle.yp_base.specs.Order.{segment_cmp, path_cmp, is_within}
 use Rattle.yp_base.specs.OrderLaws.{segments_total, paths_total}
 use Rattle.yp_base.specs.Prefixes.{fronts_together, front_not_after}
-use Rattle.yp_edit.proofs.Alike.{IsBefore}
-use Rattle.yp_base.specs.PathLaws.{within_itself, within_through}
+use Rattle.yp_base.specs.PathLaws.{within_itself, within_through, IsBefore}
 use Rattle.yp_base.specs.Paths.{is_above, topmost as roots_of}
 use Rattle.yp_edit.specs.Drafts.{is_covered}
 

@@ -1,3 +1,4 @@
 pub mod Concealed
 pub mod RecordLaws
+pub mod RootLaws
 pub mod Roots

@@ -3,7 +3,8 @@ use Rattle.std.specs.List.{AllByRecursion}
 use Rattle.std.proofs.lemmas.List.{drop_all}
 use Rattle.yp_base.specs.declared.notice.Change.{Change}
 use Rattle.yp_encode.specs.Sendable.{IsSendableChange}
-use Rattle.yp_touch.proofs.Edits.{changes_to, none_made, all_made, record_sendable}
+use Rattle.yp_touch.specs.RecordLaws.{record_sendable}
+use Rattle.yp_touch.proofs.Edits.{changes_to, none_made, all_made}
 use Rattle.yp_touch.proofs.changes.record_of.Goals as goal
 
 pub loop-row-init : goal.loop-row-init

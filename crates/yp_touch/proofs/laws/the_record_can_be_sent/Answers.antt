@@ -1,4 +1,4 @@
-use Rattle.yp_touch.proofs.Edits.{datastores_sendable, record_sendable}
+use Rattle.yp_touch.specs.RecordLaws.{datastores_sendable, record_sendable}
 use Rattle.yp_touch.proofs.laws.the_record_can_be_sent.Goals as goal
 
 pub returns-clause-datastores : goal.returns-clause-datastores

@@ -1,4 +1,4 @@
-use Rattle.yp_touch.proofs.RecordLaws.{rows_conceal, record_conceals}
+use Rattle.yp_touch.specs.RecordLaws.{rows_conceal, record_conceals}
 use Rattle.yp_touch.proofs.laws.the_record_conceals.Goals as goal
 
 pub returns-clause-rows : goal.returns-clause-rows

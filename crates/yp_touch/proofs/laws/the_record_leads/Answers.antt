@@ -1,4 +1,4 @@
-use Rattle.yp_touch.proofs.RecordLaws.{record_leads, selections_lead, no_record}
+use Rattle.yp_touch.specs.RecordLaws.{record_leads, selections_lead, no_record}
 use Rattle.yp_touch.proofs.laws.the_record_leads.Goals as goal
 
 pub returns-clause-datastores : goal.returns-clause-datastores

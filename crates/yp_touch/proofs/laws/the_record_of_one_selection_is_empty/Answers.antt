@@ -1,4 +1,4 @@
-use Rattle.yp_touch.proofs.RecordLaws.{record_of_one}
+use Rattle.yp_touch.specs.RecordLaws.{record_of_one}
 use Rattle.yp_touch.proofs.laws.the_record_of_one_selection_is_empty.Goals as goal
 
 pub returns : goal.returns

@@ -1,24 +1,18 @@
--- The topmost of some paths: each of the paths is at or below one of them.
+-- What follows of the topmost of some paths: each of the paths is at or below one of them.
 use Rattle.std.proofs.Common.{◌≡◌, ℕ, zero, suc, ◌+◌, ◌<◌, List, [], ◌∷◌, ◌++◌, length, refl, sym, ap, subst, ◌∙◌, cond, Bool, true, false, true≢false, not, ◌||◌, arith, append-nil, length-append}
 use Rattle.std.specs.Prelude.{filter}
 use Rattle.std.specs.List.{list_any, AllByRecursion}
 use Rattle.std.specs.Ordering.{is_eq}
-use Rattle.std.proofs.lemmas.Bool.{and_parts}
-use Rattle.yp_base.specs.PathLaws.{within_through}
+use Rattle.std.proofs.lemmas.Bool.{and_parts, not-true, or_right}
 use Rattle.yp_base.specs.declared.path.Seg.{Seg}
 use Rattle.yp_base.specs.Order.{path_cmp, is_within}
 use Rattle.yp_edit.specs.Bases.{is_listed}
-use Rattle.yp_edit.proofs.Alike.{are_one, ties_itself}
 use Rattle.yp_base.specs.Paths.{is_above, topmost as roots_of}
-use Rattle.yp_base.specs.PathLaws.{within_rest, within_itself}
+use Rattle.yp_base.specs.PathLaws.{are_one, ties_itself, within_itself, within_rest, within_through}
 
 -- whether a path is at or below one of these
 abbrev pub has_root : List Seg → List (List Seg) → Bool
 has_root path roots = list_any (λ root. is_within root path) roots
-
-or_right : (a b : Bool) → b ≡ true → (a || b) ≡ true
-or_right true b h = refl
-or_right false b h = h
 
 -- what is below a covered path is covered
 rooted_on : (above path : List Seg) (roots : List (List Seg)) → is_within above path ≡ true → has_root above roots ≡ true → has_root path roots ≡ true
@@ -60,16 +54,12 @@ longer_by above [] path is apart = absurd (true≢false (sym (subst (λ (p : Lis
 longer_by above (seg ∷ rest) path is apart =
     let long : length path ≡ length above + suc (length rest) = ap (λ (p : List Seg). length p) is ∙ length-append above (seg ∷ rest) in omega (arith, long)
 
-not_true : (b : Bool) → not b ≡ true → b ≡ false
-not_true true h = absurd (true≢false (sym h))
-not_true false h = refl
-
 -- a path that stands above another is shorter
 above_shorter : (above path : List Seg) → is_above above path ≡ true → length above < length path
 above_shorter above path h =
     let parts = and_parts (is_within above path) (not (is_within path above)) h in
     let found = within_rest above path parts.0 in
-    longer_by above found.0 path found.1 (not_true (is_within path above) parts.1)
+    longer_by above found.0 path found.1 (not-true (is_within path above) parts.1)
 
 rooted_within : (n : ℕ) (paths : List (List Seg)) (path : List Seg) → length path < n → is_listed path paths ≡ true → has_root path (roots_of paths) ≡ true
 rooted_within zero paths path short listed = absurd (omega (arith, short))
