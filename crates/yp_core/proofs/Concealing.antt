@@ -10,7 +10,7 @@ use Rattle.yp_journal.specs.declared.entry.Entry.{Entry}
 use Rattle.yp_journal.specs.declared.receiver.ReceiverInfo.{ReceiverInfo}
 use Rattle.yp_journal.specs.declared.subscription.Subscription.{Subscription}
 use Rattle.yp_journal.specs.History.{JournalState, first_state, next_state, state_of, may_read, IsLegal}
-use Rattle.yp_journal.proofs.Journals.{entries_more, position_of}
+use Rattle.yp_journal.specs.JournalLaws.{entries_more, position_of}
 use Rattle.yp_core.specs.Concealed.{NamesReadable, Conceals}
 use Rattle.yp_core.specs.Updates.{Attempt, goes_on, change_update, updates_of, attempts_of, made_by, state_at, want}
 use Rattle.yp_core.proofs.Everywhere.{Holds, each_made, each_mine, each_step}

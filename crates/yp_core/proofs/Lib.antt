@@ -1,4 +1,3 @@
-pub mod Attempts
 pub mod Concealing
 pub mod Everywhere
 pub mod Held

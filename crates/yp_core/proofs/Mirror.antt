@@ -14,13 +14,13 @@ use Rattle.yp_journal.specs.declared.entry.Entry.{Entry}
 use Rattle.yp_journal.specs.declared.receiver.ReceiverInfo.{ReceiverInfo}
 use Rattle.yp_journal.specs.declared.subscription.Subscription.{Subscription}
 use Rattle.yp_journal.specs.History.{JournalState, first_state, next_state, state_of, rules_at}
-use Rattle.yp_journal.proofs.Journals.{position_of}
+use Rattle.yp_journal.specs.JournalLaws.{position_of, CommandsKeepDatastores}
 use Rattle.yp_core.specs.Concealed.{RisesPast, NeverFall}
 use Rattle.yp_core.specs.declared.made.Made.{Made}
 use Rattle.yp_core.specs.Received.{held_of, received, updates, IsFresh, Mirrors}
 use Rattle.yp_core.specs.States.{Fits}
 use Rattle.yp_core.specs.Updates.{of_id, is_given, change_update, updates_of, attempts_at, attempts_from, made_for, made_by, state_at, want}
-use Rattle.yp_core.proofs.Attempts.{made_of, made_joined}
+use Rattle.yp_core.specs.AttemptLaws.{made_of, made_joined}
 use Rattle.yp_core.proofs.Held.{heard_of, received_of, held_received}
 use Rattle.yp_core.proofs.Own.{own, own_update, told, own_at, received_own, own_split}
 use Rattle.yp_core.proofs.Selecting.{SameRules, want_leads, want_stays, want_told}
@@ -125,19 +125,19 @@ new_or_none : (nodes : List SchemaNode) (receiver id : ℕ) (before after : Jour
 new_or_none nodes receiver id before after held None was is next = λ s there mine. let never : None ≡ Some s = sym is ∙ there in cc
 new_or_none nodes receiver id before after held (Some s) was is next = is_new nodes receiver id before after held s (s.receiver == receiver) refl was is next
 
-one_step : (nodes : List SchemaNode) (receiver id : ℕ) (before : JournalState) (command : Command) (held : Option (List Row)) (was : Option Subscription) → of_id id before.subscriptions ≡ was → Fits nodes before → Holds nodes receiver id before held
+one_step : CommandsKeepDatastores → (nodes : List SchemaNode) (receiver id : ℕ) (before : JournalState) (command : Command) (held : Option (List Row)) (was : Option Subscription) → of_id id before.subscriptions ≡ was → Fits nodes before → Holds nodes receiver id before held
     → IsStep nodes receiver id (next_state nodes before command) held (own_update nodes receiver before (next_state nodes before command) (of_id id (next_state nodes before command).subscriptions))
-one_step nodes receiver id before command held None was fits holds = new_or_none nodes receiver id before (next_state nodes before command) held (of_id id (next_state nodes before command).subscriptions) was refl (fits_next nodes before command fits)
-one_step nodes receiver id before command held (Some s) was fits holds =
+one_step keeps nodes receiver id before command held None was fits holds = new_or_none nodes receiver id before (next_state nodes before command) held (of_id id (next_state nodes before command).subscriptions) was refl (fits_next keeps nodes before command fits)
+one_step keeps nodes receiver id before command held (Some s) was fits holds =
     let is : of_id id (next_state nodes before command).subscriptions ≡ Some s = given_stays nodes before command id s was in
     subst (λ (o : Option Subscription). IsStep nodes receiver id (next_state nodes before command) held (own_update nodes receiver before (next_state nodes before command) o)) (sym is)
-    (was_given nodes receiver id before (next_state nodes before command) held s (s.receiver == receiver) refl was is fits (fits_next nodes before command fits) holds)
+    (was_given nodes receiver id before (next_state nodes before command) held s (s.receiver == receiver) refl was is fits (fits_next keeps nodes before command fits) holds)
 
-step_own : (nodes : List SchemaNode) (receiver id : ℕ) (before : JournalState) (command : Command) (held : Option (List Row)) → Fits nodes before → Holds nodes receiver id before held
+step_own : CommandsKeepDatastores → (nodes : List SchemaNode) (receiver id : ℕ) (before : JournalState) (command : Command) (held : Option (List Row)) → Fits nodes before → Holds nodes receiver id before held
     → IsStep nodes receiver id (next_state nodes before command) held (own id (made_for receiver (attempts_at nodes before (next_state nodes before command))))
-step_own nodes receiver id before command held fits holds =
-    subst (λ (made : List Made). IsStep nodes receiver id (next_state nodes before command) held made) (sym (own_at nodes receiver id before (next_state nodes before command) (fits_next nodes before command fits).ids))
-    (one_step nodes receiver id before command held (of_id id before.subscriptions) refl fits holds)
+step_own keeps nodes receiver id before command held fits holds =
+    subst (λ (made : List Made). IsStep nodes receiver id (next_state nodes before command) held made) (sym (own_at nodes receiver id before (next_state nodes before command) (fits_next keeps nodes before command fits).ids))
+    (one_step keeps nodes receiver id before command held (of_id id before.subscriptions) refl fits holds)
 
 -- ---- all steps
 
@@ -184,22 +184,22 @@ mirrored_at nodes receiver id state held entry entries (made ∷ []) (m ∷ befo
     (later (heard_of id made.notice held) before (fresh_holds nodes (next_state nodes state entry.command) receiver id (heard_of id made.notice held) step.1) rest)
 mirrored_at nodes receiver id state held entry entries (made ∷ other ∷ more) before update after step is later = absurd step
 
-mirrored : (nodes : List SchemaNode) (receiver id : ℕ) (state : JournalState) (held : Option (List Row)) (entries : List Entry) (before : List Made) (update : Made) (after : List Made) → Fits nodes state → Holds nodes receiver id state held
+mirrored : CommandsKeepDatastores → (nodes : List SchemaNode) (receiver id : ℕ) (state : JournalState) (held : Option (List Row)) (entries : List Entry) (before : List Made) (update : Made) (after : List Made) → Fits nodes state → Holds nodes receiver id state held
     → own id (made_for receiver (attempts_from nodes state entries)) ≡ before ++ update ∷ after → IsMirrored nodes receiver id state held entries before update
-mirrored nodes receiver id state held [] [] update after fits holds is = absurd cc
-mirrored nodes receiver id state held [] (m ∷ before) update after fits holds is = absurd cc
-mirrored nodes receiver id state held (entry ∷ entries) before update after fits holds is =
-    mirrored_at nodes receiver id state held entry entries (own id (made_for receiver (attempts_at nodes state (next_state nodes state entry.command)))) before update after (step_own nodes receiver id state entry.command held fits holds)
+mirrored keeps nodes receiver id state held [] [] update after fits holds is = absurd cc
+mirrored keeps nodes receiver id state held [] (m ∷ before) update after fits holds is = absurd cc
+mirrored keeps nodes receiver id state held (entry ∷ entries) before update after fits holds is =
+    mirrored_at nodes receiver id state held entry entries (own id (made_for receiver (attempts_at nodes state (next_state nodes state entry.command)))) before update after (step_own keeps nodes receiver id state entry.command held fits holds)
     (sym (own_on nodes receiver id state entry entries) ∙ is)
-    (λ now front holds_now. mirrored nodes receiver id (next_state nodes state entry.command) now entries front update after (fits_next nodes state entry.command fits) holds_now)
+    (λ now front holds_now. mirrored keeps nodes receiver id (next_state nodes state entry.command) now entries front update after (fits_next keeps nodes state entry.command fits) holds_now)
 
 -- before any command nothing is given
 pub none_given : (nodes : List SchemaNode) (receiver id : ℕ) (receivers : List ReceiverInfo) → Holds nodes receiver id (first_state receivers) None
 none_given nodes receiver id receivers s there mine = let never : None ≡ Some s = there in cc
 
-pub mirrors : (nodes : List SchemaNode) (receivers : List ReceiverInfo) (entries : List Entry) (receiver : ℕ) → IsSchema nodes → Mirrors nodes receivers entries receiver (made_by nodes receivers entries receiver)
-mirrors nodes receivers entries receiver schema id before update after is mine =
-    let m = mirrored nodes receiver id (first_state receivers) None entries (own id before) update (own id after) (fits_first nodes receivers schema) (none_given nodes receiver id receivers)
+pub mirrors : CommandsKeepDatastores → (nodes : List SchemaNode) (receivers : List ReceiverInfo) (entries : List Entry) (receiver : ℕ) → IsSchema nodes → Mirrors nodes receivers entries receiver (made_by nodes receivers entries receiver)
+mirrors keeps nodes receivers entries receiver schema id before update after is mine =
+    let m = mirrored keeps nodes receiver id (first_state receivers) None entries (own id before) update (own id after) (fits_first nodes receivers schema) (none_given nodes receiver id receivers)
     (ap (own id) is ∙ own_split id before update after mine) in
     let position : update.position ≡ 0 + m.count = m.position in
     let at : m.count ≡ update.position = omega (arith, position) in
@@ -225,13 +225,13 @@ rise_at nodes receiver id state held entry entries (made ∷ []) step later =
     (past, subst (λ (n : ℕ). RisesPast n (own id (made_for receiver (attempts_from nodes (next_state nodes state entry.command) entries)))) (sym step.0) (later (heard_of id made.notice held) (fresh_holds nodes (next_state nodes state entry.command) receiver id (heard_of id made.notice held) step.1)))
 rise_at nodes receiver id state held entry entries (made ∷ other ∷ more) step later = absurd step
 
-rise : (nodes : List SchemaNode) (receiver id : ℕ) (state : JournalState) (held : Option (List Row)) (entries : List Entry) → Fits nodes state → Holds nodes receiver id state held → RisesPast state.position (own id (made_for receiver (attempts_from nodes state entries)))
-rise nodes receiver id state held [] fits holds = tt
-rise nodes receiver id state held (entry ∷ entries) fits holds =
+rise : CommandsKeepDatastores → (nodes : List SchemaNode) (receiver id : ℕ) (state : JournalState) (held : Option (List Row)) (entries : List Entry) → Fits nodes state → Holds nodes receiver id state held → RisesPast state.position (own id (made_for receiver (attempts_from nodes state entries)))
+rise keeps nodes receiver id state held [] fits holds = tt
+rise keeps nodes receiver id state held (entry ∷ entries) fits holds =
     subst (λ (made : List Made). RisesPast state.position made)
     (sym (own_on nodes receiver id state entry entries))
-    (rise_at nodes receiver id state held entry entries (own id (made_for receiver (attempts_at nodes state (next_state nodes state entry.command)))) (step_own nodes receiver id state entry.command held fits holds)
-    (λ now holds_now. rise nodes receiver id (next_state nodes state entry.command) now entries (fits_next nodes state entry.command fits) holds_now))
+    (rise_at nodes receiver id state held entry entries (own id (made_for receiver (attempts_at nodes state (next_state nodes state entry.command)))) (step_own keeps nodes receiver id state entry.command held fits holds)
+    (λ now holds_now. rise keeps nodes receiver id (next_state nodes state entry.command) now entries (fits_next keeps nodes state entry.command fits) holds_now))
 
-pub never_fall : (nodes : List SchemaNode) (receivers : List ReceiverInfo) (entries : List Entry) (receiver : ℕ) → IsSchema nodes → NeverFall (made_by nodes receivers entries receiver)
-never_fall nodes receivers entries receiver schema id = rise nodes receiver id (first_state receivers) None entries (fits_first nodes receivers schema) (none_given nodes receiver id receivers)
+pub never_fall : CommandsKeepDatastores → (nodes : List SchemaNode) (receivers : List ReceiverInfo) (entries : List Entry) (receiver : ℕ) → IsSchema nodes → NeverFall (made_by nodes receivers entries receiver)
+never_fall keeps nodes receivers entries receiver schema id = rise keeps nodes receiver id (first_state receivers) None entries (fits_first nodes receivers schema) (none_given nodes receiver id receivers)

@@ -15,7 +15,7 @@ use Rattle.yp_core.specs.declared.made.Made.{Made}
 use Rattle.yp_core.specs.Received.{updates}
 use Rattle.yp_core.specs.States.{AreIds}
 use Rattle.yp_core.specs.Updates.{of_id, goes_on, want, change_update, updates_of, attempts_for, attempts_at, made_for}
-use Rattle.yp_core.proofs.Attempts.{made_of, made_joined, made_mine}
+use Rattle.yp_core.specs.AttemptLaws.{made_of, made_joined, made_mine}
 use Rattle.yp_core.proofs.Held.{heard_of, received_of}
 use Rattle.yp_core.proofs.Subscriptions.{none_of_id}
 

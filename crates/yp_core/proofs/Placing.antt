@@ -4,10 +4,10 @@ use Rattle.yp_schema.specs.declared.schema.SchemaNode.{SchemaNode}
 use Rattle.yp_journal.specs.declared.entry.Entry.{Entry}
 use Rattle.yp_journal.specs.declared.receiver.ReceiverInfo.{ReceiverInfo}
 use Rattle.yp_journal.specs.History.{JournalState, first_state, next_state, state_of, MayFollow, IsLegal}
-use Rattle.yp_journal.proofs.Journals.{position_of}
+use Rattle.yp_journal.specs.JournalLaws.{position_of}
 use Rattle.yp_core.specs.declared.made.Made.{Made}
 use Rattle.yp_core.specs.Updates.{attempts_at, attempts_from, made_for, made_by}
-use Rattle.yp_core.proofs.Attempts.{made_joined}
+use Rattle.yp_core.specs.AttemptLaws.{made_joined}
 
 -- it may follow those before it
 pub legal_at : (nodes : List SchemaNode) (state : JournalState) (before : List Entry) (entry : Entry) (after : List Entry) → IsLegal nodes state (before ++ entry ∷ after) → MayFollow nodes (state_of nodes state before) entry

@@ -12,13 +12,13 @@ use Rattle.yp_journal.specs.declared.entry.Entry.{Entry}
 use Rattle.yp_journal.specs.declared.receiver.ReceiverInfo.{ReceiverInfo}
 use Rattle.yp_journal.specs.declared.subscription.Subscription.{Subscription}
 use Rattle.yp_journal.specs.History.{JournalState, first_state, next_state, state_of, rules_at, MayFollow, IsLegal}
-use Rattle.yp_journal.proofs.Journals.{entries_more, position_of}
+use Rattle.yp_journal.specs.JournalLaws.{entries_more, position_of, CommandsKeepDatastores}
 use Rattle.yp_core.specs.declared.made.Made.{Made}
 use Rattle.yp_core.specs.Renewed.{Renews, StaysSilent}
 use Rattle.yp_core.specs.States.{Fits}
 use Rattle.yp_core.specs.Steps.{full_attempt, is_renewed}
 use Rattle.yp_core.specs.Updates.{Attempt, of_id, is_given, goes_on, want, updates_of, attempts_for, attempts_at, attempts_of, made_for, made_by, state_at}
-use Rattle.yp_core.proofs.Attempts.{made_of, made_joined, made_mine}
+use Rattle.yp_core.specs.AttemptLaws.{made_of, made_joined, made_mine}
 use Rattle.yp_core.proofs.Concealing.{IsPart, part_first, part_next, front_taken, front_state}
 use Rattle.yp_core.proofs.Everywhere.{Holds, each_made, each_mine, each_step}
 use Rattle.yp_core.proofs.Own.{told}
@@ -143,9 +143,9 @@ module _ (nodes : List SchemaNode) (receiver n : ℕ) where
   others_placed : (before after : JournalState) → (after.position ≡ n + 1 → ⊥) → AllByRecursion IsElsewhere (attempts_at nodes before after)
   others_placed before after not_here = each_step IsElsewhere nodes before after (λ s. every (Holds IsElsewhere after s) (λ notice mine place. not_here place) (updates_of nodes before after s)) after.subscriptions
 
-pub stays_silent : (nodes : List SchemaNode) (receivers : List ReceiverInfo) (entries : List Entry) (receiver : ℕ) → IsSchema nodes → IsLegal nodes (first_state receivers) entries
+pub stays_silent : CommandsKeepDatastores → (nodes : List SchemaNode) (receivers : List ReceiverInfo) (entries : List Entry) (receiver : ℕ) → IsSchema nodes → IsLegal nodes (first_state receivers) entries
     → StaysSilent nodes receivers entries receiver (made_by nodes receivers entries receiver)
-stays_silent nodes receivers entries receiver schema legal before entry after policy is comes keeps =
+stays_silent commands_keep nodes receivers entries receiver schema legal before entry after policy is comes keeps =
     each_mine (IsElsewhere nodes receiver (length before)) (λ made. made.position ≡ length before + 1 → ⊥) receiver (λ a mine elsewhere. elsewhere mine) (attempts_of nodes receivers entries)
     (each_made (IsElsewhere nodes receiver (length before)) nodes (IsPart nodes receivers entries) (λ state one left may part. part_next nodes receivers entries state one left part)
     (λ state one left part then. at state one left part (length part.front == length before) refl) (first_state receivers) entries (part_first nodes receivers entries) legal)
@@ -160,7 +160,7 @@ stays_silent nodes receivers entries receiver schema legal before entry after po
         let then : state_at nodes receivers entries (length before + 1) ≡ next =
         ap (λ m. state_at nodes receivers entries (m + 1)) (sym same) ∙ after_entry nodes receivers entries part.front one left part.split ∙ (λ i. next_state nodes (sym part.leaves i) (command i)) in
         let rules : are_same_rules (rules_at state receiver) (rules_at next receiver) ≡ true = (λ i. are_same_rules (rules_at (sym was i) receiver) (rules_at (sym then i) receiver)) ∙ keeps in
-        let fits : Fits nodes state = subst (λ (at : JournalState). Fits nodes at) (sym part.leaves) (fits_all nodes (first_state receivers) part.front (fits_first nodes receivers schema)) in
+        let fits : Fits nodes state = subst (λ (at : JournalState). Fits nodes at) (sym part.leaves) (fits_all commands_keep nodes (first_state receivers) part.front (fits_first nodes receivers schema)) in
         subst (λ (attempts : List Attempt). AllByRecursion (IsElsewhere nodes receiver (length before)) attempts)
         (sym (ap (λ (c : Command). attempts_at nodes state (next_state nodes state c)) command ∙ policy_makes nodes state policy fits))
         (none_renewed nodes receiver (length before) state next rules next.subscriptions)

@@ -11,14 +11,13 @@ use Rattle.yp_nacm.specs.AccessLaws.{readable_above}
 use Rattle.yp_nacm.specs.Decision.{IsClosed, is_readable, visible_rows}
 use Rattle.yp_nacm.specs.Same.{are_same_rules}
 use Rattle.yp_nacm.specs.declared.compile.UserRules.{UserRules}
-use Rattle.yp_nacm.proofs.Same.{same_are_one}
+use Rattle.yp_nacm.specs.SameLaws.{same_are_one}
 use Rattle.yp_edit.specs.Records.{change_record}
 use Rattle.yp_encode.specs.Sendable.{IsSendableChange}
 use Rattle.yp_select.specs.Concealed.{AllReadable}
 use Rattle.yp_select.specs.SelectionLaws.{selected_readable, selection_in_order, selection_writable}
 use Rattle.yp_touch.specs.Concealed.{IsReadableChange}
-use Rattle.yp_touch.proofs.Edits.{record_sendable}
-use Rattle.yp_touch.proofs.RecordLaws.{selections_lead, record_conceals}
+use Rattle.yp_touch.specs.RecordLaws.{selections_lead, record_conceals, record_sendable}
 use Rattle.yp_journal.specs.declared.subscription.Subscription.{Subscription}
 use Rattle.yp_journal.specs.History.{JournalState, rules_at, may_read}
 use Rattle.yp_core.specs.States.{Fits}

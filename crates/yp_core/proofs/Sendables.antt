@@ -13,13 +13,12 @@ use Rattle.yp_base.specs.declared.path.Seg.{Seg}
 use Rattle.yp_base.specs.declared.row.Row.{Row}
 use Rattle.yp_base.specs.Order.{is_within}
 use Rattle.yp_base.specs.Rows.{AreInOrder, changed_by, put_rows, rows_without}
-use Rattle.yp_base.specs.RowLaws.{none_order, puts_order, put_to_none, without_keeps_order}
+use Rattle.yp_base.specs.RowLaws.{all_puts, none_order, puts_order, put_to_none, without_keeps_order}
 use Rattle.yp_schema.specs.declared.schema.SchemaNode.{SchemaNode}
 use Rattle.yp_schema.specs.Datastore.{IsRowOf}
 use Rattle.yp_schema.specs.WellFormed.{IsSchema}
 use Rattle.yp_nacm.specs.declared.execute.Operation.TheVariants.{Establish}
 use Rattle.yp_edit.specs.Records.{change_record}
-use Rattle.yp_edit.proofs.Keeping.{all_puts}
 use Rattle.yp_encode.specs.Lines.{carries_value}
 use Rattle.yp_encode.specs.Sendable.{HasRows, IsSendable, IsSendableChange}
 use Rattle.yp_select.specs.SelectionLaws.{all_selected, top_writable}
@@ -30,6 +29,7 @@ use Rattle.yp_journal.specs.declared.entry.Entry.{Entry}
 use Rattle.yp_journal.specs.declared.receiver.ReceiverInfo.{ReceiverInfo}
 use Rattle.yp_journal.specs.declared.subscription.Subscription.{Subscription}
 use Rattle.yp_journal.specs.History.{JournalState, first_state, next_state, may_ask, subscribed, MayCome, IsLegal}
+use Rattle.yp_journal.specs.JournalLaws.{CommandsKeepDatastores}
 use Rattle.yp_core.specs.declared.made.Made.{Made}
 use Rattle.yp_core.specs.Received.{held_of, heard, received}
 use Rattle.yp_core.specs.Sending.{CanBeSent, AllCanBeSent, CanBeShown}
@@ -60,8 +60,8 @@ steps_sent : (nodes : List SchemaNode) (before after : JournalState) → Fits no
 steps_sent nodes before after was now tick = each_step (Sends nodes) nodes before after (λ s. updates_sent nodes before after s (goes_on before after s) refl was now tick) after.subscriptions
 
 -- each notice that a step makes can be sent
-pub step_sendable : (nodes : List SchemaNode) (before : JournalState) (command : Command) → Fits nodes before → (next_state nodes before command).stamp ≤ tick_limit → AllCanBeSent nodes (attempts_at nodes before (next_state nodes before command))
-step_sendable nodes before command fits tick = steps_sent nodes before (next_state nodes before command) fits (fits_next nodes before command fits) tick
+pub step_sendable : CommandsKeepDatastores → (nodes : List SchemaNode) (before : JournalState) (command : Command) → Fits nodes before → (next_state nodes before command).stamp ≤ tick_limit → AllCanBeSent nodes (attempts_at nodes before (next_state nodes before command))
+step_sendable keeps nodes before command fits tick = steps_sent nodes before (next_state nodes before command) fits (fits_next keeps nodes before command fits) tick
 
 -- a state that a legal journal leaves
 record Leaves (nodes : List SchemaNode) (state : JournalState) (left : List Entry) : Type 0 where
@@ -79,11 +79,11 @@ next_tick nodes receivers state (Everything by) may less =
     ]
 
 -- each notice that a legal journal makes can be sent
-pub made_sendable : (nodes : List SchemaNode) (receivers : List ReceiverInfo) (entries : List Entry) (receiver : ℕ) → IsSchema nodes → IsLegal nodes (first_state receivers) entries → AllByRecursion (CanBeSent nodes) (made_by nodes receivers entries receiver)
-made_sendable nodes receivers entries receiver schema legal =
+pub made_sendable : CommandsKeepDatastores → (nodes : List SchemaNode) (receivers : List ReceiverInfo) (entries : List Entry) (receiver : ℕ) → IsSchema nodes → IsLegal nodes (first_state receivers) entries → AllByRecursion (CanBeSent nodes) (made_by nodes receivers entries receiver)
+made_sendable keeps nodes receivers entries receiver schema legal =
     each_mine (Sends nodes) (CanBeSent nodes) receiver (λ a same can. can) (attempts_of nodes receivers entries)
     (each_made (Sends nodes) nodes (Leaves nodes)
-    (λ state entry left may such. record { fits = fits_next nodes state entry.command such.fits; tick = next_tick nodes state.receivers state entry.command may.command such.tick })
+    (λ state entry left may such. record { fits = fits_next keeps nodes state entry.command such.fits; tick = next_tick nodes state.receivers state entry.command may.command such.tick })
     (λ state entry left was is. steps_sent nodes state (next_state nodes state entry.command) was.fits is.fits is.tick)
     (first_state receivers) entries (record { fits = fits_first nodes receivers schema; tick = omega arith }) legal)
 
@@ -150,7 +150,7 @@ all_writable nodes [] all = tt
 all_writable nodes (e ∷ held) all = (top_writable nodes e.1 all.0.order all.0.of_schema, all_writable nodes held all.1)
 
 -- what is held of that can be written
-pub held_writable : (nodes : List SchemaNode) (receivers : List ReceiverInfo) (entries : List Entry) (receiver : ℕ) → IsSchema nodes → IsLegal nodes (first_state receivers) entries → CanBeShown nodes (received [] (made_by nodes receivers entries receiver))
-held_writable nodes receivers entries receiver schema legal =
+pub held_writable : CommandsKeepDatastores → (nodes : List SchemaNode) (receivers : List ReceiverInfo) (entries : List Entry) (receiver : ℕ) → IsSchema nodes → IsLegal nodes (first_state receivers) entries → CanBeShown nodes (received [] (made_by nodes receivers entries receiver))
+held_writable keeps nodes receivers entries receiver schema legal =
     let made = made_by nodes receivers entries receiver in
-    all_writable nodes (received [] made) (received_rows nodes [] made (made_sendable nodes receivers entries receiver schema legal) tt)
+    all_writable nodes (received [] made) (received_rows nodes [] made (made_sendable keeps nodes receivers entries receiver schema legal) tt)

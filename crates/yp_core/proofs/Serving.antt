@@ -10,6 +10,7 @@ use Rattle.yp_journal.specs.declared.receiver.ReceiverInfo.{ReceiverInfo}
 use Rattle.yp_journal.specs.declared.reply.Reply.TheVariants.{Id}
 use Rattle.yp_journal.specs.declared.subscription.Subscription.{Subscription}
 use Rattle.yp_journal.specs.History.{JournalState, first_state, next_state, state_of, reply_to, MayFollow, IsLegal}
+use Rattle.yp_journal.specs.JournalLaws.{CommandsKeepDatastores}
 use Rattle.yp_core.specs.declared.made.Made.{Made}
 use Rattle.yp_core.specs.Received.{Opens}
 use Rattle.yp_core.specs.Served.{Serves}
@@ -44,15 +45,15 @@ full_made nodes receiver id state entry fits command may gives =
     ∙ (λ i. let then = next_state nodes state (sym command i) in record { position = then.position; stamp = then.stamp; notice = Full id (want nodes then new) } ∷ [])
     ∙ (λ i. record { position = (next_state nodes state entry.command).position; stamp = sym may.stamp i; notice = Full id (want nodes (next_state nodes state entry.command) new) } ∷ [])
 
-opens : (nodes : List SchemaNode) (receivers : List ReceiverInfo) (entries : List Entry) (receiver : ℕ) → IsSchema nodes → IsLegal nodes (first_state receivers) entries → Opens entries receiver (made_by nodes receivers entries receiver)
-opens nodes receivers entries receiver schema legal before entry after id is command gives =
+opens : CommandsKeepDatastores → (nodes : List SchemaNode) (receivers : List ReceiverInfo) (entries : List Entry) (receiver : ℕ) → IsSchema nodes → IsLegal nodes (first_state receivers) entries → Opens entries receiver (made_by nodes receivers entries receiver)
+opens keeps nodes receivers entries receiver schema legal before entry after id is command gives =
     let first = first_state receivers in
     let state = state_of nodes first before in
     let next = next_state nodes state entry.command in
     let rows = want nodes next (record { id = id; receiver = receiver }) in
     let may : MayFollow nodes state entry = legal_at nodes first before entry after (subst (λ (es : List Entry). IsLegal nodes first es) is legal) in
     let made : made_for receiver (attempts_at nodes state next) ≡ record { position = length before + 1; stamp = entry.stamp; notice = Full id rows } ∷ [] =
-    full_made nodes receiver id state entry (fits_all nodes first before (fits_first nodes receivers schema)) command may gives
+    full_made nodes receiver id state entry (fits_all keeps nodes first before (fits_first nodes receivers schema)) command may gives
     ∙ (λ i. record { position = next_place nodes receivers before entry i; stamp = entry.stamp; notice = Full id rows } ∷ []) in
     let found : IsAmong (record { position = length before + 1; stamp = entry.stamp; notice = Full id rows }) (made_by nodes receivers (before ++ entry ∷ after) receiver) =
     made_among nodes receivers before entry after receiver (record { position = length before + 1; stamp = entry.stamp; notice = Full id rows }) ([], [], made) in
@@ -60,13 +61,13 @@ opens nodes receivers entries receiver schema legal before entry after id is com
 
 -- ---- a legal journal serves each receiver
 
-pub serves : (nodes : List SchemaNode) (receivers : List ReceiverInfo) (entries : List Entry) (receiver : ℕ) → IsSchema nodes → IsLegal nodes (first_state receivers) entries → Serves nodes receivers entries receiver (made_by nodes receivers entries receiver)
-serves nodes receivers entries receiver schema legal = record {
+pub serves : CommandsKeepDatastores → (nodes : List SchemaNode) (receivers : List ReceiverInfo) (entries : List Entry) (receiver : ℕ) → IsSchema nodes → IsLegal nodes (first_state receivers) entries → Serves nodes receivers entries receiver (made_by nodes receivers entries receiver)
+serves keeps nodes receivers entries receiver schema legal = record {
   whole = refl;
-  opens = opens nodes receivers entries receiver schema legal;
+  opens = opens keeps nodes receivers entries receiver schema legal;
   renews = renews nodes receivers entries receiver schema legal;
-  silent = stays_silent nodes receivers entries receiver schema legal;
-  mirrors = mirrors nodes receivers entries receiver schema;
-  never_fall = never_fall nodes receivers entries receiver schema;
+  silent = stays_silent keeps nodes receivers entries receiver schema legal;
+  mirrors = mirrors keeps nodes receivers entries receiver schema;
+  never_fall = never_fall keeps nodes receivers entries receiver schema;
   conceals = conceals nodes receivers entries receiver legal;
 }

@@ -8,16 +8,16 @@ use Rattle.yp_schema.specs.declared.schema.SchemaNode.{SchemaNode}
 use Rattle.yp_nacm.specs.declared.execute.Operation.TheVariants.{Establish}
 use Rattle.yp_nacm.specs.declared.policy.Policy.{Policy}
 use Rattle.yp_nacm.specs.Same.{are_same_rules}
-use Rattle.yp_nacm.proofs.Same.{same_itself}
+use Rattle.yp_nacm.specs.SameLaws.{same_itself}
 use Rattle.yp_edit.specs.Records.{change_record}
 use Rattle.yp_edit.specs.declared.patch.Patch.{Patch}
-use Rattle.yp_touch.proofs.RecordLaws.{record_of_one}
+use Rattle.yp_touch.specs.RecordLaws.{record_of_one}
 use Rattle.yp_journal.specs.declared.command.Command.{Command}
 use Rattle.yp_journal.specs.declared.command.Command.TheVariants.{Tick, Edit, Rules, Everything}
 use Rattle.yp_journal.specs.declared.reply.Reply.TheVariants.{Id}
 use Rattle.yp_journal.specs.declared.subscription.Subscription.{Subscription}
 use Rattle.yp_journal.specs.History.{JournalState, next_id, next_state, reply_to, is_refusal, one_further, rules_at, may_ask, subscribed, subscription_reply, with_policy, with_subscription, with_tick}
-use Rattle.yp_journal.proofs.Journals.{refusal_alone}
+use Rattle.yp_journal.specs.JournalLaws.{refusal_alone}
 use Rattle.yp_core.specs.States.{AreIds, Fits}
 use Rattle.yp_core.specs.Steps.{changes_for, attempts_of_changes, full_attempt, is_renewed, attempts_of_renewal}
 use Rattle.yp_core.specs.Updates.{of_id, is_given, change_update, want, Attempt, attempt_of, attempts_for, attempts_at}

@@ -9,8 +9,7 @@ use Rattle.yp_journal.specs.declared.entry.Entry.{Entry}
 use Rattle.yp_journal.specs.declared.receiver.ReceiverInfo.{ReceiverInfo}
 use Rattle.yp_journal.specs.declared.subscription.Subscription.{Subscription}
 use Rattle.yp_journal.specs.History.{JournalState, first_state, next_id, may_ask, subscribed, next_state, state_of, MayCome, IsLegal}
-use Rattle.yp_journal.proofs.Journals.{receivers_stay}
-use Rattle.yp_journal.proofs.Keeping.{opening_datastore, command_keeps}
+use Rattle.yp_journal.specs.JournalLaws.{receivers_stay, opening_datastore, CommandsKeepDatastores}
 use Rattle.yp_core.specs.States.{AreIds, Fits, HaveOwners}
 use Rattle.yp_core.specs.Updates.{of_id, is_given}
 
@@ -56,12 +55,12 @@ ids_kept nodes state (Everything by) given ids =
 pub fits_first : (nodes : List SchemaNode) (receivers : List ReceiverInfo) → IsSchema nodes → Fits nodes (first_state receivers)
 fits_first nodes receivers schema = record { schema = schema; datastore = opening_datastore nodes receivers; given = refl; ids = tt }
 
-pub fits_next : (nodes : List SchemaNode) (state : JournalState) (command : Command) → Fits nodes state → Fits nodes (next_state nodes state command)
-fits_next nodes state command fits = record { schema = fits.schema; datastore = command_keeps nodes state command fits.datastore; given = given_kept nodes state command fits.given; ids = ids_kept nodes state command fits.given fits.ids }
+pub fits_next : CommandsKeepDatastores → (nodes : List SchemaNode) (state : JournalState) (command : Command) → Fits nodes state → Fits nodes (next_state nodes state command)
+fits_next keeps nodes state command fits = record { schema = fits.schema; datastore = keeps nodes state command fits.datastore; given = given_kept nodes state command fits.given; ids = ids_kept nodes state command fits.given fits.ids }
 
-pub fits_all : (nodes : List SchemaNode) (state : JournalState) (entries : List Entry) → Fits nodes state → Fits nodes (state_of nodes state entries)
-fits_all nodes state [] fits = fits
-fits_all nodes state (entry ∷ entries) fits = fits_all nodes (next_state nodes state entry.command) entries (fits_next nodes state entry.command fits)
+pub fits_all : CommandsKeepDatastores → (nodes : List SchemaNode) (state : JournalState) (entries : List Entry) → Fits nodes state → Fits nodes (state_of nodes state entries)
+fits_all keeps nodes state [] fits = fits
+fits_all keeps nodes state (entry ∷ entries) fits = fits_all keeps nodes (next_state nodes state entry.command) entries (fits_next keeps nodes state entry.command fits)
 
 -- ---- of an id
 

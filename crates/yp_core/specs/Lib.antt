@@ -1,3 +1,4 @@
+pub mod AttemptLaws
 pub mod Concealed
 pub mod Received
 pub mod Renewed

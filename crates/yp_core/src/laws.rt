@@ -19,17 +19,20 @@ ghost use Rattle.yp_core.specs.States.{Fits, HaveOwners};
 ghost use Rattle.yp_core.specs.Steps.{attempts_of_changes, attempts_of_renewal, full_attempt};
 ghost use Rattle.yp_core.specs.Updates.{Attempt, attempts_at, made_by, made_for};
 
+use yp_journal::laws::a_journal_keeps_a_datastore;
+
 /// What a legal journal makes for a receiver is what the receiver is promised.
-#[tactic(auto, using(crate::proofs::Serving::serves))]
 pub fn what_a_journal_makes_serves()
     ensures { (nodes : List SchemaNode) (receivers : List ReceiverInfo) (entries : List Entry) (receiver : ℕ)
         → IsSchema nodes → IsLegal nodes (first_state receivers) entries
         → Serves nodes receivers entries receiver (made_by nodes receivers entries receiver) }
-{}
+{
+    a_journal_keeps_a_datastore();
+}
 
 /// One entry more makes what its step makes, after all that was made before; no entries make nothing. Of
 /// attempts and others after them a receiver gets its own of the first ones, and then its own of the others.
-#[tactic(auto, using(crate::proofs::Attempts::made_on, crate::proofs::Attempts::made_joined))]
+#[tactic(auto, using(crate::specs::AttemptLaws::made_on, crate::specs::AttemptLaws::made_joined))]
 pub fn what_a_journal_makes_goes_on()
     ensures none { (nodes : List SchemaNode) (receivers : List ReceiverInfo) (receiver : ℕ) → made_by nodes receivers [] receiver ≡ [] }
     ensures more { (nodes : List SchemaNode) (receivers : List ReceiverInfo) (entries : List Entry) (entry : Entry) (receiver : ℕ)
@@ -75,11 +78,12 @@ pub fn a_journal_keeps_its_state()
         → HaveOwners (length receivers) (next_state nodes state command).subscriptions }
     ensures owners { (nodes : List SchemaNode) (receivers : List ReceiverInfo) (entries : List Entry) → IsLegal nodes (first_state receivers) entries
         → HaveOwners (length receivers) (state_of nodes (first_state receivers) entries).subscriptions }
-{}
+{
+    a_journal_keeps_a_datastore();
+}
 
 /// All that a step and a legal journal make can be sent, and what a receiver holds of that can be
 /// written.
-#[tactic(auto, using(crate::proofs::Sendables::step_sendable, crate::proofs::Sendables::made_sendable, crate::proofs::Sendables::held_writable))]
 pub fn what_a_journal_makes_can_be_sent()
     ensures step { (nodes : List SchemaNode) (before : JournalState) (command : Command) → Fits nodes before
         → (next_state nodes before command).stamp ≤ tick_limit
@@ -90,4 +94,6 @@ pub fn what_a_journal_makes_can_be_sent()
     ensures held { (nodes : List SchemaNode) (receivers : List ReceiverInfo) (entries : List Entry) (receiver : ℕ)
         → IsSchema nodes → IsLegal nodes (first_state receivers) entries
         → CanBeShown nodes (received [] (made_by nodes receivers entries receiver)) }
-{}
+{
+    a_journal_keeps_a_datastore();
+}
