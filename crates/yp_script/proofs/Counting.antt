@@ -23,7 +23,7 @@ use Rattle.yp_script.specs.Readings.{Gives}
 use Rattle.yp_script.specs.Script.{Progress, no_progress, with_start, with_part, with_receiver, counting, put_at, with_command, with_lanes, with_laned, schema_said, taken, at_stage, form_taken, line_taken, at_line, complete_start, script_at, script_from, script_of, count_commands}
 use Rattle.yp_script.specs.Values.{start_said, receiver_said, command_said, lanes_said, laned_said}
 use Rattle.yp_script.specs.Words.{is_yes}
-use Rattle.yp_script.proofs.SaidLaws.{map_is, map_any, then_is, if_is, line_is}
+use Rattle.yp_script.specs.SaidLaws.{map_is, map_any, then_is, if_is, line_is}
 
 -- ---- a line has one command at most
 

@@ -43,7 +43,7 @@ use Rattle.yp_script.specs.Script.{Progress, no_progress, with_start, with_part,
 use Rattle.yp_script.specs.Values.{is_receiver_name, is_user_name, is_new_name, names_of, receiver_number, has_receiver_form, name_said, user_said, queue_said, places_said, receiver_of, receiver_said, patch_said, sound, policy_said, is_of_everything, everything_said, subscription_limit, command_said, lanes_said, laned_said, start_said}
 use Rattle.yp_script.specs.Words.{text_at, where_true, whole_said, is_yes}
 use Rattle.yp_script.proofs.Positions.{position_within, none_there}
-use Rattle.yp_script.proofs.SaidLaws.{map_is, map_any, then_is, if_is, or_is, together_is, holding_is, where_is, itself_is, then_some, line_is, whole_is}
+use Rattle.yp_script.specs.SaidLaws.{map_is, map_any, then_is, if_is, or_is, together_is, holding_is, where_is, itself_is, then_some, line_is, whole_is}
 
 -- ---- receivers' names
 

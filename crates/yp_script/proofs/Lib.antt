@@ -1,7 +1,6 @@
 pub mod CommandLaws
 pub mod Counting
 pub mod Keeping
-pub mod Limits
 pub mod LineLaws
 pub mod ListLaws
 pub mod MemberLaws
@@ -9,5 +8,4 @@ pub mod NameLaws
 pub mod OrderLaws
 pub mod PartLaws
 pub mod Positions
-pub mod SaidLaws
 pub mod StepLaws

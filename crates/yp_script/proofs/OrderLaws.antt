@@ -19,7 +19,7 @@ use Rattle.yp_script.specs.Lines.{Line, pieces_of, lines_from}
 use Rattle.yp_script.specs.Order.{next_stage, LanesPart, lanes_part, InOrder}
 use Rattle.yp_script.specs.Readings.{Gives}
 use Rattle.yp_script.specs.Script.{Progress, no_progress, taken, at_stage, form_taken, line_taken, at_line, complete_start, script_at, script_from, script_of, form_at, AreInOrder}
-use Rattle.yp_script.proofs.SaidLaws.{then_is, line_is}
+use Rattle.yp_script.specs.SaidLaws.{then_is, line_is}
 
 -- ---- what may stand after a stage
 

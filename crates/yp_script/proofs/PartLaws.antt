@@ -5,7 +5,7 @@ use Rattle.std.proofs.lemmas.Option.{slice_get_read, get_or_from_slice_get}
 use Rattle.std.proofs.Math.Seq.{get_or-append_seam}
 use Rattle.serde_json.specs.Data.{Data, Items, no_items, item}
 use Rattle.serde_json.specs.Find.{as_array}
-use Rattle.yp_base.specs.Results.{◌>>=◌}
+use Rattle.yp_base.specs.Results.{◌>>=◌, bind_same}
 use Rattle.yp_schema.specs.declared.schema.SchemaNode.{SchemaNode}
 use Rattle.yp_schema.specs.declared.fault.SchemaKind.{SchemaKind}
 use Rattle.yp_schema.specs.Rounds.{Nodes, Fault, added, checked, at_place, first_round, second_round, part_in, parts_in}
@@ -75,11 +75,7 @@ pub bound_twice : {A B C E : Type 0} (r : Result A E) (f : A → Result B E) (g 
 bound_twice (Ok x) f g = refl
 bound_twice (Err e) f g = refl
 
-pub bound_alike : {A B E : Type 0} (r : Result A E) (f g : A → Result B E) → ((x : A) → f x ≡ g x) → (r >>= f) ≡ (r >>= g)
-bound_alike (Ok x) f g same = same x
-bound_alike (Err e) f g same = refl
-
--- the same where these agree on what there is
+-- next steps that agree on what there is
 pub bound_where : {A B E : Type 0} (r : Result A E) (f g : A → Result B E) → ((x : A) → r ≡ Ok x → f x ≡ g x) → (r >>= f) ≡ (r >>= g)
 bound_where (Ok x) f g same = same x refl
 bound_where (Err e) f g same = refl
@@ -92,7 +88,7 @@ bound_whole (Err fault) = refl
 parts_more : (part : ℕ) (ds : List Data) (d : Data) (nodes : Nodes) → parts_in part (ds ++ d ∷ []) nodes ≡ (parts_in part ds nodes >>= λ after. part_in (part + length ds) (as_array d) after)
 parts_more part [] d nodes = bound_whole (part_in part (as_array d) nodes) ∙ ap (λ n. part_in n (as_array d) nodes) (sym (add-zero part))
 parts_more part (e ∷ ds) d nodes =
-    bound_alike (part_in part (as_array e) nodes) (λ after. parts_in (part + 1) (ds ++ d ∷ []) after) (λ after. parts_in (part + 1) ds after >>= λ last. part_in (part + length (e ∷ ds)) (as_array d) last)
+    bind_same (part_in part (as_array e) nodes) (λ after. parts_in (part + 1) (ds ++ d ∷ []) after) (λ after. parts_in (part + 1) ds after >>= λ last. part_in (part + length (e ∷ ds)) (as_array d) last)
     (λ after. parts_more (part + 1) ds d after ∙ ap (λ n. parts_in (part + 1) ds after >>= λ last. part_in n (as_array d) last) (let same : part + 1 + length ds ≡ part + length (e ∷ ds) = omega arith in same))
     ∙ sym (bound_twice (part_in part (as_array e) nodes) (λ after. parts_in (part + 1) ds after) (λ last. part_in (part + length (e ∷ ds)) (as_array d) last))
 

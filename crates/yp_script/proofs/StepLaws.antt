@@ -5,7 +5,7 @@ use Rattle.std.specs.Borrow.{Bor}
 use Rattle.serde_json.specs.Data.{Data}
 use Rattle.serde_json.specs.declared.value.Value.{Value}
 use Rattle.serde_json.specs.View.{view}
-use Rattle.yp_base.specs.Results.{◌>>=◌, or_fault}
+use Rattle.yp_base.specs.Results.{◌>>=◌, or_fault, bind_same}
 use Rattle.yp_schema.specs.declared.schema.SchemaNode.{SchemaNode}
 use Rattle.yp_schema.specs.Reading.{schema_of}
 use Rattle.yp_schema.specs.Rounds.{Fault}
@@ -31,7 +31,7 @@ use Rattle.yp_script.specs.Order.{next_stage}
 use Rattle.yp_script.specs.Readings.{Gives, IsFault, beside, at_part}
 use Rattle.yp_script.specs.Readers.{progress_with, schema_in, progress_in, progress_by, Added, Lacking, Adds, IsEarly, Took, Takes, Goes}
 use Rattle.yp_script.specs.Script.{Progress, with_part, schema_said, taken, at_stage, form_taken, line_taken, at_line, script_from}
-use Rattle.yp_script.proofs.PartLaws.{part_grows, bound_twice, bound_alike, bound_where}
+use Rattle.yp_script.proofs.PartLaws.{part_grows, bound_twice, bound_where}
 
 -- ---- faults
 
@@ -101,7 +101,7 @@ took_part old new line part numbers parts same =
     record {
       progress =
           by_nodes old line (λ progress. taken progress (forms.Schema part))
-          ∙ bound_alike (schema_in old) (λ nodes. at_line line (said_map (with_part (progress_with old nodes) part) s)) (λ nodes. (at_line line s >>= λ made. Ok (progress_with new made))) (λ nodes. made_step line old new nodes part s same)
+          ∙ bind_same (schema_in old) (λ nodes. at_line line (said_map (with_part (progress_with old nodes) part) s)) (λ nodes. (at_line line s >>= λ made. Ok (progress_with new made))) (λ nodes. made_step line old new nodes part s same)
           ∙ sym (bound_twice (schema_in old) (λ nodes. at_line line s) (λ made. Ok (progress_with new made)))
           ∙ ap (λ (r : Result (List SchemaNode) LineFault). r >>= λ made. Ok (progress_with new made))
           (sym (part_grows old.parts.numbers.items line ps part (numbers_many old)) ∙ (λ i. at_part (sym numbers i) (schema_of (sym parts i))));

@@ -2,10 +2,12 @@ pub mod Commands
 pub mod Cursor
 pub mod Faults
 pub mod Forms
+pub mod LimitLaws
 pub mod Lines
 pub mod Order
 pub mod Readers
 pub mod Readings
+pub mod SaidLaws
 pub mod Script
 pub mod Values
 pub mod Words

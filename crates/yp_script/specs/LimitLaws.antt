@@ -2,14 +2,14 @@
 use Rattle.std.proofs.Common.{◌≡◌, ℕ, zero, suc, ◌+◌, ◌≤◌, ◌==◌, ◌&&◌, Bool, true, false, true≢false, List, [], ◌∷◌, length, take, drop, Result, Ok, Err, refl, sym, subst, ◌∙◌, cond, arith, nat_le}
 use Rattle.std.specs.Prelude.{IfOk, is_ok}
 use Rattle.std.specs.List.{AllByRecursion}
-use Rattle.std.proofs.lemmas.Bool.{and_parts}
+use Rattle.std.proofs.lemmas.Bool.{and_parts, leb-true}
 use Rattle.serde_json.specs.Data.{Data}
 use Rattle.yp_base.specs.Cuts.{onto_first}
 use Rattle.yp_script.specs.declared.script.Script.{Script}
 use Rattle.yp_script.specs.Faults.{LineFault, Said}
 use Rattle.yp_script.specs.Lines.{Line, pieces_of, without_feed, is_blank, is_in_script, json_in, lines_from}
 use Rattle.yp_script.specs.Script.{Progress, no_progress, line_taken, at_line, script_from, script_of, script_in}
-use Rattle.yp_script.proofs.SaidLaws.{then_is, line_is}
+use Rattle.yp_script.specs.SaidLaws.{then_is, line_is}
 
 -- ---- each line of a script has its JSON
 
@@ -61,7 +61,7 @@ total_pieces [] = refl
 total_pieces (b ∷ text) = total_cut (b == 10) b (pieces_of text) ∙ omega (arith, total_pieces text)
 
 within_at : (a : Bool) (number end : ℕ) → is_in_script number end ≡ a → a ≡ true → end ≤ 67108864
-within_at true number end is h = grind (arith, (and_parts (nat_le number 100000) (nat_le end 67108864) is).1)
+within_at true number end is h = leb-true end 67108864 (and_parts (nat_le number 100000) (nat_le end 67108864) is).1
 within_at false number end is h = absurd (true≢false (sym h))
 
 -- a line that has its JSON lies within them
