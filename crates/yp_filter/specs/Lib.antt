@@ -1,5 +1,6 @@
 pub mod Filters
 pub mod View
+pub mod ViewLaws
 pub mod Fits
 pub mod Reading
 pub mod Counts

@@ -21,7 +21,7 @@ use yp_base::text::TextFault;
 use yp_schema::schema::{Kind, Schema};
 
 /// The selection node of a name.
-#[tactic(auto, using(crate::proofs::Views::node_select, crate::proofs::Views::node_unknown))]
+#[tactic(auto, using(crate::specs::ViewLaws::node_select, crate::specs::ViewLaws::node_unknown))]
 fn selection(named: Option<u32>) -> FilterNode
     ensures { node_view result ≡ selection named }
 {
@@ -32,7 +32,7 @@ fn selection(named: Option<u32>) -> FilterNode
 }
 
 /// The containment node of a name with this set.
-#[tactic(auto, using(crate::proofs::Views::node_within, crate::proofs::Views::node_unknown, crate::proofs::Views::set_nodes))]
+#[tactic(auto, using(crate::specs::ViewLaws::node_within, crate::specs::ViewLaws::node_unknown, crate::specs::ViewLaws::set_nodes))]
 fn containment(named: Option<u32>, nodes: Vec<FilterNode>) -> FilterNode
     ensures { node_view result ≡ containment named (nodes_of (map node_view nodes.items)) }
 {
@@ -46,7 +46,7 @@ fn containment(named: Option<u32>, nodes: Vec<FilterNode>) -> FilterNode
 }
 
 /// The match node of a schema node with this value.
-#[tactic(auto, using(crate::proofs::Views::node_match))]
+#[tactic(auto, using(crate::specs::ViewLaws::node_match))]
 fn match_node(node: u32, atom: Atom) -> FilterNode
     ensures { node_view result ≡ compare node (Plain atom) }
 {
@@ -72,7 +72,7 @@ fn read_atom(alloc: Global, schema: &Schema, node: u32, json: &Json) -> Result<A
 }
 
 /// The match node of a name.
-#[tactic(auto, using(crate::proofs::Views::node_unknown_match))]
+#[tactic(auto, using(crate::specs::ViewLaws::node_unknown_match))]
 fn read_match(
     alloc: Global,
     schema: &Schema,

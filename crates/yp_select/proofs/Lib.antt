@@ -1,0 +1,4 @@
+pub mod Keys
+pub mod Ways
+pub mod Sets
+pub mod Leading

@@ -2,3 +2,4 @@ pub mod Concealed
 pub mod SelectionLaws
 pub mod Matches
 pub mod Selection
+pub mod Visits

@@ -6,5 +6,8 @@
 //! selection of a datastore is a datastore, and nothing in it may not be read.
 #![tactic(auto)]
 
+pub mod keeping;
 pub mod laws;
+mod matching;
 pub mod select;
+mod visible;

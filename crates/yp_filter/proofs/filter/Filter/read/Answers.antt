@@ -4,7 +4,7 @@ use Rattle.yp_filter.specs.Filters.{Nodes}
 use Rattle.yp_filter.specs.Fits.{set_fits}
 use Rattle.yp_filter.specs.View.{node_view, set_view, nodes_of}
 use Rattle.yp_filter.specs.declared.filter.FilterNode.{FilterNode}
-use Rattle.yp_filter.proofs.Views.{set_nodes}
+use Rattle.yp_filter.specs.ViewLaws.{set_nodes}
 use Rattle.yp_filter.proofs.Fitting.{read_set_fits}
 use Rattle.yp_filter.proofs.filter.Filter.read.Goals as goal
 
