@@ -3,3 +3,4 @@ pub mod SelectionLaws
 pub mod Matches
 pub mod Selection
 pub mod Visits
+pub mod KeptLaws

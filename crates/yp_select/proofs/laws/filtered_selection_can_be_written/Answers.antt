@@ -1,0 +1,5 @@
+use Rattle.yp_select.specs.KeptLaws.{kept_writable}
+use Rattle.yp_select.proofs.laws.filtered_selection_can_be_written.Goals as goal
+
+pub returns : goal.returns
+returns c = kept_writable
