@@ -4,6 +4,7 @@ use Rattle.std.specs.Prelude.{All, nat_lt, slice_get}
 use Rattle.std.proofs.lemmas.Bool.{and_parts, and_from}
 use Rattle.std.proofs.lemmas.List.Elements.{All-nil}
 use Rattle.yp_base.specs.declared.path.Seg.{Seg}
+use Rattle.yp_base.specs.declared.row.Row.{Row}
 use Rattle.yp_base.specs.declared.row.Value.{Value}
 use Rattle.yp_base.specs.declared.row.Value.TheVariants.{Atom as Plain, Member, Empty, Present}
 use Rattle.yp_base.specs.Paths.{same_number}
@@ -11,8 +12,8 @@ use Rattle.yp_schema.specs.declared.schema.SchemaNode.{SchemaNode}
 use Rattle.yp_schema.specs.declared.schema.Kind.{Kind}
 use Rattle.yp_schema.specs.declared.schema.Kind.TheVariants.{Container, Presence, List as Listing, Leaf, LeafList}
 use Rattle.yp_schema.specs.Nodes.{node_at}
-use Rattle.yp_schema.specs.Datastore.{keys_of_kind, is_segment, goes_down, is_path_of, is_leaf_kind}
-use Rattle.yp_schema.specs.SchemaLaws.{node_after, path_within, segment_within, first_segment}
+use Rattle.yp_schema.specs.Datastore.{keys_of_kind, is_segment, goes_down, is_path_of, is_leaf_kind, IsRowOf}
+use Rattle.yp_schema.specs.SchemaLaws.{node_after, path_within, segment_within, first_segment, row_goes_down}
 use Rattle.yp_filter.specs.Filters.{compare}
 use Rattle.yp_filter.specs.Fits.{match_fits, is_child_of, node_fits}
 use Rattle.yp_select.specs.Matches.{keys_asked, match_segment}
@@ -83,3 +84,7 @@ next_within nodes parent (s ∷ path) zero seg down first =
     segment_within nodes seg (ap (is_segment nodes) (sym same) ∙ first_segment nodes parent s path down)
 next_within nodes parent (s ∷ path) (suc d) seg down first =
     next_within nodes (Some s.node) path d seg (and_parts (same_number (node_at s.node nodes).parent parent && is_segment nodes s) (goes_down nodes (Some s.node) path) down).1 first
+
+-- the path of a row goes down
+pub row_down : (nodes : List SchemaNode) (row : Row) → IsRowOf nodes row → goes_down nodes None row.path ≡ true
+row_down nodes row is = row_goes_down nodes None row.path row.value is.goes

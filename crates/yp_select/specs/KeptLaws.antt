@@ -92,13 +92,14 @@ kept_above nodes (of_set set) rows (seg ∷ above) rest h =
 
 -- ---- selections
 
--- a selection without a filter is what may be read
+-- without a filter all rows are kept
+pub all_kept : (nodes : List SchemaNode) (seen rows : List Row) → picked (kept nodes all_rows seen) rows ≡ rows
+all_kept nodes seen [] = refl
+all_kept nodes seen (row ∷ rows) = ap (λ xs. row ∷ xs) (all_kept nodes seen rows)
+
+-- so the selection is what may be read
 pub selection_of_all : (nodes : List SchemaNode) (readable : List Seg → Bool) (rows : List Row) → selection nodes all_rows readable rows ≡ visible_rows readable rows
-selection_of_all nodes readable rows = all_pass (visible_rows readable rows)
-  where
-    all_pass : (rows : List Row) → picked (λ path. true) rows ≡ rows
-    all_pass [] = refl
-    all_pass (row ∷ rows) = ap (λ xs. row ∷ xs) (all_pass rows)
+selection_of_all nodes readable rows = all_kept nodes (visible_rows readable rows) (visible_rows readable rows)
 
 module _ (nodes : List SchemaNode) (asked : Asked) (readable : List Seg → Bool) where
   twice : (one two : Bool) (value : Option Value) → cond one (cond two value None) None ≡ cond (two && one) value None

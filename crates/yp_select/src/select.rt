@@ -1,10 +1,17 @@
-//! The rows that a reader selects.
-ghost use Rattle.std.specs.Prelude.{◌≡◌, ◌+◌, ◌≤◌, length, IfOk, OnOk};
+//! The rows that a filter selects for a reader.
+ghost use Rattle.std.specs.Prelude.{◌≡◌, ◌+◌, ◌*◌, ◌≤◌, ◌&&◌, length, true, IfOk, OnOk};
 ghost use Rattle.std.specs.List.{AllByRecursion};
+ghost use Rattle.yp_base.specs.RowLaws.{picked};
 ghost use Rattle.yp_base.specs.Rows.{rows_within};
 ghost use Rattle.yp_schema.specs.Datastore.{IsRowOf};
+ghost use Rattle.yp_filter.specs.Filters.{filter_size};
+ghost use Rattle.yp_filter.specs.Fits.{filter_fits};
+ghost use Rattle.yp_filter.specs.View.{filter_view};
 ghost use Rattle.yp_nacm.specs.Decision.{visible_rows};
+ghost use Rattle.yp_select.specs.Selection.{kept, selection};
 
+use crate::keeping::kept;
+use crate::visible::Visible;
 use std::alloc::Global;
 use std::sync::ledger::Ledger;
 use yp_base::memory::NoMemory;
@@ -12,6 +19,7 @@ use yp_base::path::Path;
 use yp_base::row::Rows;
 use yp_base::series::Series;
 use yp_base::steps::Steps;
+use yp_filter::filter::Filter;
 use yp_nacm::readable::Readable;
 use yp_schema::schema::Schema;
 use yp_tree::tree::Tree;
@@ -36,39 +44,101 @@ fn keep_readable<R: Readable>(
     Ok(Series::from_vec(seen))
 }
 
-/// What of the selection of everything is at or below a path, in order. It counts at most a visit for
-/// each row there, and one more.
+/// Of these rows those that a filter keeps, among all that may be read. It counts at most a visit for each
+/// row and each node of the filter.
+#[tactic(auto, using(crate::proofs::Ways::row_down))]
+fn keep_kept<R: Readable, L: Ledger>(
+    alloc: Global,
+    visible: &Visible<R>,
+    filter: &Filter,
+    rows: Rows,
+    steps: &mut Steps<L>,
+) -> Result<Rows, NoMemory>
+    requires schema { AllByRecursion (IsRowOf visible.now.schema.now) rows }
+    requires fits { filter_fits visible.now.schema.now (filter_view filter.now) ≡ true }
+    ensures rows { IfOk result (λ seen. seen ≡ picked (kept visible.now.schema.now (filter_view filter.now) (visible_rows (R.may visible.now.readable.now visible.now.schema.now) visible.now.tree.now)) rows) }
+    ensures visits { OnOk result (steps.new ≤ steps.old + length rows * filter_size (filter_view filter.now)) }
+{
+    let mut seen = Vec::new(alloc);
+    for row in rows.into_vec(alloc)? {
+        if kept(
+            alloc,
+            visible.schema,
+            filter,
+            visible.readable,
+            visible.tree,
+            &row.path,
+            steps,
+        )? {
+            seen.push(row)?;
+        }
+    }
+    Ok(Series::from_vec(seen))
+}
+
+/// Of these rows those that may be read and that a filter keeps. Without a filter it counts no visit, and
+/// else at most one for each row and each node of the filter.
+fn keep_selected<R: Readable, L: Ledger>(
+    alloc: Global,
+    visible: &Visible<R>,
+    filter: &Filter,
+    rows: Rows,
+    steps: &mut Steps<L>,
+) -> Result<Rows, NoMemory>
+    requires schema { AllByRecursion (IsRowOf visible.now.schema.now) rows }
+    requires fits { filter_fits visible.now.schema.now (filter_view filter.now) ≡ true }
+    ensures rows { IfOk result (λ selected. selected ≡ picked (kept visible.now.schema.now (filter_view filter.now) (visible_rows (R.may visible.now.readable.now visible.now.schema.now) visible.now.tree.now)) (visible_rows (R.may visible.now.readable.now visible.now.schema.now) rows)) }
+    ensures visits { OnOk result (steps.new ≤ steps.old + length rows * filter_size (filter_view filter.now)) }
+{
+    let seen = keep_readable(alloc, visible.schema, visible.readable, rows)?;
+    match filter {
+        Filter::All => Ok(seen),
+        Filter::Set(_) => keep_kept(alloc, visible, filter, seen, steps),
+    }
+}
+
+/// What of a reader's selection by a filter is at or below a path, in order. It counts at most a visit for
+/// each row there and one more, and as many again for each node of the filter.
 pub fn select_below<R: Readable, L: Ledger>(
     alloc: Global,
     schema: &Schema,
+    filter: &Filter,
     readable: &R,
     tree: &Tree,
     at: &Path,
     steps: &mut Steps<L>,
 ) -> Result<Rows, NoMemory>
-    requires { AllByRecursion (IsRowOf schema.now) tree.now }
-    ensures rows { IfOk result (λ rows. rows ≡ rows_within at.now (visible_rows (R.may readable.now schema.now) tree.now)) }
-    ensures visits { OnOk result (steps.new ≤ steps.old + length (rows_within at.now tree.now) + 1) }
+    requires schema { AllByRecursion (IsRowOf schema.now) tree.now }
+    requires fits { filter_fits schema.now (filter_view filter.now) ≡ true }
+    ensures rows { IfOk result (λ rows. rows ≡ rows_within at.now (selection schema.now (filter_view filter.now) (R.may readable.now schema.now) tree.now)) }
+    ensures visits { OnOk result (steps.new ≤ steps.old + (length (rows_within at.now tree.now) + 1) * (filter_size (filter_view filter.now) + 1)) }
 {
     let all = tree.rows_within(alloc, at, steps)?;
-    let selected = keep_readable(alloc, schema, readable, all)?;
+    let visible = Visible {
+        schema,
+        readable,
+        tree,
+    };
+    let selected = keep_selected(alloc, &visible, filter, all, steps)?;
     Ok(selected)
 }
 
-/// The selection of everything: all rows that may be read, in order. It counts at most a visit for each
-/// row, and one more.
+/// A reader's selection by a filter, in order. It counts at most a visit for each row and one more, and as
+/// many again for each node of the filter.
 pub fn select_all<R: Readable, L: Ledger>(
     alloc: Global,
     schema: &Schema,
+    filter: &Filter,
     readable: &R,
     tree: &Tree,
     steps: &mut Steps<L>,
 ) -> Result<Rows, NoMemory>
-    requires { AllByRecursion (IsRowOf schema.now) tree.now }
-    ensures rows { IfOk result (λ rows. rows ≡ visible_rows (R.may readable.now schema.now) tree.now) }
-    ensures visits { OnOk result (steps.new ≤ steps.old + length tree.now + 1) }
+    requires schema { AllByRecursion (IsRowOf schema.now) tree.now }
+    requires fits { filter_fits schema.now (filter_view filter.now) ≡ true }
+    ensures rows { IfOk result (λ rows. rows ≡ selection schema.now (filter_view filter.now) (R.may readable.now schema.now) tree.now) }
+    ensures visits { OnOk result (steps.new ≤ steps.old + (length tree.now + 1) * (filter_size (filter_view filter.now) + 1)) }
 {
     let top = Path::from_vec(Vec::new(alloc));
-    let selected = select_below(alloc, schema, readable, tree, &top, steps)?;
+    let selected = select_below(alloc, schema, filter, readable, tree, &top, steps)?;
     Ok(selected)
 }
