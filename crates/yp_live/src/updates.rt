@@ -18,6 +18,7 @@ use yp_base::notice::Notice;
 use yp_base::row::Rows;
 use yp_base::steps::Steps;
 use yp_core::made::Made;
+use yp_filter::filter::Filter;
 use yp_journal::subscription::Subscription;
 use yp_nacm::compile::same_rules;
 use yp_select::select::select_all;
@@ -34,7 +35,9 @@ fn select<L: Ledger>(
     ensures { IfOk result (λ rows. rows ≡ selected moment.now.schema.now moment.now.state.now number) }
 {
     let rules = moment.readers.rules(number);
-    select_all(alloc, moment.schema, rules, moment.state.tree(), steps)
+    let all = Filter::All;
+    let selected = select_all(alloc, moment.schema, &all, rules, moment.state.tree(), steps)?;
+    Ok(selected)
 }
 
 /// Sends a receiver all that a new subscription of it selects.

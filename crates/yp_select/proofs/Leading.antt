@@ -55,7 +55,7 @@ pub leads_inner : (nodes : List SchemaNode) (rows : List Row) (node : Node) (pat
 leads_inner nodes rows node path d n seg set entered seen less is same told out =
     sym (leads_within nodes rows node path d n seg set seen less is ∙ (λ i. (self_same seg.node n same i && (sym told ∙ out) i) && keeps nodes rows set (take (d + 1) path) (drop (d + 1) path)))
 
-pub ok_same : {E : Type 0} (r : Result Bool E) (x y : Bool) → x ≡ y → IfOk r (λ is. is ≡ x) → IfOk r (λ is. is ≡ y)
+pub ok_same : {X E : Type 0} (r : Result X E) (x y : X) → x ≡ y → IfOk r (λ is. is ≡ x) → IfOk r (λ is. is ≡ y)
 ok_same (Ok is) x y same h = h ∙ same
 ok_same (Err e) x y same h = tt
 

@@ -3,3 +3,7 @@ pub mod Ways
 pub mod Sets
 pub mod Leading
 pub mod Selecting
+pub mod Tops
+pub mod Those
+pub mod Apart
+pub mod Covering

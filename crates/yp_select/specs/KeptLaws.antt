@@ -45,9 +45,10 @@ empty_then [] rest h = refl
 empty_then (s ∷ front) rest h = h
 
 module _ (nodes : List SchemaNode) (rows : List Row) where
-  by_none : (set : Nodes) (at rest : List Seg) (leads : Bool) → Then (keeps_by nodes rows set at rest leads) (all_hold nodes rows at set)
-  by_none set at [] leads h = h
-  by_none set at (seg ∷ rest) leads h =
+  -- a set keeps nothing where a match node of it doesn't hold
+  pub keeps_hold : (set : Nodes) (at rest : List Seg) (leads : Bool) → Then (keeps_by nodes rows set at rest leads) (all_hold nodes rows at set)
+  keeps_hold set at [] leads h = h
+  keeps_hold set at (seg ∷ rest) leads h =
       both_left (all_hold nodes rows at set) ((((is_empty rest && set_names nodes seg set) || only_matches set) || set_selects seg.node set) || leads) h
 
   by_some : (set : Nodes) (at : List Seg) (seg : Seg) (front rest : List Seg) (leads lead : Bool) → Then leads lead → Then (keeps_by nodes rows set at (seg ∷ (front ++ rest)) leads) (keeps_by nodes rows set at (seg ∷ front) lead)
@@ -68,7 +69,7 @@ module _ (nodes : List SchemaNode) (rows : List Row) where
     node_front (within n set) at seg [] rest h =
         let deeper = at ++ seg ∷ [] in
         let gate = nat_eq seg.node n && enters nodes rows deeper n in
-        and_then gate gate (keeps nodes rows set deeper rest) (keeps nodes rows set deeper []) (same_then gate) (by_none set deeper rest (set_leads nodes rows set deeper rest)) h
+        and_then gate gate (keeps nodes rows set deeper rest) (keeps nodes rows set deeper []) (same_then gate) (keeps_hold set deeper rest (set_leads nodes rows set deeper rest)) h
     node_front (within n set) at seg (s ∷ front) rest h =
         let deeper = at ++ seg ∷ [] in
         let gate = nat_eq seg.node n && enters nodes rows deeper n in
@@ -86,7 +87,7 @@ module _ (nodes : List SchemaNode) (rows : List Row) where
 -- what is kept is so with each path above
 pub kept_above : (nodes : List SchemaNode) (asked : Asked) (rows : List Row) (above rest : List Seg) → kept nodes asked rows (above ++ rest) ≡ true → kept nodes asked rows above ≡ true
 kept_above nodes all_rows rows above rest h = refl
-kept_above nodes (of_set set) rows [] rest h = by_none nodes rows set [] rest (set_leads nodes rows set [] rest) h
+kept_above nodes (of_set set) rows [] rest h = keeps_hold nodes rows set [] rest (set_leads nodes rows set [] rest) h
 kept_above nodes (of_set set) rows (seg ∷ above) rest h =
     by_some nodes rows set [] seg above rest (set_leads nodes rows set [] (seg ∷ (above ++ rest))) (set_leads nodes rows set [] (seg ∷ above)) (set_front nodes rows set [] seg above rest) h
 

@@ -4,3 +4,4 @@ pub mod Matches
 pub mod Selection
 pub mod Visits
 pub mod KeptLaws
+pub mod Reaches

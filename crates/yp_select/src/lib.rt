@@ -9,5 +9,7 @@
 pub mod keeping;
 pub mod laws;
 mod matching;
+mod reached;
+mod reaches;
 pub mod select;
 mod visible;

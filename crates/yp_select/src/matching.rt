@@ -62,7 +62,7 @@ fn key_at<'a>(schema: &Schema, at: &'a [Seg], node: u32) -> Option<&'a Atom>
 }
 
 /// The atom that a row holds.
-fn atom_in(found: Option<&Value>) -> Option<&Atom>
+pub fn atom_in(found: Option<&Value>) -> Option<&Atom>
     ensures { option_copied result ≡ atom_in (option_copied found.entry) }
 {
     match found {

@@ -1,6 +1,8 @@
 //! The rows that a filter selects for a reader.
-ghost use Rattle.std.specs.Prelude.{◌≡◌, ◌+◌, ◌*◌, ◌≤◌, ◌&&◌, length, true, IfOk, OnOk};
+ghost use Rattle.std.specs.Prelude.{◌≡◌, ◌+◌, ◌*◌, ◌≤◌, length, true, IfOk, OnOk, List, Bool};
 ghost use Rattle.std.specs.List.{AllByRecursion};
+ghost use Rattle.yp_base.specs.declared.path.Seg.{Seg};
+ghost use Rattle.yp_base.specs.declared.row.Row.{Row};
 ghost use Rattle.yp_base.specs.RowLaws.{picked};
 ghost use Rattle.yp_base.specs.Rows.{rows_within};
 ghost use Rattle.yp_schema.specs.Datastore.{IsRowOf};
@@ -11,6 +13,8 @@ ghost use Rattle.yp_nacm.specs.Decision.{visible_rows};
 ghost use Rattle.yp_select.specs.Selection.{kept, selection};
 
 use crate::keeping::kept;
+use crate::reached::rows_reached;
+use crate::reaches::reaches_of;
 use crate::visible::Visible;
 use std::alloc::Global;
 use std::sync::ledger::Ledger;
@@ -123,8 +127,41 @@ pub fn select_below<R: Readable, L: Ledger>(
     Ok(selected)
 }
 
-/// A reader's selection by a filter, in order. It counts at most a visit for each row and one more, and as
-/// many again for each node of the filter.
+/// Rows of a datastore among which are all that a filter keeps: without one all rows, and else those that
+/// it reaches. It counts at most a visit for each row and for each node of the filter, and one more.
+fn rows_for<L: Ledger>(
+    alloc: Global,
+    schema: &Schema,
+    filter: &Filter,
+    tree: &Tree,
+    steps: &mut Steps<L>,
+) -> Result<Rows, NoMemory>
+    requires schema { AllByRecursion (IsRowOf schema.now) tree.now }
+    requires fits { filter_fits schema.now (filter_view filter.now) ≡ true }
+    ensures schema { IfOk result (λ rows. AllByRecursion (IsRowOf schema.now) rows) }
+    ensures few { IfOk result (λ rows. length rows ≤ length tree.now) }
+    ensures enough { IfOk result (λ rows. (readable : List Seg → Bool) (seen : List Row)
+        → picked (kept schema.now (filter_view filter.now) seen) (visible_rows readable rows) ≡ picked (kept schema.now (filter_view filter.now) seen) (visible_rows readable tree.now)) }
+    ensures visits { OnOk result (steps.new ≤ steps.old + length tree.now + filter_size (filter_view filter.now) + 1) }
+{
+    match filter {
+        Filter::All => {
+            let top = Path::from_vec(Vec::new(alloc));
+            let all = tree.rows_within(alloc, &top, steps)?;
+            Ok(all)
+        }
+        Filter::Set(set) => {
+            schema.stands();
+            let reaches = reaches_of(alloc, schema, set)?;
+            let reached = rows_reached(alloc, tree, reaches, steps)?;
+            Ok(reached)
+        }
+    }
+}
+
+/// A reader's selection by a filter, in order. Of the rows only those are looked at that the filter can
+/// keep, so that one which names entries by their keys costs little more than these. It counts at most a
+/// visit for each row and one more, and as many again for each node of the filter.
 pub fn select_all<R: Readable, L: Ledger>(
     alloc: Global,
     schema: &Schema,
@@ -138,7 +175,12 @@ pub fn select_all<R: Readable, L: Ledger>(
     ensures rows { IfOk result (λ rows. rows ≡ selection schema.now (filter_view filter.now) (R.may readable.now schema.now) tree.now) }
     ensures visits { OnOk result (steps.new ≤ steps.old + (length tree.now + 1) * (filter_size (filter_view filter.now) + 1)) }
 {
-    let top = Path::from_vec(Vec::new(alloc));
-    let selected = select_below(alloc, schema, filter, readable, tree, &top, steps)?;
+    let rows = rows_for(alloc, schema, filter, tree, steps)?;
+    let visible = Visible {
+        schema,
+        readable,
+        tree,
+    };
+    let selected = keep_selected(alloc, &visible, filter, rows, steps)?;
     Ok(selected)
 }

@@ -19,6 +19,7 @@ use yp_base::row::Rows;
 use yp_base::series::Series;
 use yp_base::steps::Steps;
 use yp_edit::changed::ChangedRow;
+use yp_filter::filter::Filter;
 use yp_nacm::readable::Readable;
 use yp_schema::schema::Schema;
 use yp_select::select::select_below;
@@ -69,7 +70,8 @@ fn carried_below<R: Readable, L: Ledger>(
     ensures visits { OnOk result (steps.new ≤ steps.old + visits_at rows.now row.now.path) }
 {
     if row.new.is_some() {
-        let carried = select_below(alloc, schema, readable, rows, &row.path, steps)?;
+        let all = Filter::All;
+        let carried = select_below(alloc, schema, &all, readable, rows, &row.path, steps)?;
         Ok(carried)
     } else {
         Ok(Series::from_vec(Vec::new(alloc)))
