@@ -2,7 +2,8 @@
 use Rattle.std.proofs.Common.{◌≡◌, ℕ, suc, ◌+◌, ◌-◌, ◌<◌, ◌≤◌, List, [], ◌∷◌, ◌++◌, length, take, drop, get_or, true, Some, None, refl, sym, ap, ◌∙◌, arith}
 use Rattle.std.specs.Prelude.{◌&&◌}
 use Rattle.std.proofs.Math.Seq.{take-suc, drop-cons}
-use Rattle.std.proofs.lemmas.List.{append-nil}
+use Rattle.std.proofs.lemmas.Bool.{and_parts}
+use Rattle.std.proofs.lemmas.List.{append-nil, append_assoc, take-append-drop}
 use Rattle.std.proofs.lemmas.List.Elements.{All-get_or}
 use Rattle.yp_base.specs.declared.path.Seg.{Seg}
 use Rattle.yp_schema.specs.declared.schema.SchemaNode.{SchemaNode}
@@ -10,7 +11,7 @@ use Rattle.yp_base.specs.Paths.{last_node}
 use Rattle.yp_schema.specs.Datastore.{is_path_of}
 use Rattle.yp_schema.specs.SchemaLaws.{last_node_append, path_within}
 use Rattle.yp_nacm.specs.declared.compile.UserRules.{UserRules}
-use Rattle.yp_nacm.specs.Decision.{is_open, leaf_step, opens_down}
+use Rattle.yp_nacm.specs.Decision.{is_open, is_readable, leaf_step, opens_down}
 
 -- the first so many segments end in the last of them
 ends_in : (path : List Seg) (depth : ℕ) (other : Seg) → 1 ≤ depth → depth ≤ length path → take depth path ≡ take (depth - 1) path ++ get_or path (depth - 1) other ∷ []
@@ -48,3 +49,17 @@ last_open nodes rules above path depth e = ap (opens_down nodes rules above) (ap
     none : (path : List Seg) → drop (length path) path ≡ []
     none [] = refl
     none (seg ∷ segs) = none segs
+
+-- ---- below a place that may be read
+
+opens_in_parts : (nodes : List SchemaNode) (rules : UserRules) (above path rest : List Seg) → opens_down nodes rules above path ≡ true → opens_down nodes rules above (path ++ rest) ≡ opens_down nodes rules (above ++ path) rest
+opens_in_parts nodes rules above [] rest h = ap (λ place. opens_down nodes rules place rest) (sym (append-nil above))
+opens_in_parts nodes rules above (seg ∷ segs) rest h =
+    let parts = and_parts _ _ h in
+    ap (λ b. b && opens_down nodes rules (above ++ seg ∷ []) (segs ++ rest)) parts.0
+    ∙ opens_in_parts nodes rules (above ++ seg ∷ []) segs rest parts.1
+    ∙ ap (λ place. opens_down nodes rules place rest) (append_assoc above (seg ∷ []) segs)
+
+-- where the first so many segments may be read, what is left decides
+pub opens_below : (nodes : List SchemaNode) (rules : UserRules) (path : List Seg) (depth : ℕ) → is_readable nodes rules (take depth path) ≡ true → opens_down nodes rules (take depth path) (drop depth path) ≡ is_readable nodes rules path
+opens_below nodes rules path depth h = sym (opens_in_parts nodes rules [] (take depth path) (drop depth path) h) ∙ ap (is_readable nodes rules) (take-append-drop depth path)

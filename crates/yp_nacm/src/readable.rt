@@ -20,6 +20,13 @@ pub trait Readable {
         requires { is_path_of schema.now path.now ≡ true }
         ensures { result ≡ may self.now schema.now path.now };
 
+    /// The same, where the path's first `depth` segments are known to be readable.
+    fn readable_below(&self, schema: &Schema, path: &Path, depth: usize) -> bool
+        requires path { is_path_of schema.now path.now ≡ true }
+        requires within { depth ≤ length path.now }
+        requires above { may self.now schema.now (take depth path.now) ≡ true }
+        ensures { result ≡ may self.now schema.now path.now };
+
     ghost closed: { (reader : Self) (nodes : List SchemaNode) → IsClosed (may reader nodes) };
 }
 
@@ -82,5 +89,10 @@ impl Readable for UserRules {
 
     fn readable(&self, schema: &Schema, path: &Path) -> bool {
         opens_to_end(self, schema, path, 0)
+    }
+
+    #[tactic(auto, using(crate::proofs::Places::opens_below))]
+    fn readable_below(&self, schema: &Schema, path: &Path, depth: usize) -> bool {
+        opens_to_end(self, schema, path, depth)
     }
 }

@@ -7,3 +7,4 @@ pub mod Tops
 pub mod Those
 pub mod Apart
 pub mod Covering
+pub mod Reading

@@ -1,11 +1,11 @@
 //! The rows that a filter selects for a reader.
-ghost use Rattle.std.specs.Prelude.{◌≡◌, ◌+◌, ◌*◌, ◌≤◌, length, true, IfOk, OnOk, List, Bool};
+ghost use Rattle.std.specs.Prelude.{◌≡◌, ◌+◌, ◌*◌, ◌≤◌, length, true, IfOk, IfSome, OnOk, List, Bool};
 ghost use Rattle.std.specs.List.{AllByRecursion};
 ghost use Rattle.yp_base.specs.declared.path.Seg.{Seg};
 ghost use Rattle.yp_base.specs.declared.row.Row.{Row};
 ghost use Rattle.yp_base.specs.RowLaws.{picked};
 ghost use Rattle.yp_base.specs.Rows.{rows_within};
-ghost use Rattle.yp_schema.specs.Datastore.{IsRowOf};
+ghost use Rattle.yp_schema.specs.Datastore.{is_path_of, IsRowOf};
 ghost use Rattle.yp_filter.specs.Filters.{filter_size};
 ghost use Rattle.yp_filter.specs.Fits.{filter_fits};
 ghost use Rattle.yp_filter.specs.View.{filter_view};
@@ -18,9 +18,9 @@ use crate::reaches::reaches_of;
 use crate::visible::Visible;
 use std::alloc::Global;
 use std::sync::ledger::Ledger;
-use yp_base::memory::NoMemory;
-use yp_base::path::Path;
-use yp_base::row::Rows;
+use yp_base::memory::{Duplicate, NoMemory};
+use yp_base::path::{Path, is_prefix};
+use yp_base::row::{Rows, Value};
 use yp_base::series::Series;
 use yp_base::steps::Steps;
 use yp_filter::filter::Filter;
@@ -28,7 +28,28 @@ use yp_nacm::readable::Readable;
 use yp_schema::schema::Schema;
 use yp_tree::tree::Tree;
 
-/// Of these rows those that may be read.
+/// Whether a path may be read, where one that may be read is given: of a path below it only what is left
+/// has to be asked.
+#[tactic(auto, using(crate::proofs::Reading::front_open, crate::proofs::Reading::front_within))]
+fn may_be_read<R: Readable>(
+    schema: &Schema,
+    readable: &R,
+    above: Option<&Path>,
+    path: &Path,
+) -> bool
+    requires path { is_path_of schema.now path.now ≡ true }
+    requires above { IfSome above (λ above. R.may readable.now schema.now above.now ≡ true) }
+    ensures { result ≡ R.may readable.now schema.now path.now }
+{
+    if let Some(above) = above {
+        if is_prefix(above, path) {
+            return readable.readable_below(schema, path, above.len());
+        }
+    }
+    readable.readable(schema, path)
+}
+
+/// Of these rows those that may be read. What stands below the last entry is asked only from there on.
 #[tactic(auto, using(yp_schema::specs::SchemaLaws::row_path))]
 fn keep_readable<R: Readable>(
     alloc: Global,
@@ -40,8 +61,12 @@ fn keep_readable<R: Readable>(
     ensures { IfOk result (λ seen. seen ≡ visible_rows (R.may readable.now schema.now) rows) }
 {
     let mut seen = Vec::new(alloc);
+    let mut entry: Option<Path> = None;
     for row in rows.into_vec(alloc)? {
-        if readable.readable(schema, &row.path) {
+        if may_be_read(schema, readable, entry.as_ref(), &row.path) {
+            if matches!(row.value, Value::Present) {
+                entry = Some(row.path.copy(alloc)?);
+            }
             seen.push(row)?;
         }
     }
