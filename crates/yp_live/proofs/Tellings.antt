@@ -13,6 +13,7 @@ use Rattle.yp_edit.specs.Records.{change_record}
 use Rattle.yp_journal.specs.declared.subscription.Subscription.{Subscription}
 use Rattle.yp_journal.specs.History.{JournalState, rules_at}
 use Rattle.yp_core.specs.declared.made.Made.{Made}
+use Rattle.yp_core.specs.AttemptLaws.{made_joined, made_mine}
 use Rattle.yp_core.specs.Steps.{changes_for, full_attempt, is_renewed}
 use Rattle.yp_core.specs.Updates.{Attempt, attempt_of, change_update, made_for}
 use Rattle.yp_live.specs.declared.told.Told.{Told}
@@ -32,29 +33,6 @@ nobody_told state number told (s ∷ subscriptions) none = at (s.receiver == num
 -- no notice
 abbrev nobody : List Made
 nobody = []
-
--- ---- of some attempts those for one receiver
-
-made_joined : (receiver : ℕ) (attempts more : List Attempt) → made_for receiver (attempts ++ more) ≡ made_for receiver attempts ++ made_for receiver more
-made_joined receiver attempts more =
-    ap (map (λ (a : Attempt). a.made)) (filter-append (λ (a : Attempt). a.receiver == receiver) attempts more)
-    ∙ map-append (λ (a : Attempt). a.made) (filter (λ (a : Attempt). a.receiver == receiver) attempts) (filter (λ (a : Attempt). a.receiver == receiver) more)
-
--- notices of a subscription are for its receiver alone
-made_mine : (receiver : ℕ) (state : JournalState) (s : Subscription) (notices : List Notice) → made_for receiver (map (attempt_of state s) notices) ≡ cond (s.receiver == receiver) (made_of state notices) []
-made_mine receiver state s [] = none (s.receiver == receiver)
-  where
-    none : (b : Bool) → made_of state [] ≡ cond b (made_of state []) []
-    none true = refl
-    none false = refl
-made_mine receiver state s (notice ∷ notices) = at (s.receiver == receiver) (made_mine receiver state s notices)
-  where
-    rest : List Attempt
-    rest = filter (λ (a : Attempt). a.receiver == receiver) (map (attempt_of state s) notices)
-
-    at : (b : Bool) → map (λ (a : Attempt). a.made) rest ≡ cond b (made_of state notices) [] → map (λ (a : Attempt). a.made) (cond b (attempt_of state s notice ∷ rest) rest) ≡ cond b (made_of state (notice ∷ notices)) []
-    at true is = ap (λ (made : List Made). record { position = state.position; stamp = state.stamp; notice = notice } ∷ made) is
-    at false is = is
 
 -- where a test passes, what stands there may be written by what it tells
 when : (b : Bool) (xs ys : List Made) → (b ≡ true → xs ≡ ys) → cond b xs [] ≡ cond b ys []

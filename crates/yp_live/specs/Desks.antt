@@ -15,6 +15,7 @@ use Rattle.yp_edit.specs.Records.{change_record}
 use Rattle.yp_journal.specs.declared.subscription.Subscription.{Subscription}
 use Rattle.yp_journal.specs.History.{JournalState, rules_at, may_read}
 use Rattle.yp_core.specs.declared.made.Made.{Made}
+pub use Rattle.yp_core.specs.AttemptLaws.{made_of}
 use Rattle.yp_core.specs.Updates.{change_update}
 use Rattle.yp_live.specs.declared.records.Record.{Record}
 use Rattle.yp_live.specs.declared.told.Told.{Told}
@@ -31,10 +32,6 @@ sent_each more number (mine ∷ desks) = (mine ++ more number) ∷ sent_each mor
 abbrev pub updates_told : Told → ℕ → ℕ → List Notice
 updates_told (Full rows) id n = FullUpdate id rows ∷ []
 updates_told (Changes changes) id n = change_update id n changes
-
--- notices that are made at the position and the tick of a state
-abbrev pub made_of : JournalState → List Notice → List Made
-made_of state notices = map (λ notice. record { position = state.position; stamp = state.stamp; notice = notice }) notices
 
 -- what the receiver of this number is made, where each of its subscriptions is told this
 abbrev pub told_by : JournalState → ℕ → Told → List Subscription → List Made

@@ -1,7 +1,7 @@
 use Rattle.std.proofs.Common.{ap, ◌∙◌}
 use Rattle.serde_json.specs.Written.{has_float, compact_text}
 use Rattle.yp_data_json.specs.Writing.{rows_json}
-use Rattle.yp_encode.proofs.Floats.{rows_none}
+use Rattle.yp_encode.specs.FloatLaws.{rows_none}
 use Rattle.yp_live.proofs.text.rows_text.Goals as goal
 
 pub compact-requires : goal.compact-requires
