@@ -1,2 +1,3 @@
 -- Lemmas on rows.
 pub mod Datastores
+pub mod Writable

@@ -1,7 +1,7 @@
 //! The calls that cases name, library by library.
 use crate::given::items;
 use crate::shown::Answer;
-use crate::{filters, notices, patches, policies, registries};
+use crate::{filters, notices, patches, policies, registries, selections};
 use serde_json::Value as Json;
 use std::alloc::Global;
 use yp_nacm::policy::Policy;
@@ -67,6 +67,9 @@ pub fn answer(
     arguments: &Json,
 ) -> anyhow::Result<String> {
     if let Some(given) = policies::answer(alloc, setting, call, arguments)? {
+        return Ok(given);
+    }
+    if let Some(given) = selections::answer(alloc, setting, call, arguments)? {
         return Ok(given);
     }
     if let Some(given) = patches::answer(alloc, &setting.schema, call, arguments)? {

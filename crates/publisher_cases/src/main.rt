@@ -11,6 +11,7 @@ mod notices;
 mod patches;
 mod policies;
 mod registries;
+mod selections;
 mod shown;
 
 use std::{io, str};

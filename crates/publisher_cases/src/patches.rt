@@ -1,6 +1,6 @@
 //! Calls of `yp_edit`: patches, and what they do to a datastore.
-ghost use Rattle.std.specs.Prelude.{◌≡◌, ◌<◌, ◌^◌, IfOk, length};
-ghost use Rattle.yp_schema.specs.Datastore.{IsDatastore};
+ghost use Rattle.std.specs.Prelude.{◌≡◌, ◌<◌, ◌^◌, [], IfOk, length};
+ghost use Rattle.yp_schema.specs.Datastore.{IsDatastore, AreWritable};
 
 use crate::given::part;
 use crate::shown::{Answer, push_comma, push_path, push_quoted, quoted, value};
@@ -95,7 +95,7 @@ fn place_word(place: Option<Place>) -> &'static str {
 
 /// The tree of a datastore's rows.
 #[tactic(auto, using(yp_base::specs::RowLaws::put_to_none, crate::proofs::Datastores::whole_is_datastore))]
-fn tree_of(alloc: Global, schema: &Schema, data: &Json) -> anyhow::Result<Tree>
+pub fn tree_of(alloc: Global, schema: &Schema, data: &Json) -> anyhow::Result<Tree>
     ensures { IfOk result (λ tree. IsDatastore schema.now tree) }
 {
     let top = Path::from_vec(Vec::new(alloc));
@@ -155,6 +155,7 @@ fn refusal(alloc: Global, fault: EditFault) -> anyhow::Result<String> {
 }
 
 /// The rows that a patch changed, and the data after it.
+#[tactic(auto, using(crate::proofs::Datastores::datastore_is_writable))]
 fn outcome(alloc: Global, schema: &Schema, changed: &Changed, tree: Tree) -> anyhow::Result<String>
     requires { IsDatastore schema.now tree }
 {
@@ -169,10 +170,9 @@ fn outcome(alloc: Global, schema: &Schema, changed: &Changed, tree: Tree) -> any
     Ok(told)
 }
 
-/// The data of a datastore's rows.
-#[tactic(auto, using(crate::proofs::Datastores::datastore_is_writable))]
-fn data_of(alloc: Global, schema: &Schema, rows: &Rows) -> anyhow::Result<String>
-    requires { IsDatastore schema.now rows.now }
+/// The data of rows.
+pub fn data_of(alloc: Global, schema: &Schema, rows: &Rows) -> anyhow::Result<String>
+    requires { AreWritable schema.now [] rows.now }
 {
     let top = Path::from_vec(Vec::new(alloc));
     Ok(write_rows(alloc, schema, &top, rows)?.to_string(alloc)?)

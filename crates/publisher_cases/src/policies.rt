@@ -140,13 +140,13 @@ fn subject_word(subject: &Subject) -> &'static str {
 }
 
 /// What of the policy decides on the reading of a case's user.
-fn own_rules(alloc: Global, setting: &Setting, arguments: &Json) -> anyhow::Result<UserRules> {
+pub fn own_rules(alloc: Global, setting: &Setting, arguments: &Json) -> anyhow::Result<UserRules> {
     let user = text(part(arguments, "user")?)?;
     Ok(compile(alloc, &setting.policy, user)?)
 }
 
 /// The path of a case's target.
-fn path_of(alloc: Global, setting: &Setting, arguments: &Json) -> anyhow::Result<Path>
+pub fn path_of(alloc: Global, setting: &Setting, arguments: &Json) -> anyhow::Result<Path>
     ensures { IfOk result (λ path. is_path_of setting.now.schema path ≡ true) }
 {
     let target = text(part(arguments, "path")?)?;
