@@ -1,6 +1,6 @@
 -- What each status tells a caller follows from the one relation of a call.
 use Rattle.std.proofs.Common.{◌≡◌, ℕ, ◌+◌, true, true≢false, List, [], Option, Some, None, drop, Result, Ok, Err, refl, sym, ap, ◌∙◌, subst}
-use Rattle.std.specs.Prelude.{IfSome, ◌++◌}
+use Rattle.std.specs.Prelude.{IfSome}
 use Rattle.yp_script.specs.declared.fault.ScriptKind.{ScriptKind}
 use Rattle.yp_script.specs.declared.script.Script.{Script}
 use Rattle.push_program.specs.declared.top.Status.{Status}
@@ -9,7 +9,7 @@ use Rattle.push_program.specs.Answers.{Streams, Answers, WritesTold, WritesPrefi
 use Rattle.yp_script.specs.Faults.{LineFault}
 use Rattle.yp_script.specs.Lines.{byte_limit}
 use Rattle.yp_script.specs.Script.{script_in}
-use Rattle.yp_script.proofs.Limits.{nothing_behind}
+use Rattle.yp_script.specs.LimitLaws.{nothing_behind}
 
 pub words_told : (words : List (List ℕ)) (s : Streams) (status : Status) → Answers words s status → tells_good_words status ≡ is_run words
 words_told words s Done h = sym h.0

@@ -1,5 +1,5 @@
 -- What was read and written, in the words of a script and its report.
-use Rattle.std.proofs.Common.{◌≡◌, ℕ, ◌+◌, zero, suc, List, [], ◌∷◌, ◌++◌, take, drop, Bool, Option, Some, None, Result, Ok, refl, sym, ap, ◌∙◌, subst}
+use Rattle.std.proofs.Common.{◌≡◌, ℕ, ◌+◌, zero, suc, List, [], ◌∷◌, take, drop, Bool, Option, Some, None, Result, refl, sym, ap, ◌∙◌}
 use Rattle.std.specs.Prelude.{IfSome}
 use Rattle.yp_io.specs.Whole.{ReadsWhole, Appends, AppendsPrefix}
 use Rattle.yp_script.specs.declared.script.Script.{Script}
