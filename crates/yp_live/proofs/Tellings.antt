@@ -2,8 +2,6 @@
 use Rattle.std.proofs.Common.{◌≡◌, ℕ, ◌==◌, ◌||◌, Bool, true, false, true≢false, not, List, [], ◌∷◌, ◌++◌, map, refl, sym, ap, ◌∙◌, cond, arith}
 use Rattle.std.specs.Prelude.{filter}
 use Rattle.std.specs.List.{flat_map}
-use Rattle.std.proofs.lemmas.List.{map-append}
-use Rattle.std.proofs.lemmas.List.Elements.{filter-append}
 use Rattle.yp_base.specs.declared.notice.Notice.{Notice}
 use Rattle.yp_schema.specs.declared.schema.SchemaNode.{SchemaNode}
 use Rattle.yp_nacm.specs.declared.compile.UserRules.{UserRules}
@@ -15,7 +13,7 @@ use Rattle.yp_journal.specs.History.{JournalState, rules_at}
 use Rattle.yp_core.specs.declared.made.Made.{Made}
 use Rattle.yp_core.specs.AttemptLaws.{made_joined, made_mine}
 use Rattle.yp_core.specs.Steps.{changes_for, full_attempt, is_renewed}
-use Rattle.yp_core.specs.Updates.{Attempt, attempt_of, change_update, made_for}
+use Rattle.yp_core.specs.Updates.{Attempt, change_update, made_for}
 use Rattle.yp_live.specs.declared.told.Told.{Told}
 use Rattle.yp_live.specs.declared.told.Told.TheVariants.{Full, Changes}
 use Rattle.yp_live.specs.Desks.{updates_told, made_of, told_by, has_subscription, selected, renewed_by, record_from}
