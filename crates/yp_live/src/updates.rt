@@ -36,8 +36,14 @@ fn select<L: Ledger>(
 {
     let rules = moment.readers.rules(number);
     let all = Filter::All;
-    let selected = select_all(alloc, moment.schema, &all, rules, moment.state.tree(), steps)?;
-    Ok(selected)
+    select_all(
+        alloc,
+        moment.schema,
+        &all,
+        rules,
+        moment.state.tree(),
+        steps,
+    )
 }
 
 /// Sends a receiver all that a new subscription of it selects.
