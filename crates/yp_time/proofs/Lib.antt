@@ -2,5 +2,4 @@ pub mod Clocks
 pub mod Dates
 pub mod DayNumbers
 pub mod DaysInOrder
-pub mod Multiples
 pub mod Written

@@ -11,5 +11,6 @@ mod clock;
 pub mod due;
 mod form;
 pub mod instant;
+pub mod laws;
 pub mod start;
 pub mod writing;

@@ -1,7 +1,7 @@
 -- The tick is the definition's, which is due; less than a period from the beginning on it is the first.
 use Rattle.std.proofs.Common.{rules, arith, ◌+◌, unsigned_abs, to_z, of_z, w64}
 use Rattle.yp_time.specs.Due.{next_due_of}
-use Rattle.yp_time.proofs.Multiples.{due_at, first_is}
+use Rattle.yp_time.specs.DueLaws.{due_at, first_is}
 use Rattle.yp_time.proofs.due.next_due.Goals as goal
 
 pub returns-clause-due : goal.returns-clause-due

@@ -1,11 +1,11 @@
--- Whole multiples of a period, counted from an anchor.
+-- What follows of due ticks: whole multiples of a period, counted from an anchor.
 use Rattle.std.proofs.Common.{◌≡◌, ℕ, ◌+◌, ◌*◌, ◌<◌, ◌≤◌, arith, ap, ℤ, pos, negsuc, neg_ℤ, ◌+ℤ◌, ◌-ℤ◌, ◌*ℤ◌}
 use Rattle.std.specs.Int.{int_div_euclid}
 use Rattle.jiff_core.proofs.SignedLemmas.{signed_arith, int_rem_euclid-parts}
 use borrow.Author.Differences.{up, down, neg_is}
 use Rattle.yp_time.specs.Due.{IsDue, next_due_of}
 
--- what is added to reach a multiple leaves one
+-- the next due tick is due
 pub due_is : (anchor : ℤ) (period from : ℕ) → 0 < period → IsDue anchor period (next_due_of anchor period from)
 unfolding next_due_of
 due_is anchor period from some =
@@ -31,3 +31,18 @@ first_is anchor period from next tick (q, here) near late (k, there) =
 
 pub due_at : (anchor : ℤ) (period from next : ℕ) → next ≡ next_due_of anchor period from → 0 < period → IsDue anchor period next
 due_at anchor period from next same some = rw same (due_is anchor period from some)
+
+-- it isn't before the tick that it is looked for from
+pub not_before : (anchor : ℤ) (period from : ℕ) → from ≤ next_due_of anchor period from
+unfolding next_due_of
+not_before anchor period from = omega arith
+
+-- and is less than a period past it
+near_is : (anchor : ℤ) (period from : ℕ) → 0 < period → next_due_of anchor period from < from + period
+unfolding next_due_of
+near_is anchor period from some = omega (arith, signed_arith, int_rem_euclid-parts (anchor -ℤ pos from) period some)
+
+-- so it is the first one from there on
+pub first_due : (anchor : ℤ) (period from tick : ℕ) → 0 < period → from ≤ tick → IsDue anchor period tick → next_due_of anchor period from ≤ tick
+first_due anchor period from tick some late due =
+    first_is anchor period from (next_due_of anchor period from) tick (due_is anchor period from some) (near_is anchor period from some) late due
