@@ -19,9 +19,9 @@ use Rattle.yp_filter.specs.declared.fault.FilterFault.{FilterFault}
 use Rattle.yp_filter.specs.declared.fault.FilterFault.TheVariants.{Value as BadValue}
 use Rattle.yp_filter.specs.declared.naming.Place.{Place}
 use Rattle.yp_filter.specs.declared.naming.Place.TheVariants.{Children, Nowhere}
-use Rattle.yp_filter.specs.Filters.{Node, compare}
-use Rattle.yp_filter.specs.Fits.{is_child_of, node_fits, set_fits}
-use Rattle.yp_filter.specs.Reading.{named_by, place_below, selection, atom_asked, content_match, of_object, some_items, only, joined, set_in, member_in, items_in, item_in}
+use Rattle.yp_filter.specs.Filters.{Node, compare, Asked, of_set}
+use Rattle.yp_filter.specs.Fits.{is_child_of, node_fits, set_fits, filter_fits}
+use Rattle.yp_filter.specs.Reading.{named_by, place_below, selection, atom_asked, content_match, of_object, some_items, only, joined, set_in, member_in, items_in, item_in, asked_by as filter_by, filter_in}
 use Rattle.yp_filter.specs.View.{nodes_of}
 
 -- ---- what a name names
@@ -183,3 +183,19 @@ module _ (nodes : List SchemaNode) where
 -- the set of a filter that is read
 pub read_set_fits : (nodes : List SchemaNode) (room : ℕ) (ms : Members) (list : List Node) → set_in nodes room (Children None) ms ≡ Ok list → set_fits nodes None (nodes_of list) ≡ true
 read_set_fits nodes room ms list e = subst (λ (read : Result (List Node) FilterFault). ListFits nodes None read) e (set_read_fits nodes room (Children None) ms)
+
+-- what is read of members, as a filter
+members_fit : (nodes : List SchemaNode) (read : Result (List Node) FilterFault) (asked : Asked) → ListFits nodes None read → filter_by read ≡ Ok asked → filter_fits nodes asked ≡ true
+members_fit nodes (Ok list) asked fits e =
+    let same : of_set (nodes_of list) ≡ asked = cc in
+    subst (λ (a : Asked). filter_fits nodes a ≡ true) same fits
+members_fit nodes (Err fault) asked fits e = let no : ⊥ = cc in absurd no
+
+-- a filter that is read
+pub read_filter_fits : (nodes : List SchemaNode) (json : Data) (asked : Asked) → filter_in nodes json ≡ Ok asked → filter_fits nodes asked ≡ true
+read_filter_fits nodes null asked e = let no : ⊥ = cc in absurd no
+read_filter_fits nodes (boolean b) asked e = let no : ⊥ = cc in absurd no
+read_filter_fits nodes (number x) asked e = let no : ⊥ = cc in absurd no
+read_filter_fits nodes (string s) asked e = let no : ⊥ = cc in absurd no
+read_filter_fits nodes (array ds) asked e = let no : ⊥ = cc in absurd no
+read_filter_fits nodes (object ms) asked e = members_fit nodes (set_in nodes 15 (Children None) ms) asked (set_read_fits nodes 15 (Children None) ms) e

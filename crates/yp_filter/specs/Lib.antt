@@ -3,4 +3,5 @@ pub mod View
 pub mod ViewLaws
 pub mod Fits
 pub mod Reading
+pub mod Same
 pub mod Counts

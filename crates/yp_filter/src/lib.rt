@@ -9,6 +9,8 @@
 mod comparing;
 pub mod fault;
 pub mod filter;
+pub mod laws;
 mod naming;
 mod reading;
+pub mod same;
 mod sizes;
