@@ -1,12 +1,13 @@
 -- What an establishment that no reason speaks against leaves.
 use Rattle.std.proofs.Common.{◌≡◌, ℕ, ◌+◌, ◌<◌, ◌≤◌, ◌∷◌, [], List, ◌++◌, length, Bool, true, false, Option, Some, None, Ok, Err, refl, arith, sym, ap}
-use Rattle.std.specs.Prelude.{nat_lt, if◌then◌else◌}
+use Rattle.std.specs.Prelude.{nat_lt, if◌then◌else◌, Result, unwrap_or}
 use Rattle.std.specs.List.{AllByRecursion}
 use Rattle.std.proofs.lemmas.Bool.{or_parts, ltb-false}
 use Rattle.std.proofs.lemmas.Int.{ints}
 use Rattle.yp_base.specs.declared.notice.Trigger.{Trigger}
 use Rattle.yp_base.specs.declared.notice.Trigger.TheVariants.{Periodic, OnChange}
-use Rattle.yp_filter.specs.Filters.{Asked}
+use Rattle.yp_filter.specs.declared.fault.FilterFault.{FilterFault}
+use Rattle.yp_filter.specs.Filters.{Asked, all_rows}
 use Rattle.yp_filter.specs.Fits.{filter_fits}
 use Rattle.yp_nacm.specs.declared.policy.Policy.{Policy}
 use Rattle.yp_schema.specs.declared.schema.SchemaNode.{SchemaNode}
@@ -14,8 +15,9 @@ use Rattle.yp_time.specs.Ticks.{tick_limit}
 use Rattle.yp_registry.specs.declared.ask.Ask.{Ask}
 use Rattle.yp_registry.specs.declared.refused.Refused.{Refused}
 use Rattle.yp_registry.specs.declared.refused.Refused.TheVariants.{AccessDenied, EncodingUnsupported, DatastoreNotSubscribable, FilterUnsupported, PeriodUnsupported, InsufficientResources, Memory}
-use Rattle.yp_registry.specs.Terms.{Terms, AreTermsOf, HasAnchor, IsFollowed, is_too_short, with_anchor}
-use Rattle.yp_registry.specs.Registry.{Subscriptions, Reason, Fails, first_refusal, reasons_against, or_refused, lacks_room, most_feeds, last_id, next_id, feeds, asked_for, terms_for, with_terms, established, after_refusal, establish_answer, IsRegistryOf}
+use Rattle.yp_registry.specs.declared.ask.FilterAsk.{FilterAsk}
+use Rattle.yp_registry.specs.Terms.{Terms, AreTermsOf, HasAnchor, IsFollowed, if_read, is_too_short, with_anchor}
+use Rattle.yp_registry.specs.Registry.{Subscriptions, Reason, Fails, first_refusal, reasons_against, or_refused, lacks_room, no_subscriptions, most_feeds, last_id, next_id, feeds, asked_for, terms_for, with_terms, established, after_refusal, establish_answer, IsRegistryOf}
 use Rattle.yp_registry.proofs.Feeds.{feeds_pushed}
 
 -- ---- answers
@@ -78,7 +80,7 @@ all_push P (y ∷ ys) x all one = (all.0, all_push P ys x all.1 one)
 module _ (nodes : List SchemaNode) (policy : Policy) (registry : Subscriptions) (by : ℕ) (ask : Ask) (now : ℕ) where
   given_terms : is_too_short ask.trigger ≡ false → by < length registry.users → HasAnchor ask.trigger → now ≤ tick_limit → filter_fits nodes (asked_for nodes ask.filter) ≡ true
       → AreTermsOf nodes (length registry.users) (terms_for nodes registry by ask now)
-  given_terms long there anchor late fits = record { filter = fits; trigger = followed ask.trigger now long anchor late; receivers = (there, tt) }
+  given_terms long there anchor late fits = record { filter = fits; trigger = followed ask.trigger now long anchor late; receivers = (there, tt); in_order = λ k within. absurd (omega (arith, within)) }
 
   -- terms of the next id, of what the filter says and of the trigger with its anchor are those that are given
   pub terms_are : (terms : Terms) (id : ℕ) (asked : Asked) (trigger : Trigger) → terms ≡ record { id = id; receivers = by ∷ []; configured = false; asked = asked; trigger = trigger }
@@ -104,3 +106,41 @@ module _ (nodes : List SchemaNode) (policy : Policy) (registry : Subscriptions) 
         room = omega (arith, more, room.0);
         ids = omega (arith, room.1);
       }
+
+-- ---- all calls
+
+-- what is read without a fault fits the schema where it does so for each reading
+pub read_fits : (nodes : List SchemaNode) (read : Result Asked FilterFault) → ((asked : Asked) → read ≡ Ok asked → filter_fits nodes asked ≡ true) → filter_fits nodes (unwrap_or (if_read read) all_rows) ≡ true
+read_fits nodes (Ok asked) fits = fits asked refl
+read_fits nodes (Err fault) fits = refl
+
+-- the law that is rested on: what a filter that is asked for says fits the schema
+abbrev pub AskedFiltersFit : Type 0
+AskedFiltersFit = (nodes : List SchemaNode) (filter : FilterAsk) → filter_fits nodes (asked_for nodes filter) ≡ true
+
+-- a registry without subscriptions is one of each schema
+pub first_kept : (nodes : List SchemaNode) (users names : List (List ℕ)) → IsRegistryOf nodes (no_subscriptions users names)
+first_kept nodes users names = record { terms = tt; room = omega arith; ids = omega arith }
+
+pub registry_kept : AskedFiltersFit → (nodes : List SchemaNode) (policy : Policy) (registry : Subscriptions) (by : ℕ) (ask : Ask) (now : ℕ) → by < length registry.users → HasAnchor ask.trigger → now ≤ tick_limit
+    → IsRegistryOf nodes registry → IsRegistryOf nodes (established nodes policy registry by ask now)
+registry_kept fit nodes policy registry by ask now there anchor late is =
+    let new : Terms = terms_for nodes registry by ask now in
+    let refusal : Option Refused = first_refusal (reasons_against nodes policy registry by ask) in
+    elim refusal as (λ (refused : Option Refused). refusal ≡ refused → IsRegistryOf nodes (after_refusal refused registry new)) [
+      | Some refused ↦ λ found. is
+      | None ↦ λ free. terms_kept nodes policy registry by ask now free there anchor late (fit nodes ask.filter) is
+    ] refl
+
+module _ (nodes : List SchemaNode) (policy : Policy) (registry : Subscriptions) (by : ℕ) (ask : Ask) (now : ℕ) where
+  pub users_stay : (established nodes policy registry by ask now).users ≡ registry.users
+  users_stay = elim (first_refusal (reasons_against nodes policy registry by ask)) as (λ (refused : Option Refused). (after_refusal refused registry (terms_for nodes registry by ask now)).users ≡ registry.users) [
+    | Some refused ↦ refl
+    | None ↦ refl
+  ]
+
+  pub names_stay : (established nodes policy registry by ask now).names ≡ registry.names
+  names_stay = elim (first_refusal (reasons_against nodes policy registry by ask)) as (λ (refused : Option Refused). (after_refusal refused registry (terms_for nodes registry by ask now)).names ≡ registry.names) [
+    | Some refused ↦ refl
+    | None ↦ refl
+  ]

@@ -1,6 +1,7 @@
 -- What a subscription is asked for and what it is given (RFC 8639 section 2.4.2, RFC 8641 section 4.4.1).
 use Rattle.std.specs.Prelude.{◌≡◌, ◌≤◌, ◌<◌, ℕ, ℤ, pos, List, Bool, true, false, ◌||◌, nat_lt, Option, Some, None, Result, Ok, Err, codes}
 use Rattle.std.specs.List.{AllByRecursion}
+use Rattle.std.specs.List.Sorted.{IsStrictlyIncreasing}
 use Rattle.yp_base.specs.declared.notice.Trigger.{Trigger}
 use Rattle.yp_base.specs.declared.notice.Trigger.TheVariants.{Periodic, OnChange}
 use Rattle.yp_base.specs.Types.{same_text}
@@ -73,11 +74,12 @@ IsFollowed (Periodic period (Some anchor)) = shortest_period ≤ period × IsAnc
 IsFollowed (Periodic period None) = ⊥
 IsFollowed (OnChange dampening sync excluded) = Unit {0}
 
--- terms of a schema with so many receivers: the filter fits the schema, the trigger can be followed, and each receiver is there
+-- terms of a schema with so many receivers: the filter fits the schema, the trigger can be followed, each receiver is there, and they are in the order of their declaration, so none stands twice
 pub record AreTermsOf (nodes : List SchemaNode) (count : ℕ) (terms : Terms) : Type 0 where
   pub filter : filter_fits nodes terms.asked ≡ true
   pub trigger : IsFollowed terms.trigger
   pub receivers : AllByRecursion (λ receiver. receiver < count) terms.receivers
+  pub in_order : IsStrictlyIncreasing terms.receivers
 
 -- ---- what can be asked
 

@@ -1,11 +1,15 @@
 //! Laws of the registry, which the definitions keep; nothing runs.
-ghost use Rattle.std.specs.Prelude.{◌≡◌, ◌≢◌, ◌+◌, ◌<◌, ◌≤◌, ℕ, List};
+ghost use Rattle.std.specs.Prelude.{◌≡◌, ◌≢◌, ◌+◌, ◌<◌, ◌≤◌, ℕ, List, length};
 ghost use Rattle.yp_nacm.specs.declared.policy.Policy.{Policy};
 ghost use Rattle.yp_schema.specs.declared.schema.SchemaNode.{SchemaNode};
 ghost use Rattle.yp_registry.specs.declared.ask.Ask.{Ask};
 ghost use Rattle.yp_registry.specs.declared.refused.Refused.{Refused};
 ghost use Rattle.yp_registry.specs.Ids.{HasRisingIds};
-ghost use Rattle.yp_registry.specs.Registry.{Subscriptions, establish_answer, established, live_at, next_id, no_subscriptions, terms_for};
+ghost use Rattle.yp_registry.specs.Registry.{IsRegistryOf, Subscriptions, establish_answer, established, live_at, next_id, no_subscriptions, terms_for};
+ghost use Rattle.yp_registry.specs.Terms.{HasAnchor};
+ghost use Rattle.yp_time.specs.Ticks.{tick_limit};
+
+use yp_filter::laws::a_filter_that_is_read_fits;
 
 /// The ids of the live subscriptions rise from the first call on.
 pub fn ids_rise()
@@ -37,4 +41,23 @@ pub fn an_establishment_adds_one_subscription()
 pub fn a_refusal_leaves_the_registry()
     ensures { (nodes : List SchemaNode) (policy : Policy) (registry : Subscriptions) (by : ℕ) (ask : Ask) (now : ℕ) (refusal : Refused)
         → establish_answer nodes policy registry by ask now ≡ Err refusal → established nodes policy registry by ask now ≡ registry }
+{}
+
+/// A registry without subscriptions is one of each schema, and an establishment, refused or not, leaves a
+/// registry of the schema one.
+pub fn an_establishment_keeps_a_registry()
+    ensures first { (nodes : List SchemaNode) (users names : List (List ℕ)) → IsRegistryOf nodes (no_subscriptions users names) }
+    ensures kept { (nodes : List SchemaNode) (policy : Policy) (registry : Subscriptions) (by : ℕ) (ask : Ask) (now : ℕ)
+        → by < length registry.users → HasAnchor ask.trigger → now ≤ tick_limit → IsRegistryOf nodes registry
+        → IsRegistryOf nodes (established nodes policy registry by ask now) }
+{
+    a_filter_that_is_read_fits();
+}
+
+/// An establishment, refused or not, leaves the receivers as they were declared.
+pub fn an_establishment_leaves_the_receivers()
+    ensures users { (nodes : List SchemaNode) (policy : Policy) (registry : Subscriptions) (by : ℕ) (ask : Ask) (now : ℕ)
+        → (established nodes policy registry by ask now).users ≡ registry.users }
+    ensures names { (nodes : List SchemaNode) (policy : Policy) (registry : Subscriptions) (by : ℕ) (ask : Ask) (now : ℕ)
+        → (established nodes policy registry by ask now).names ≡ registry.names }
 {}
