@@ -4,16 +4,18 @@ use Rattle.std.specs.Prelude.{codes, decimal}
 use Rattle.std.specs.List.{list_all}
 use Rattle.std.proofs.lemmas.List.{drop_all}
 use Rattle.json.specs.Print.{escape_byte, quoted}
-use Rattle.serde_json.specs.Data.{Data, no_members, member}
+use Rattle.serde_json.specs.Data.{Data, no_members}
 use Rattle.serde_json.specs.Written.{compact_text, comma_if, items_text, members_text}
 use Rattle.yp_base.specs.declared.notice.Change.{Change}
 use Rattle.yp_base.specs.declared.notice.Notice.{Notice}
+use Rattle.yp_base.specs.declared.notice.Notice.TheVariants.{Full, Changes}
+use Rattle.yp_base.specs.declared.row.Row.{Row}
 use Rattle.yp_schema.specs.declared.schema.SchemaNode.{SchemaNode}
 use Rattle.yp_path.specs.Targets.{target_text}
 use Rattle.yp_data_json.specs.Writing.{rows_json}
 use Rattle.yp_time.specs.Instants.{event_text}
 use Rattle.yp_encode.specs.Lines.{operation_word, carries_value, value_member, edit_data, edits_from, mark, patch_data, id_member, reason_member, name_of, body_of, line_of}
-use Rattle.yp_encode.specs.Texts.{stands_for_itself, head_text}
+use Rattle.yp_encode.specs.Texts.{stands_for_itself, head_text, opening_text, full_text, changes_text}
 use Rattle.yp_encode.proofs.Edits.{left_at}
 use Rattle.yp_encode.proofs.Plain.{quoted_plain}
 
@@ -121,17 +123,6 @@ reason_told n reason old s1 s2 new first second third =
     (both old (codes "\"id\":" ++ decimal n) (codes ",\"reason\":" ++ quoted reason) s1 s2 first second) third
     ∙ ap (put_in old) (reason_text n reason)
 
-full_text : (d : Data) (n : ℕ) → ((codes "\"datastore-contents\":" ++ compact_text d) ++ (codes ",\"id\":" ++ decimal n)) ++ codes "}" ≡ members_text false (member (codes "datastore-contents") d (id_member n no_members))
-unfolding escape_byte
-full_text d n = ap (λ (x : List ℕ). codes "\"datastore-contents\":" ++ x) (append_assoc (compact_text d) (codes ",\"id\":" ++ decimal n) (codes "}"))
-
-pub full_told : (v d : Data) (n : ℕ) (old s1 s2 new : List ℕ) → v ≡ d → s1 ≡ old ++ (codes "\"datastore-contents\":" ++ compact_text v) → s2 ≡ s1 ++ (codes ",\"id\":" ++ decimal n) → new ≡ s2 ++ codes "}"
-    → new ≡ old ++ members_text false (member (codes "datastore-contents") d (id_member n no_members))
-full_told v d n old s1 s2 new is first second third =
-    both old ((codes "\"datastore-contents\":" ++ compact_text d) ++ (codes ",\"id\":" ++ decimal n)) (codes "}") s2 new
-    (both old (codes "\"datastore-contents\":" ++ compact_text d) (codes ",\"id\":" ++ decimal n) s1 s2 (first ∙ ap (λ (x : Data). old ++ (codes "\"datastore-contents\":" ++ compact_text x)) is) second) third
-    ∙ ap (put_in old) (full_text d n)
-
 patch_text : (nodes : List SchemaNode) (p : ℕ) (changes : List Change)
     → ((codes "{\"yang-patch\":{\"edit\":[" ++ items_text false (edits_from nodes 1 changes)) ++ (codes ",\"patch-id\":" ++ quoted (decimal p))) ++ codes "}}" ≡ compact_text (patch_data nodes p changes)
 unfolding escape_byte
@@ -152,50 +143,59 @@ patch_told nodes p changes old s1 s2 s3 new first second third fourth =
     both old ((a ++ b) ++ c) (codes "}}") s3 new (both old (a ++ b) c s2 s3 (both old a b s1 s2 first second) third) fourth
     ∙ ap (put_in old) (patch_text nodes p changes)
 
-changes_text : (patch : Data) (n : ℕ) (incomplete : Bool)
-    → ((codes "\"datastore-changes\":" ++ compact_text patch) ++ (codes ",\"id\":" ++ decimal n)) ++ members_text true (mark incomplete) ≡ members_text false (member (codes "datastore-changes") patch (id_member n (mark incomplete)))
-unfolding escape_byte
-changes_text patch n incomplete = ap (λ (x : List ℕ). codes "\"datastore-changes\":" ++ x) (append_assoc (compact_text patch) (codes ",\"id\":" ++ decimal n) (members_text true (mark incomplete)))
+pub full_told : (contents : List ℕ) (n : ℕ) (old s1 s2 s3 new : List ℕ) → s1 ≡ old ++ codes "\"datastore-contents\":" → s2 ≡ s1 ++ contents → s3 ≡ s2 ++ (codes ",\"id\":" ++ decimal n) → new ≡ s3 ++ codes "}"
+    → new ≡ old ++ full_text contents n
+full_told contents n old s1 s2 s3 new first second third fourth =
+    let a = codes "\"datastore-contents\":" in
+    let b = codes ",\"id\":" ++ decimal n in
+    both old ((a ++ contents) ++ b) (codes "}") s3 new (both old (a ++ contents) b s2 s3 (both old a contents s1 s2 first second) third) fourth
+    ∙ ap (λ (x : List ℕ). old ++ (a ++ x)) (append_assoc contents b (codes "}"))
 
-pub changes_told : (patch : Data) (n : ℕ) (incomplete : Bool) (end old s1 s2 s3 new : List ℕ) → end ≡ members_text true (mark incomplete) → s1 ≡ old ++ codes "\"datastore-changes\":" → s2 ≡ s1 ++ compact_text patch
-    → s3 ≡ s2 ++ (codes ",\"id\":" ++ decimal n) → new ≡ s3 ++ end → new ≡ old ++ members_text false (member (codes "datastore-changes") patch (id_member n (mark incomplete)))
+pub full_body : (nodes : List SchemaNode) (n : ℕ) (rows : List Row) (contents : List ℕ) → contents ≡ compact_text (rows_json nodes [] rows) → full_text contents n ≡ members_text false (body_of nodes (Full n rows))
+unfolding escape_byte
+full_body nodes n rows contents is = ap (λ (x : List ℕ). full_text x n) is
+
+pub changes_told : (patch : List ℕ) (n : ℕ) (incomplete : Bool) (end old s1 s2 s3 new : List ℕ) → end ≡ members_text true (mark incomplete) → s1 ≡ old ++ codes "\"datastore-changes\":" → s2 ≡ s1 ++ patch
+    → s3 ≡ s2 ++ (codes ",\"id\":" ++ decimal n) → new ≡ s3 ++ end → new ≡ old ++ changes_text patch n incomplete
 changes_told patch n incomplete end old s1 s2 s3 new end_is first second third fourth =
     let a = codes "\"datastore-changes\":" in
-    let b = compact_text patch in
-    let c = codes ",\"id\":" ++ decimal n in
+    let b = codes ",\"id\":" ++ decimal n in
     let m = members_text true (mark incomplete) in
-    both old ((a ++ b) ++ c) m s3 new (both old (a ++ b) c s2 s3 (both old a b s1 s2 first second) third) (fourth ∙ ap (put_in s3) end_is)
-    ∙ ap (put_in old) (changes_text patch n incomplete)
+    both old ((a ++ patch) ++ b) m s3 new (both old (a ++ patch) b s2 s3 (both old a patch s1 s2 first second) third) (fourth ∙ ap (put_in s3) end_is)
+    ∙ ap (λ (x : List ℕ). old ++ (a ++ x)) (append_assoc patch b m)
+
+pub changes_body : (nodes : List SchemaNode) (n p : ℕ) (changes : List Change) (incomplete : Bool) (patch : List ℕ) → patch ≡ compact_text (patch_data nodes p changes)
+    → changes_text patch n incomplete ≡ members_text false (body_of nodes (Changes n p changes incomplete))
+unfolding escape_byte
+changes_body nodes n p changes incomplete patch is = ap (λ (x : List ℕ). changes_text x n incomplete) is
 
 -- ---- lines
 
 abbrev opening : List ℕ
 opening = codes "{\"ietf-restconf:notification\":{\"eventTime\":"
 
-regroup : (q r b : List ℕ) → (q ++ 44 ∷ (r ++ 58 ∷ 123 ∷ b)) ++ codes "}}" ≡ (q ++ 44 ∷ (r ++ 58 ∷ 123 ∷ (b ++ codes "}"))) ++ codes "}"
+pub opening_told : (start tick : ℕ) (name time old s1 s2 new : List ℕ) → time ≡ event_text start tick → s1 ≡ old ++ (opening ++ quoted time) → s2 ≡ s1 ++ (codes "," ++ quoted name) → new ≡ s2 ++ codes ":{"
+    → new ≡ old ++ opening_text start tick name
+opening_told start tick name time old s1 s2 new is first second third =
+    let q = quoted (event_text start tick) in
+    let r = codes "," ++ quoted name in
+    both old ((opening ++ q) ++ r) (codes ":{") s2 new (both old (opening ++ q) r s1 s2 (first ∙ ap (λ (x : List ℕ). old ++ (opening ++ quoted x)) is) second) third
+    ∙ ap (λ (x : List ℕ). old ++ (opening ++ x)) (append_assoc q r (codes ":{"))
+
+regroup : (q r b : List ℕ) → ((q ++ 44 ∷ (r ++ codes ":{")) ++ b) ++ codes "}}" ≡ (q ++ 44 ∷ (r ++ 58 ∷ 123 ∷ (b ++ codes "}"))) ++ codes "}"
 regroup q r b = simp append_assoc
 
 line_text : (nodes : List SchemaNode) (start tick : ℕ) (notice : Notice)
-    → ((((opening ++ quoted (event_text start tick)) ++ (codes "," ++ quoted (name_of notice))) ++ codes ":{") ++ members_text false (body_of nodes notice)) ++ codes "}}" ≡ line_of nodes start tick notice
+    → (opening_text start tick (name_of notice) ++ members_text false (body_of nodes notice)) ++ codes "}}" ≡ line_of nodes start tick notice
 unfolding escape_byte
 line_text nodes start tick notice =
-    let q = quoted (event_text start tick) in
-    let r = quoted (name_of notice) in
-    let b = members_text false (body_of nodes notice) in
-    ap (λ (x : List ℕ). opening ++ (x ++ codes "}}")) (inner q r b) ∙ ap (λ (x : List ℕ). opening ++ x) (regroup q r b)
-  where
-    inner : (q r b : List ℕ) → ((q ++ (codes "," ++ r)) ++ codes ":{") ++ b ≡ q ++ 44 ∷ (r ++ 58 ∷ 123 ∷ b)
-    inner q r b = simp append_assoc
+    ap (λ (x : List ℕ). opening ++ x) (regroup (quoted (event_text start tick)) (quoted (name_of notice)) (members_text false (body_of nodes notice)))
 
-pub line_told : (nodes : List SchemaNode) (start tick : ℕ) (notice : Notice) (time name none s1 s2 s3 s4 new : List ℕ) → none ≡ [] → time ≡ event_text start tick → name ≡ name_of notice
-    → s1 ≡ none ++ (opening ++ quoted time) → s2 ≡ s1 ++ (codes "," ++ quoted name) → s3 ≡ s2 ++ codes ":{" → s4 ≡ s3 ++ members_text false (body_of nodes notice) → new ≡ s4 ++ codes "}}"
-    → new ≡ line_of nodes start tick notice
-line_told nodes start tick notice time name none s1 s2 s3 s4 new none_is time_is name_is first second third fourth fifth =
-    let a = opening ++ quoted (event_text start tick) in
-    let b = codes "," ++ quoted (name_of notice) in
-    let c = codes ":{" in
-    let d = members_text false (body_of nodes notice) in
-    let begin : s1 ≡ [] ++ a = first ∙ ap (λ (x : List ℕ). x ++ (opening ++ quoted time)) none_is ∙ ap (λ (x : List ℕ). opening ++ quoted x) time_is in
-    let named : s2 ≡ s1 ++ b = second ∙ ap (λ (x : List ℕ). s1 ++ (codes "," ++ quoted x)) name_is in
-    both [] (((a ++ b) ++ c) ++ d) (codes "}}") s4 new (both [] ((a ++ b) ++ c) d s3 s4 (both [] (a ++ b) c s2 s3 (both [] a b s1 s2 begin named) third) fourth) fifth
-    ∙ line_text nodes start tick notice
+-- a line is told part by part
+pub line_told : (nodes : List SchemaNode) (start tick : ℕ) (notice : Notice) (name body old s1 s2 new : List ℕ) → name ≡ name_of notice → body ≡ members_text false (body_of nodes notice)
+    → s1 ≡ old ++ opening_text start tick name → s2 ≡ s1 ++ body → new ≡ s2 ++ codes "}}" → new ≡ old ++ line_of nodes start tick notice
+line_told nodes start tick notice name body old s1 s2 new name_is body_is first second third =
+    let a = opening_text start tick (name_of notice) in
+    let b = members_text false (body_of nodes notice) in
+    both old (a ++ b) (codes "}}") s2 new (both old a b s1 s2 (first ∙ ap (λ (x : List ℕ). old ++ opening_text start tick x) name_is) (second ∙ ap (put_in s1) body_is)) third
+    ∙ ap (put_in old) (line_text nodes start tick notice)

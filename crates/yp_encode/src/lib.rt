@@ -5,4 +5,6 @@
 //! RFC 8639 section 2.7, RFC 8072 section 2 and RFC 8040 section 6.4, in the JSON of RFC 7951.
 #![tactic(auto)]
 
+pub mod contents;
 pub mod line;
+mod parts;

@@ -1,195 +1,27 @@
 //! The line of a notification.
-ghost use Rattle.std.specs.List.{AllByRecursion, list_all};
-ghost use Rattle.std.specs.Prelude.{◌≡◌, ◌<◌, ◌≤◌, ◌^◌, ◌++◌, [], length, IfOk, OnOk, codes, decimal, false, true, string_bytes};
-ghost use Rattle.json.specs.Print.{quoted};
-ghost use Rattle.serde_json.specs.Data.{no_members, member};
-ghost use Rattle.serde_json.specs.View.{view};
-ghost use Rattle.serde_json.specs.Written.{has_float, compact_text, comma_if, items_text, members_text};
+ghost use Rattle.std.specs.Prelude.{◌≡◌, ◌≤◌, ◌++◌, ℕ, List, [], IfOk, OnOk, false, true, string_bytes};
+ghost use Rattle.serde_json.specs.Data.{no_members};
+ghost use Rattle.serde_json.specs.Written.{compact_text, members_text};
+ghost use Rattle.yp_base.specs.declared.notice.Change.{Change};
+ghost use Rattle.yp_base.specs.declared.notice.Notice.{Notice};
+ghost use Rattle.yp_base.specs.declared.notice.Notice.TheVariants.{Full, Changes as ChangesNotice};
+ghost use Rattle.yp_base.specs.declared.row.Row.{Row};
+ghost use Rattle.yp_schema.specs.declared.schema.SchemaNode.{SchemaNode};
 ghost use Rattle.yp_data_json.specs.Writing.{rows_json};
-ghost use Rattle.yp_schema.specs.Datastore.{is_path_of, AreWritable};
 ghost use Rattle.yp_time.specs.Ticks.{tick_limit};
-ghost use Rattle.yp_encode.specs.Lines.{operation_word, carries_value, edit_data, edits_from, mark, patch_data, name_of, body_of, id_member, reason_member, line_of};
-ghost use Rattle.yp_encode.specs.Texts.{stands_for_itself, head_text};
-ghost use Rattle.yp_encode.specs.Sendable.{IsSendable, IsSendableChange};
+ghost use Rattle.yp_encode.specs.Lines.{mark, patch_data, name_of, body_of, id_member, reason_member, line_of};
+ghost use Rattle.yp_encode.specs.Sendable.{IsSendable};
+ghost use Rattle.yp_encode.specs.Texts.{opening_text, full_text, changes_text};
 
-use serde_json::Value as Json;
-use std::alloc::{AllocError, Global};
+use crate::contents::{contents_text, patch_text};
+use crate::parts::{push_member, push_number};
+use std::alloc::Global;
 use yp_base::memory::NoMemory;
-use yp_base::notice::{Change, ChangeKind, Changes, Notice};
-use yp_base::path::Path;
-use yp_base::row::Rows;
+use yp_base::notice::Notice;
 use yp_base::txt::Txt;
-use yp_data_json::writing::write_rows;
-use yp_path::target::write_target;
 use yp_schema::schema::Schema;
 use yp_time::start::Start;
 use yp_time::writing::event_time;
-
-/// The name of an operation (RFC 8072 section 2.5).
-fn operation(kind: ChangeKind) -> &'static str
-    ensures { result.now ≡ operation_word kind }
-{
-    match kind {
-        ChangeKind::Create => "create",
-        ChangeKind::Delete => "delete",
-        ChangeKind::Insert => "insert",
-        ChangeKind::Move => "move",
-        ChangeKind::Replace => "replace",
-    }
-}
-
-/// Whether each byte of a text stands for itself in a JSON string.
-fn is_plain(text: &[u8]) -> bool
-    ensures { result ≡ list_all stands_for_itself text.now }
-{
-    text.iter().all(|b| *b >= 32 && *b != b'"' && *b != b'\\')
-}
-
-/// Adds a text that has escapes as a JSON string.
-fn push_escaped(alloc: Global, text: &mut String, value: &str) -> Result<(), AllocError>
-    ensures { OnOk result (string_bytes text.new ≡ string_bytes text.old ++ quoted value.now) }
-{
-    let json = Json::try_from_str(alloc, value)?;
-    let json = json.to_string(alloc)?;
-    text.push_str(json.as_str())
-}
-
-/// Adds a text as a JSON string.
-fn push_string(alloc: Global, text: &mut String, value: &str) -> Result<(), AllocError>
-    ensures { OnOk result (string_bytes text.new ≡ string_bytes text.old ++ quoted value.now) }
-{
-    if !is_plain(value.as_bytes()) {
-        return push_escaped(alloc, text, value);
-    }
-    text.push_str("\"")?;
-    text.push_str(value)?;
-    text.push_str("\"")?;
-    Ok(())
-}
-
-/// Adds what leads to a member's value, and a text as a JSON string.
-fn push_member(alloc: Global, text: &mut String, lead: &str, value: &str) -> Result<(), AllocError>
-    ensures { OnOk result (string_bytes text.new ≡ string_bytes text.old ++ (lead.now ++ quoted value.now)) }
-{
-    text.push_str(lead)?;
-    push_string(alloc, text, value)
-}
-
-/// Adds what leads to a member's value, and JSON without white space.
-fn push_json(alloc: Global, text: &mut String, lead: &str, json: &Json) -> Result<(), AllocError>
-    requires { has_float (view json.now) ≡ false }
-    ensures { OnOk result (string_bytes text.new ≡ string_bytes text.old ++ (lead.now ++ compact_text (view json.now))) }
-{
-    text.push_str(lead)?;
-    let json = json.to_string(alloc)?;
-    text.push_str(json.as_str())
-}
-
-/// Adds what leads to a member's value, and a number.
-fn push_number(text: &mut String, lead: &str, number: u32) -> Result<(), AllocError>
-    ensures { OnOk result (string_bytes text.new ≡ string_bytes text.old ++ (lead.now ++ decimal number)) }
-{
-    write!(text, "{lead}{number}")
-}
-
-/// Adds what leads to a member's value, and a number as a JSON string.
-fn push_counted(alloc: Global, text: &mut String, lead: &str, number: u64) -> Result<(), AllocError>
-    ensures { OnOk result (string_bytes text.new ≡ string_bytes text.old ++ (lead.now ++ quoted (decimal number))) }
-{
-    let number = number.to_string(alloc)?;
-    push_member(alloc, text, lead, number.as_str())
-}
-
-/// Whether an edit of this kind has a value.
-fn has_value(kind: ChangeKind) -> bool
-    ensures { result ≡ carries_value kind }
-{
-    matches!(kind, ChangeKind::Create | ChangeKind::Replace)
-}
-
-/// Adds what an edit has before its value.
-fn push_head(
-    alloc: Global,
-    schema: &Schema,
-    text: &mut String,
-    number: u64,
-    change: &Change,
-) -> Result<(), NoMemory>
-    requires { is_path_of schema.now change.now.target ≡ true }
-    ensures { OnOk result (string_bytes text.new ≡ string_bytes text.old ++ head_text schema.now number change.now) }
-{
-    push_counted(alloc, text, "{\"edit-id\":", number)?;
-    push_member(alloc, text, ",\"operation\":", operation(change.kind))?;
-    let target = write_target(alloc, schema, &change.target)?;
-    push_member(alloc, text, ",\"target\":", target.as_str())?;
-    Ok(())
-}
-
-/// Adds the value of an edit that has one.
-fn push_value(
-    alloc: Global,
-    schema: &Schema,
-    text: &mut String,
-    change: &Change,
-) -> Result<(), NoMemory>
-    requires { AreWritable schema.now change.now.target change.now.rows }
-    ensures { OnOk result (string_bytes text.new ≡ string_bytes text.old ++ (codes ",\"value\":" ++ compact_text (rows_json schema.now change.now.target change.now.rows))) }
-{
-    let json = write_rows(alloc, schema, &change.target, &change.rows)?;
-    push_json(alloc, text, ",\"value\":", &json)?;
-    Ok(())
-}
-
-/// Adds the edit of a change.
-fn push_edit(
-    alloc: Global,
-    schema: &Schema,
-    text: &mut String,
-    number: u64,
-    change: &Change,
-) -> Result<(), NoMemory>
-    requires { IsSendableChange schema.now change.now }
-    ensures { OnOk result (string_bytes text.new ≡ string_bytes text.old ++ compact_text (edit_data schema.now number change.now)) }
-{
-    push_head(alloc, schema, text, number, change)?;
-    if has_value(change.kind) {
-        push_value(alloc, schema, text, change)?;
-        text.push_str("}")?;
-    } else {
-        text.push_str("}")?;
-    }
-    Ok(())
-}
-
-/// Adds a comma, where something stands before.
-fn push_comma(text: &mut String, later: bool) -> Result<(), AllocError>
-    ensures { OnOk result (string_bytes text.new ≡ string_bytes text.old ++ comma_if later) }
-{
-    text.push_str(if later { "," } else { "" })
-}
-
-/// Adds the edits of changes, counted from 1, and the bracket behind them.
-fn push_edits(
-    alloc: Global,
-    schema: &Schema,
-    text: &mut String,
-    changes: &[Change],
-) -> Result<(), NoMemory>
-    requires few { length changes.now < 2 ^ 63 }
-    requires sendable { AllByRecursion (IsSendableChange schema.now) changes.now }
-    ensures { OnOk result (string_bytes text.new ≡ string_bytes text.old ++ items_text false (edits_from schema.now 1 changes.now)) }
-{
-    let mut number = 1u64;
-    let mut later = false;
-    for change in changes {
-        push_comma(text, later)?;
-        push_edit(alloc, schema, text, number, change)?;
-        number += 1;
-        later = true;
-    }
-    text.push_str("]")?;
-    Ok(())
-}
 
 /// The name of a notification (RFC 8641 section 5, RFC 8639 section 4).
 fn name(notice: &Notice) -> &'static str
@@ -218,6 +50,51 @@ fn end_of_changes(incomplete: bool) -> &'static str
     }
 }
 
+/// Adds what a line has before the members of its body.
+fn push_opening(
+    alloc: Global,
+    text: &mut String,
+    start: &Start,
+    tick: u64,
+    name: &str,
+) -> Result<(), NoMemory>
+    requires { tick ≤ tick_limit }
+    ensures { OnOk result (string_bytes text.new ≡ string_bytes text.old ++ opening_text start.now tick name.now) }
+{
+    let time = event_time(alloc, start, tick)?;
+    push_member(
+        alloc,
+        text,
+        "{\"ietf-restconf:notification\":{\"eventTime\":",
+        time.as_str(),
+    )?;
+    push_member(alloc, text, ",", name)?;
+    text.push_str(":{")?;
+    Ok(())
+}
+
+/// Adds the members of a full update that carries this, and the brace behind them.
+fn push_full(text: &mut String, id: u32, contents: &str) -> Result<(), NoMemory>
+    ensures { OnOk result (string_bytes text.new ≡ string_bytes text.old ++ full_text contents.now id) }
+{
+    text.push_str("\"datastore-contents\":")?;
+    text.push_str(contents)?;
+    push_number(text, ",\"id\":", id)?;
+    text.push_str("}")?;
+    Ok(())
+}
+
+/// Adds the members of a change update that carries this, and the brace behind them.
+fn push_changes(text: &mut String, id: u32, patch: &str, incomplete: bool) -> Result<(), NoMemory>
+    ensures { OnOk result (string_bytes text.new ≡ string_bytes text.old ++ changes_text patch.now id incomplete) }
+{
+    text.push_str("\"datastore-changes\":")?;
+    text.push_str(patch)?;
+    push_number(text, ",\"id\":", id)?;
+    text.push_str(end_of_changes(incomplete))?;
+    Ok(())
+}
+
 /// Adds the members of a body that are an id and a reason, and the brace behind them.
 fn push_reason(alloc: Global, text: &mut String, id: u32, reason: &str) -> Result<(), NoMemory>
     ensures { OnOk result (string_bytes text.new ≡ string_bytes text.old ++ members_text false (id_member id (reason_member reason.now))) }
@@ -237,124 +114,141 @@ fn push_id(text: &mut String, id: u32) -> Result<(), NoMemory>
     Ok(())
 }
 
-/// Adds the members of a full update, and the brace behind them.
-fn push_full(
+/// Adds the line of a full update of a subscription that was made at a tick and carries this text, as
+/// `contents_text` gives it, without a line end.
+pub fn push_full_line(
     alloc: Global,
-    schema: &Schema,
     text: &mut String,
+    start: &Start,
+    tick: u64,
     id: u32,
-    rows: &Rows,
+    contents: &str,
 ) -> Result<(), NoMemory>
-    requires { AreWritable schema.now [] rows.now }
-    ensures { OnOk result (string_bytes text.new ≡ string_bytes text.old ++ members_text false (member (codes "datastore-contents") (rows_json schema.now [] rows.now) (id_member id no_members))) }
+    requires { tick ≤ tick_limit }
+    ensures { OnOk result ((nodes : List SchemaNode) (rows : List Row) → contents.now ≡ compact_text (rows_json nodes [] rows)
+        → string_bytes text.new ≡ string_bytes text.old ++ line_of nodes start.now tick (Full id rows)) }
 {
-    let top = Path::from_vec(Vec::new(alloc));
-    let json = write_rows(alloc, schema, &top, rows)?;
-    push_json(alloc, text, "\"datastore-contents\":", &json)?;
-    push_number(text, ",\"id\":", id)?;
-    text.push_str("}")?;
-    Ok(())
-}
-
-/// Adds the patch of changes.
-fn push_patch(
-    alloc: Global,
-    schema: &Schema,
-    text: &mut String,
-    patch_id: u64,
-    changes: &Changes,
-) -> Result<(), NoMemory>
-    requires { AllByRecursion (IsSendableChange schema.now) changes.now }
-    ensures { OnOk result (string_bytes text.new ≡ string_bytes text.old ++ compact_text (patch_data schema.now patch_id changes.now)) }
-{
-    text.push_str("{\"yang-patch\":{\"edit\":[")?;
-    push_edits(alloc, schema, text, changes.items())?;
-    push_counted(alloc, text, ",\"patch-id\":", patch_id)?;
+    push_opening(alloc, text, start, tick, "ietf-yang-push:push-update")?;
+    push_full(text, id, contents)?;
     text.push_str("}}")?;
     Ok(())
 }
 
-/// Adds the members of a change update, and the brace behind them.
-fn push_changes(
+/// Adds the line of a change update of a subscription that was made at a tick and carries this text, as
+/// `patch_text` gives it, without a line end. An incomplete one lacks some changes.
+pub fn push_changes_line(
     alloc: Global,
-    schema: &Schema,
     text: &mut String,
+    start: &Start,
+    tick: u64,
     id: u32,
-    patch_id: u64,
-    changes: &Changes,
+    patch: &str,
     incomplete: bool,
 ) -> Result<(), NoMemory>
-    requires { AllByRecursion (IsSendableChange schema.now) changes.now }
-    ensures { OnOk result (string_bytes text.new ≡ string_bytes text.old ++ members_text false (member (codes "datastore-changes") (patch_data schema.now patch_id changes.now) (id_member id (mark incomplete)))) }
+    requires { tick ≤ tick_limit }
+    ensures { OnOk result ((nodes : List SchemaNode) (patch_id : ℕ) (changes : List Change) → patch.now ≡ compact_text (patch_data nodes patch_id changes)
+        → string_bytes text.new ≡ string_bytes text.old ++ line_of nodes start.now tick (ChangesNotice id patch_id changes incomplete)) }
 {
-    text.push_str("\"datastore-changes\":")?;
-    push_patch(alloc, schema, text, patch_id, changes)?;
-    push_number(text, ",\"id\":", id)?;
-    text.push_str(end_of_changes(incomplete))?;
+    push_opening(
+        alloc,
+        text,
+        start,
+        tick,
+        "ietf-yang-push:push-change-update",
+    )?;
+    push_changes(text, id, patch, incomplete)?;
+    text.push_str("}}")?;
     Ok(())
 }
 
-/// Adds the members of the body of a notice, and the brace behind them.
-fn push_body(
+/// Adds the line of a notice of this name that tells an id alone.
+fn push_id_line(
+    alloc: Global,
+    text: &mut String,
+    start: &Start,
+    tick: u64,
+    name: &str,
+    id: u32,
+) -> Result<(), NoMemory>
+    requires { tick ≤ tick_limit }
+    ensures { OnOk result ((nodes : List SchemaNode) (notice : Notice) → name.now ≡ name_of notice → id_member id no_members ≡ body_of nodes notice
+        → string_bytes text.new ≡ string_bytes text.old ++ line_of nodes start.now tick notice) }
+{
+    push_opening(alloc, text, start, tick, name)?;
+    push_id(text, id)?;
+    text.push_str("}}")?;
+    Ok(())
+}
+
+/// Adds the line of a notice of this name that tells an id and a reason.
+fn push_reason_line(
+    alloc: Global,
+    text: &mut String,
+    start: &Start,
+    tick: u64,
+    name: &str,
+    id: u32,
+    reason: &str,
+) -> Result<(), NoMemory>
+    requires { tick ≤ tick_limit }
+    ensures { OnOk result ((nodes : List SchemaNode) (notice : Notice) → name.now ≡ name_of notice → id_member id (reason_member reason.now) ≡ body_of nodes notice
+        → string_bytes text.new ≡ string_bytes text.old ++ line_of nodes start.now tick notice) }
+{
+    push_opening(alloc, text, start, tick, name)?;
+    push_reason(alloc, text, id, reason)?;
+    text.push_str("}}")?;
+    Ok(())
+}
+
+/// Adds the line of a notice that was made at a tick.
+fn push_line(
     alloc: Global,
     schema: &Schema,
     text: &mut String,
+    start: &Start,
+    tick: u64,
     notice: &Notice,
 ) -> Result<(), NoMemory>
-    requires { IsSendable schema.now notice.now }
-    ensures { OnOk result (string_bytes text.new ≡ string_bytes text.old ++ members_text false (body_of schema.now notice.now)) }
+    requires tick { tick ≤ tick_limit }
+    requires sendable { IsSendable schema.now notice.now }
+    ensures { OnOk result (string_bytes text.new ≡ string_bytes text.old ++ line_of schema.now start.now tick notice.now) }
 {
     match notice {
-        Notice::Full { id, rows } => push_full(alloc, schema, text, *id, rows),
+        Notice::Full { id, rows } => {
+            let contents = contents_text(alloc, schema, rows)?;
+            push_full_line(alloc, text, start, tick, *id, contents.as_str())
+        }
         Notice::Changes {
             id,
             patch_id,
             changes,
             incomplete,
-        } => push_changes(alloc, schema, text, *id, *patch_id, changes, *incomplete),
-        Notice::Started { id } => push_id(text, *id),
-        Notice::Modified { id } => push_id(text, *id),
-        Notice::Suspended { id } => push_reason(
+        } => {
+            let patch = patch_text(alloc, schema, *patch_id, changes)?;
+            push_changes_line(alloc, text, start, tick, *id, patch.as_str(), *incomplete)
+        }
+        Notice::Suspended { id } => push_reason_line(
             alloc,
             text,
+            start,
+            tick,
+            name(notice),
             *id,
             "ietf-subscribed-notifications:unsupportable-volume",
         ),
-        Notice::Resumed { id } => push_id(text, *id),
-        Notice::Terminated { id } => push_reason(
+        Notice::Terminated { id } => push_reason_line(
             alloc,
             text,
+            start,
+            tick,
+            name(notice),
             *id,
             "ietf-subscribed-notifications:no-such-subscription",
         ),
+        Notice::Started { id } => push_id_line(alloc, text, start, tick, name(notice), *id),
+        Notice::Modified { id } => push_id_line(alloc, text, start, tick, name(notice), *id),
+        Notice::Resumed { id } => push_id_line(alloc, text, start, tick, name(notice), *id),
     }
-}
-
-/// The text of a notice that was made at a tick.
-fn text_of(
-    alloc: Global,
-    schema: &Schema,
-    start: &Start,
-    tick: u64,
-    notice: &Notice,
-) -> Result<String, NoMemory>
-    requires tick { tick ≤ tick_limit }
-    requires sendable { IsSendable schema.now notice.now }
-    ensures { IfOk result (λ text. string_bytes text ≡ line_of schema.now start.now tick notice.now) }
-{
-    let time = event_time(alloc, start, tick)?;
-    let mut text = String::with_capacity(alloc, 256)?;
-    push_member(
-        alloc,
-        &mut text,
-        "{\"ietf-restconf:notification\":{\"eventTime\":",
-        time.as_str(),
-    )?;
-    push_member(alloc, &mut text, ",", name(notice))?;
-    text.push_str(":{")?;
-    push_body(alloc, schema, &mut text, notice)?;
-    text.push_str("}}")?;
-    Ok(text)
 }
 
 /// The line of a notice that was made at a tick, without a line end. Ticks are hundredths of a second
@@ -370,5 +264,7 @@ pub fn line(
     requires sendable { IsSendable schema.now notice.now }
     ensures { IfOk result (λ text. text ≡ line_of schema.now start.now tick notice.now) }
 {
-    Ok(Txt::from_string(text_of(alloc, schema, start, tick, notice)?))
+    let mut text = String::with_capacity(alloc, 256)?;
+    push_line(alloc, schema, &mut text, start, tick, notice)?;
+    Ok(Txt::from_string(text))
 }

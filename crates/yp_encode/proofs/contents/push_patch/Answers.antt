@@ -2,7 +2,7 @@ use Rattle.std.proofs.Common.{string_bytes, ap, ◌∙◌, ◌++◌, false}
 use Rattle.serde_json.specs.Written.{items_text}
 use Rattle.yp_encode.specs.Lines.{edits_from}
 use Rattle.yp_encode.proofs.Told.{patch_told}
-use Rattle.yp_encode.proofs.line.push_patch.Goals as goal
+use Rattle.yp_encode.proofs.contents.push_patch.Goals as goal
 
 pub returns : goal.returns
 returns c =

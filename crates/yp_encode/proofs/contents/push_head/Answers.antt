@@ -1,6 +1,6 @@
 use Rattle.std.proofs.Common.{◌∙◌, string_bytes}
 use Rattle.yp_encode.proofs.Told.{head_told}
-use Rattle.yp_encode.proofs.line.push_head.Goals as goal
+use Rattle.yp_encode.proofs.contents.push_head.Goals as goal
 
 pub returns : goal.returns
 returns c =

@@ -1,6 +1,6 @@
 use Rattle.std.proofs.Common.{sym, ◌∙◌, string_bytes}
 use Rattle.yp_encode.proofs.Told.{valued_told, bare_told}
-use Rattle.yp_encode.proofs.line.push_edit.Goals as goal
+use Rattle.yp_encode.proofs.contents.push_edit.Goals as goal
 
 pub returns-in_ok-push_str : goal.returns-in_ok-push_str
 returns-in_ok-push_str c =

@@ -1,7 +1,7 @@
 use Rattle.std.proofs.Common.{ap, ◌+◌, string_bytes}
 use Rattle.yp_encode.proofs.Edits.{sendable_here}
 use Rattle.yp_encode.proofs.Told.{one_told, all_told}
-use Rattle.yp_encode.proofs.line.push_edits.Goals as goal
+use Rattle.yp_encode.proofs.contents.push_edits.Goals as goal
 
 pub push_edit-requires : goal.push_edit-requires
 push_edit-requires c = (sendable_here c.args.schema.now c.loop-change.change-index c.args.changes.now c.change-item.result c.loop-change-test.true c.change-item.is c.loop-change.invariant.sendable).0

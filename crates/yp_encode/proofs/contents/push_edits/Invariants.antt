@@ -3,7 +3,7 @@ use Rattle.std.specs.List.{AllByRecursion}
 use Rattle.serde_json.specs.Written.{items_text}
 use Rattle.yp_encode.specs.Lines.{edits_from}
 use Rattle.yp_encode.specs.Sendable.{IsSendableChange}
-use Rattle.yp_encode.proofs.line.push_edits.Given as goal
+use Rattle.yp_encode.proofs.contents.push_edits.Given as goal
 
 -- the edits so far and those of the changes that are left are all
 abbrev pub invariant-loop-change : goal.invariant-loop-change
