@@ -1,10 +1,8 @@
 //! Calls of `yp_select`: what filters keep and select for readers.
-ghost use Rattle.std.specs.Prelude.{◌≡◌, ◌<◌, [], IfOk, true};
-ghost use Rattle.yp_schema.specs.Datastore.{IsDatastore, AreWritable};
+ghost use Rattle.std.specs.Prelude.{◌≡◌, ◌<◌, [], IfOk, None, true};
+ghost use Rattle.yp_schema.specs.Datastore.{AreWritable, IsDatastore, goes_down};
 ghost use Rattle.yp_filter.specs.Fits.{filter_fits};
 ghost use Rattle.yp_filter.specs.View.{filter_view};
-ghost use Rattle.yp_schema.specs.Datastore.{goes_down};
-ghost use Rattle.std.specs.Prelude.{None};
 
 use crate::calls::Setting;
 use crate::given::part;

@@ -12,7 +12,7 @@ use Rattle.yp_base.specs.declared.row.Row.{Row}
 use Rattle.yp_base.specs.Exact.{segments_decide}
 use Rattle.yp_base.specs.Order.{path_cmp, segment_cmp, is_within}
 use Rattle.yp_base.specs.Rows.{rows_within, rows_without}
-use Rattle.yp_select.specs.Reaches.{AreApart}
+use Rattle.yp_select.specs.Reaches.{StandApart}
 
 -- of two paths that a third is at or below, one is at or below the other
 meets : (one two path : List Seg) → is_within one path ≡ true → is_within two path ≡ true → is_within one two ≡ false → is_within two one ≡ true
@@ -57,7 +57,7 @@ same_visits one [] rows apart other = refl
 same_visits one (path ∷ paths) rows apart other =
     (λ i. length (still_within one path rows apart.0 other.0 i) + 1 + same_visits one paths rows apart.1 other.1 i)
 
-pub visits_most : (paths : List (List Seg)) (rows : List Row) → AreApart paths → visits_below rows paths ≤ length rows + length paths
+pub visits_most : (paths : List (List Seg)) (rows : List Row) → StandApart paths → visits_below rows paths ≤ length rows + length paths
 visits_most [] rows apart = omega arith
 visits_most (path ∷ paths) rows apart =
     let both : length (rows_within path rows) + length (rows_without path rows) ≡ length rows = length-filter_both (λ row. is_within path row.path) (λ row. not (is_within path row.path)) (λ row. refl) rows in

@@ -28,7 +28,7 @@ use Rattle.yp_filter.specs.Filters.{Node, Nodes, select, compare, within, unknow
 use Rattle.yp_filter.specs.Fits.{is_child_of, node_fits, set_fits}
 use Rattle.yp_select.specs.Matches.{atom_in, either_of, key_among, key_in, key_at, match_segment, holds_by, match_holds, all_hold}
 use Rattle.yp_select.specs.Selection.{enters_by, all_match, has_match, set_names, set_selects, enters, keeps, node_leads, set_leads, kept}
-use Rattle.yp_select.specs.Reaches.{key_asked, asks_keys, onto, entry_keys, names_one, way_segment, is_narrow, are_narrow, own_by, own_of_node, own_of_nodes, own_reached, below_by, below_of_node, below_of_nodes, below_reached, is_own, is_below, is_reached, node_stands, set_stands}
+use Rattle.yp_select.specs.Reaches.{key_asked, asks_keys, onto, entry_keys, names_one, way_segment, is_narrow, are_narrow, own_by, own_of_node, own_of_nodes, own_reached, below_by, below_of_node, below_of_nodes, below_reached, is_one_of, is_below, is_reached, node_stands, set_stands}
 use Rattle.yp_select.specs.KeptLaws.{keeps_hold}
 
 -- ---- the entry that a set asks for
@@ -236,12 +236,12 @@ module _ (nodes : List SchemaNode) (schema : IsSchema nodes) (rows : List Row) w
   first_reached : (own more_own below more_below : List (List Seg)) (path : List Seg) → is_reached own below path ≡ true → is_reached (own ++ more_own) (below ++ more_below) path ≡ true
   first_reached own more_own below more_below path is =
       (λ i. list_any-append (λ each. is_eq (path_cmp path each)) own more_own i || list_any-append (λ each. is_within each path) below more_below i)
-      ∙ moved (is_own own path) (is_own more_own path) (is_below below path) (is_below more_below path) is
+      ∙ moved (is_one_of own path) (is_one_of more_own path) (is_below below path) (is_below more_below path) is
 
   other_reached : (own more_own below more_below : List (List Seg)) (path : List Seg) → is_reached more_own more_below path ≡ true → is_reached (own ++ more_own) (below ++ more_below) path ≡ true
   other_reached own more_own below more_below path is =
       (λ i. list_any-append (λ each. is_eq (path_cmp path each)) own more_own i || list_any-append (λ each. is_within each path) below more_below i)
-      ∙ other_moved (is_own own path) (is_own more_own path) (is_below below path) (is_below more_below path) is
+      ∙ other_moved (is_one_of own path) (is_one_of more_own path) (is_below below path) (is_below more_below path) is
 
   own_grows : (own more_own below : List (List Seg)) (path : List Seg) → is_reached own below path ≡ true → is_reached (own ++ more_own) below path ≡ true
   own_grows own more_own below path is =

@@ -11,11 +11,11 @@ use Rattle.yp_base.specs.Rows.{value_at, put_row, put_rows, rows_within, AreInOr
 use Rattle.yp_base.specs.RowLaws.{picked, none_past, first_order, rest_order, value_at_put, some_keep_order}
 use Rattle.yp_tree.specs.Alike.{same_rows}
 use Rattle.yp_select.specs.Matches.{either_of}
-use Rattle.yp_select.specs.Reaches.{is_own, AreThose}
+use Rattle.yp_select.specs.Reaches.{is_one_of, AreThose}
 use Rattle.yp_select.specs.SelectionLaws.{value_selected}
 
 -- none are those of no path
-pub none_are : (all : List Row) → AreThose (is_own []) all []
+pub none_are : (all : List Row) → AreThose (is_one_of []) all []
 none_are all path = refl
 
 pub those_same : (one two : List Seg → Bool) (all rows : List Row) → ((path : List Seg) → one path ≡ two path) → AreThose one all rows → AreThose two all rows

@@ -12,7 +12,7 @@ use Rattle.yp_base.specs.Order.{path_cmp, is_within}
 use Rattle.yp_base.specs.OrderLaws.{paths_total}
 use Rattle.yp_base.specs.Exact.{paths_exact}
 use Rattle.yp_base.specs.PathLaws.{less_turned, within_itself, within_through, within_not_after, within_together}
-use Rattle.yp_select.specs.Reaches.{is_below, AreApart}
+use Rattle.yp_select.specs.Reaches.{is_below, StandApart}
 
 -- whether a path is at or below the last one, where there is one
 abbrev pub is_covered : Option (List Seg) → List Seg → Bool
@@ -140,21 +140,21 @@ none_below : (last : List Seg) (paths : List (List Seg)) → AllByRecursion (λ 
 none_below last [] from apart = tt
 none_below last (path ∷ paths) from apart = (not_below last path from.0 apart.0, none_below last paths from.1 apart.1)
 
-apart_at : (path mark : List Seg) (paths : List (List Seg)) → is_within path mark ≡ true → Rises mark paths → AreApart (tops_after (Some path) paths) → AreApart (path ∷ tops_after (Some path) paths)
+apart_at : (path mark : List Seg) (paths : List (List Seg)) → is_within path mark ≡ true → Rises mark paths → StandApart (tops_after (Some path) paths) → StandApart (path ∷ tops_after (Some path) paths)
 apart_at path mark paths within rises rest =
     let above = not_above path mark paths within rises in
     (above, none_below path (tops_after (Some path) paths) (no_earlier path mark paths (within_not_after path mark within) rises (Some path)) above, rest)
 
 -- the paths that are taken are apart
-apart_after : (last mark : List Seg) (paths : List (List Seg)) → Rises mark paths → AreApart (tops_after (Some last) paths)
+apart_after : (last mark : List Seg) (paths : List (List Seg)) → Rises mark paths → StandApart (tops_after (Some last) paths)
 apart_after last mark [] rises = tt
 apart_after last mark (path ∷ paths) rises =
-    elim (is_within last path) as (λ b. AreApart (cond b (tops_after (Some last) paths) (path ∷ tops_after (Some path) paths))) [
+    elim (is_within last path) as (λ b. StandApart (cond b (tops_after (Some last) paths) (path ∷ tops_after (Some path) paths))) [
       | true ↦ apart_after last path paths rises.1
       | false ↦ apart_at path path paths (within_itself path) rises.1 (apart_after path path paths rises.1)
     ]
 
-pub tops_apart : (paths : List (List Seg)) → Rise paths → AreApart (tops_after None paths)
+pub tops_apart : (paths : List (List Seg)) → Rise paths → StandApart (tops_after None paths)
 tops_apart [] rise = tt
 tops_apart (path ∷ paths) rise = apart_at path path paths (within_itself path) rise (apart_after path path paths rise)
 

@@ -5,3 +5,5 @@ pub mod Selection
 pub mod Visits
 pub mod KeptLaws
 pub mod Reaches
+pub mod Places
+pub mod PlaceLaws

@@ -108,20 +108,20 @@ below_reached nodes set at = below_by (are_narrow nodes set) at (below_of_nodes 
 -- ---- what is reached
 
 -- whether a path is one of these
-abbrev pub is_own : List (List Seg) → List Seg → Bool
-is_own paths path = list_any (λ each. is_eq (path_cmp path each)) paths
+abbrev pub is_one_of : List (List Seg) → List Seg → Bool
+is_one_of paths path = list_any (λ each. is_eq (path_cmp path each)) paths
 
 -- whether a path is at or below one of these
 abbrev pub is_below : List (List Seg) → List Seg → Bool
 is_below paths path = list_any (λ each. is_within each path) paths
 
 abbrev pub is_reached : List (List Seg) → List (List Seg) → List Seg → Bool
-is_reached own below path = is_own own path || is_below below path
+is_reached own below path = is_one_of own path || is_below below path
 
 -- none of these paths is at or below another
-abbrev pub AreApart : List (List Seg) → Type 0
-AreApart [] = Unit {0}
-AreApart (path ∷ paths) = AllByRecursion (λ other. is_within path other ≡ false) paths × AllByRecursion (λ other. is_within other path ≡ false) paths × AreApart paths
+abbrev pub StandApart : List (List Seg) → Type 0
+StandApart [] = Unit {0}
+StandApart (path ∷ paths) = AllByRecursion (λ other. is_within path other ≡ false) paths × AllByRecursion (λ other. is_within other path ≡ false) paths × StandApart paths
 
 -- rows are those of a datastore at whose paths a test holds
 abbrev pub AreThose : (List Seg → Bool) → List Row → List Row → Type 0

@@ -42,14 +42,14 @@ module _ (readable : List Seg → Bool) where
   value_selected path (row ∷ rows) = value_selected_at (is_eq (path_cmp path row.path)) (readable row.path) path row rows refl refl (value_selected path rows)
 
   -- a row that is selected may be read, and was there
-  was_selected : (path : List Seg) (rows : List Row) → has_row path (visible_rows readable rows) ≡ true → (readable path ≡ true) × (has_row path rows ≡ true)
+  pub was_selected : (path : List Seg) (rows : List Row) → has_row path (visible_rows readable rows) ≡ true → (readable path ≡ true) × (has_row path rows ≡ true)
   was_selected path rows there = parts (readable path) (value_at path rows) (sym (ap is_some (value_selected path rows)) ∙ there)
     where
       parts : (b : Bool) (value : Option Value) → is_some (cond b value None) ≡ true → (b ≡ true) × (is_some value ≡ true)
       parts true value h = (refl, h)
       parts false value h = absurd (true≢false (sym h))
 
-  is_selected : (path : List Seg) (rows : List Row) → readable path ≡ true → has_row path rows ≡ true → has_row path (visible_rows readable rows) ≡ true
+  pub is_selected : (path : List Seg) (rows : List Row) → readable path ≡ true → has_row path rows ≡ true → has_row path (visible_rows readable rows) ≡ true
   is_selected path rows may there = ap is_some (value_selected path rows ∙ ap (λ b. cond b (value_at path rows) None) may) ∙ there
 
   kept_at : (b : Bool) (P : Row → Type 0) (row : Row) (rows : List Row) → P row → AllByRecursion P rows → AllByRecursion P (cond b (row ∷ rows) rows)

@@ -1,5 +1,5 @@
 //! Facts about selections, for the crates above. Each call does nothing.
-ghost use Rattle.std.specs.Prelude.{◌≡◌, ◌++◌, ◌&&◌, [], List, Bool, true, None, if◌then◌else◌};
+ghost use Rattle.std.specs.Prelude.{◌≡◌, ◌++◌, ◌&&◌, [], List, Bool, true, false, None, if◌then◌else◌};
 ghost use Rattle.std.specs.List.{AllByRecursion};
 ghost use Rattle.yp_base.specs.declared.path.Seg.{Seg};
 ghost use Rattle.yp_base.specs.declared.row.Row.{Row};
@@ -10,6 +10,7 @@ ghost use Rattle.yp_schema.specs.Datastore.{AreWritable, IsDatastore, IsRowOf};
 ghost use Rattle.yp_filter.specs.Filters.{Asked, all_rows};
 ghost use Rattle.yp_nacm.specs.Decision.{IsClosed, visible_rows};
 ghost use Rattle.yp_select.specs.Concealed.{AllReadable};
+ghost use Rattle.yp_select.specs.Places.{DifferAt, is_moved};
 ghost use Rattle.yp_select.specs.Selection.{kept, selection};
 
 /// The selection of a datastore is a datastore, where what stands above what may be read may be read too.
@@ -87,4 +88,18 @@ pub fn filtered_selection_keeps_rows()
 pub fn filtered_selection_can_be_written()
     ensures { (nodes : List SchemaNode) (asked : Asked) (readable : List Seg → Bool) (rows : List Row) → AreInOrder rows
         → AllByRecursion (IsRowOf nodes) rows → AreWritable nodes [] (selection nodes asked readable rows) }
+{}
+
+/// Between two datastores what a filter keeps, and what its selection has, can differ only at or below a
+/// changed row, and at or below the path above a changed leaf or leaf-list entry on whose node the filter
+/// matches.
+pub fn selection_is_local()
+    ensures kept { (nodes : List SchemaNode) (asked : Asked) (readable : List Seg → Bool) (before after : List Row)
+        (changed : List (List Seg)) → DifferAt changed before after → (path : List Seg)
+        → is_moved nodes asked changed path ≡ false
+        → kept nodes asked (visible_rows readable before) path ≡ kept nodes asked (visible_rows readable after) path }
+    ensures selected { (nodes : List SchemaNode) (asked : Asked) (readable : List Seg → Bool) (before after : List Row)
+        (changed : List (List Seg)) → DifferAt changed before after → (path : List Seg)
+        → is_moved nodes asked changed path ≡ false
+        → value_at path (selection nodes asked readable before) ≡ value_at path (selection nodes asked readable after) }
 {}

@@ -1,9 +1,13 @@
-//! What a reader selects of a datastore (RFC 8641 section 3.9, RFC 8341 section 3.4.5).
+//! What a subtree filter selects of a datastore for a reader (RFC 6241 section 6.2, RFC 8641 section 3.6).
 //!
-//! A reader is whatever says of each path whether it may be read (`Readable` of `yp_nacm`). Its selection
-//! of everything is the rows that it may read, `visible_rows`. `select_all` gives it, and `select_below`
-//! what of it is at or below a path; both count the rows that they visit. `laws` says what follows: the
-//! selection of a datastore is a datastore, and nothing in it may not be read.
+//! A reader is whatever says of each path whether it may be read (`Readable` of `yp_nacm`), and a filter is
+//! one of `yp_filter`; contracts see what it says (`specs/Selection.antt`). A selection is of what may be
+//! read: what may not be read decides nothing (RFC 8641 section 3.9, RFC 8341 section 3.4.5).
+//!
+//! `keeping::kept` tells whether a filter keeps a path. `select::select_all` gives the selection and looks
+//! only where the filter can keep rows, and `select::select_below` what of it is at or below a path. Each
+//! counts the rows that it visits. `laws` says what follows: a selection of a datastore is a datastore, and
+//! nothing in it may not be read.
 #![tactic(auto)]
 
 pub mod keeping;

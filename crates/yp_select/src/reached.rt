@@ -5,7 +5,7 @@ ghost use Rattle.yp_base.specs.declared.path.Seg.{Seg};
 ghost use Rattle.yp_base.specs.Order.{path_cmp, is_within};
 ghost use Rattle.yp_base.specs.RowLaws.{picked};
 ghost use Rattle.yp_base.specs.Rows.{AreInOrder, put_rows, rows_within};
-ghost use Rattle.yp_select.specs.Reaches.{is_own, is_below, is_reached, AreApart, AreThose};
+ghost use Rattle.yp_select.specs.Reaches.{is_one_of, is_below, is_reached, StandApart, AreThose};
 
 use crate::reaches::Reaches;
 use std::alloc::Global;
@@ -29,7 +29,7 @@ fn is_below_last(paths: &[Path], path: &Path) -> bool
 
 /// Of some paths those that are at or below no other, and of those that are there twice one.
 fn tops_of(alloc: Global, paths: Vec<Path>) -> Result<Vec<Path>, NoMemory>
-    ensures apart { IfOk result (λ tops. AreApart tops.items) }
+    ensures apart { IfOk result (λ tops. StandApart tops.items) }
     ensures same { IfOk result (λ tops. (path : List Seg) → is_below tops.items path ≡ is_below paths.items path) }
     ensures few { IfOk result (λ tops. length tops.items ≤ length paths.items) }
 {
@@ -103,7 +103,7 @@ fn own_rows<L: Ledger>(
     paths: &[Path],
     steps: &mut Steps<L>,
 ) -> Result<Rising, NoMemory>
-    ensures those { IfOk result (λ rows. AreThose (is_own paths.now) tree.now rows) }
+    ensures those { IfOk result (λ rows. AreThose (is_one_of paths.now) tree.now rows) }
     ensures order { IfOk result (λ rows. AreInOrder rows) }
     ensures visits { OnOk result (steps.new ≤ steps.old + length paths.now) }
 {
@@ -123,7 +123,7 @@ fn add_all_below<L: Ledger>(
     steps: &mut Steps<L>,
 ) -> Result<(), NoMemory>
     requires order { AreInOrder rows.old }
-    requires apart { AreApart paths.now }
+    requires apart { StandApart paths.now }
     ensures those { OnOk result ((test : List Seg → Bool) → AreThose test tree.now rows.old → AreThose (λ other. test other || is_below paths.now other) tree.now rows.new) }
     ensures order { OnOk result (AreInOrder rows.new) }
     ensures visits { OnOk result (steps.new ≤ steps.old + length tree.now + length paths.now) }

@@ -1,10 +1,10 @@
 //! The rows that a filter selects for a reader.
-ghost use Rattle.std.specs.Prelude.{◌≡◌, ◌+◌, ◌*◌, ◌≤◌, length, true, IfOk, IfSome, OnOk, List, Bool};
+ghost use Rattle.std.specs.Prelude.{◌≡◌, ◌+◌, ◌*◌, ◌≤◌, length, option_copied, true, IfOk, IfSome, OnOk, List, Bool};
 ghost use Rattle.std.specs.List.{AllByRecursion};
 ghost use Rattle.yp_base.specs.declared.path.Seg.{Seg};
 ghost use Rattle.yp_base.specs.declared.row.Row.{Row};
 ghost use Rattle.yp_base.specs.RowLaws.{picked};
-ghost use Rattle.yp_base.specs.Rows.{rows_within};
+ghost use Rattle.yp_base.specs.Rows.{rows_within, value_at};
 ghost use Rattle.yp_schema.specs.Datastore.{is_path_of, IsRowOf};
 ghost use Rattle.yp_filter.specs.Filters.{filter_size};
 ghost use Rattle.yp_filter.specs.Fits.{filter_fits};
@@ -123,6 +123,38 @@ fn keep_selected<R: Readable, L: Ledger>(
     match filter {
         Filter::All => Ok(seen),
         Filter::Set(_) => keep_kept(alloc, visible, filter, seen, steps),
+    }
+}
+
+/// The value that a reader's selection by a filter has at a path, and `None` exactly where it has no row
+/// there. It counts at most one visit, and one for each node of the filter.
+#[tactic(auto, using(crate::specs::KeptLaws::value_kept, yp_schema::specs::SchemaLaws::path_down))]
+pub fn select_at<'a, R: Readable, L: Ledger>(
+    alloc: Global,
+    schema: &Schema,
+    filter: &Filter,
+    readable: &R,
+    tree: &'a Tree,
+    path: &Path,
+    steps: &mut Steps<L>,
+) -> Result<Option<&'a Value>, NoMemory>
+    requires path { is_path_of schema.now path.now ≡ true }
+    requires fits { filter_fits schema.now (filter_view filter.now) ≡ true }
+    ensures value { IfOk result (λ value. option_copied value ≡ value_at path.now (selection schema.now (filter_view filter.now) (R.may readable.now schema.now) tree.now)) }
+    ensures visits { OnOk result (steps.new ≤ steps.old + (filter_size (filter_view filter.now) + 1)) }
+{
+    if !readable.readable(schema, path) {
+        return Ok(None);
+    }
+    match tree.get(path, steps) {
+        Some(value) => {
+            if kept(alloc, schema, filter, readable, tree, path, steps)? {
+                Ok(Some(value))
+            } else {
+                Ok(None)
+            }
+        }
+        None => Ok(None),
     }
 }
 

@@ -3,7 +3,7 @@ use Rattle.std.specs.Prelude.{slice_get}
 use Rattle.std.proofs.lemmas.List.Sorted.{list_any-IsPermutation, length_permutation}
 use Rattle.yp_base.specs.declared.path.Seg.{Seg}
 use Rattle.yp_base.specs.Order.{is_within}
-use Rattle.yp_select.specs.Reaches.{AreApart, is_below}
+use Rattle.yp_select.specs.Reaches.{StandApart, is_below}
 use Rattle.yp_select.proofs.Tops.{tops_after, is_covered, pushed, all_taken, sorted_rise, tops_apart, tops_same, tops_few}
 use Rattle.yp_select.proofs.reached.tops_of.Goals as goal
 
@@ -19,7 +19,7 @@ loop-path-preserved c =
 
 pub returns-clause-apart : goal.returns-clause-apart
 returns-clause-apart c =
-    subst AreApart (sym (all_taken c.loop-path.tops.items c.deref-path-items.result.now c.sort.new.self.items c.loop-path.path-index c.loop-path.invariant c.loop-path-test.false c.deref-path-items.ensures.value)) (tops_apart c.sort.new.self.items (sorted_rise c.sort.new.self.items c.in_ok-sort.ensures.sorted))
+    subst StandApart (sym (all_taken c.loop-path.tops.items c.deref-path-items.result.now c.sort.new.self.items c.loop-path.path-index c.loop-path.invariant c.loop-path-test.false c.deref-path-items.ensures.value)) (tops_apart c.sort.new.self.items (sorted_rise c.sort.new.self.items c.in_ok-sort.ensures.sorted))
 
 pub returns-clause-same : goal.returns-clause-same
 returns-clause-same c = λ path.
