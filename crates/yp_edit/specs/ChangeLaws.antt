@@ -29,7 +29,7 @@ same_itself Member = refl
 same_itself Empty = refl
 same_itself Present = refl
 
-alike_itself : (value : Option Value) → are_alike value value ≡ true
+pub alike_itself : (value : Option Value) → are_alike value value ≡ true
 alike_itself None = refl
 alike_itself (Some value) = same_itself value
 

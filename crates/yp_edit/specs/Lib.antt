@@ -8,3 +8,4 @@ pub mod PatchLaws
 pub mod Patches
 pub mod Records
 pub mod Shapes
+pub mod WindowLaws

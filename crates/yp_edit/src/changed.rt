@@ -53,7 +53,7 @@ fn same_value(one: &Value, other: &Value) -> bool
 }
 
 /// Whether two rows of a path are alike: both missing, or both there with one value.
-fn are_alike(old: Option<&Value>, new: Option<&Value>) -> bool
+pub fn are_alike(old: Option<&Value>, new: Option<&Value>) -> bool
     ensures { result ≡ are_alike (option_copied old.entry) (option_copied new.entry) }
 {
     match old {
