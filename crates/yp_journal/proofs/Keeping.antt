@@ -1,15 +1,14 @@
 -- Commands leave a datastore a datastore.
-use Rattle.std.proofs.Common.{◌≡◌, List, [], ◌∷◌, Bool, true, false, Result, Ok, Err, refl}
+use Rattle.std.proofs.Common.{◌≡◌, List, [], ◌∷◌, Result, Ok, Err, refl}
 use Rattle.yp_base.specs.declared.row.Row.{Row}
 use Rattle.yp_schema.specs.declared.schema.SchemaNode.{SchemaNode}
 use Rattle.yp_schema.specs.Datastore.{IsDatastore}
-use Rattle.yp_nacm.specs.declared.execute.Operation.TheVariants.{Establish}
 use Rattle.yp_edit.specs.Patches.{RefusedEdit, applied}
 use Rattle.yp_edit.specs.PatchLaws.{PatchesKeepDatastores}
 use Rattle.yp_journal.specs.declared.command.Command.{Command}
-use Rattle.yp_journal.specs.declared.command.Command.TheVariants.{Tick, Edit, Rules, Everything}
+use Rattle.yp_journal.specs.declared.command.Command.TheVariants.{Tick, Edit, Rules, Establish}
 use Rattle.yp_journal.specs.declared.entry.Entry.{Entry}
-use Rattle.yp_journal.specs.History.{JournalState, rows_after, may_ask, subscribed, next_state, state_of}
+use Rattle.yp_journal.specs.History.{JournalState, rows_after, next_state, state_of}
 
 module _ (patch_keeps : PatchesKeepDatastores) where
   -- a command leaves a datastore a datastore
@@ -21,11 +20,7 @@ module _ (patch_keeps : PatchesKeepDatastores) where
         | Err fault ↦ λ is. datastore
       ] refl
   command_keeps nodes state (Rules policy) datastore = datastore
-  command_keeps nodes state (Everything by) datastore =
-      elim (may_ask state by Establish) as (λ (may : Bool). IsDatastore nodes (subscribed may state by).rows) [
-        | true ↦ datastore
-        | false ↦ datastore
-      ]
+  command_keeps nodes state (Establish by ask) datastore = datastore
 
   -- and so do the entries of a journal
   pub entries_keep : (nodes : List SchemaNode) (state : JournalState) (entries : List Entry) → IsDatastore nodes state.rows → IsDatastore nodes (state_of nodes state entries).rows

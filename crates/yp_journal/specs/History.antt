@@ -1,45 +1,53 @@
 -- The history of a publisher: the state as the fold of its commands, the replies, and which journals are legal (RFC 8072 for patches, RFC 8341 for access control, RFC 8639 and RFC 8641 for subscriptions).
-use Rattle.std.specs.Prelude.{◌≡◌, ℕ, ◌+◌, ◌<◌, ◌≤◌, ◌^◌, max, map, List, [], ◌∷◌, ◌++◌, length, Bool, true, false, Option, Some, None, Result, Ok, Err, slice_index_or}
+use Rattle.std.specs.Prelude.{◌≡◌, ℕ, ◌+◌, ◌<◌, ◌≤◌, ◌^◌, max, map, List, [], ◌∷◌, length, Bool, true, false, Option, Some, None, Result, Ok, Err, slice_index_or}
 use Rattle.std.specs.List.{slice_get}
 use Rattle.serde_json.specs.Data.{Data}
 use Rattle.yp_base.specs.declared.path.Seg.{Seg}
 use Rattle.yp_base.specs.declared.row.Row.{Row}
 use Rattle.yp_schema.specs.declared.schema.SchemaNode.{SchemaNode}
 use Rattle.yp_nacm.specs.declared.compile.UserRules.{UserRules}
-use Rattle.yp_nacm.specs.declared.execute.Operation.{Operation}
-use Rattle.yp_nacm.specs.declared.execute.Operation.TheVariants.{Establish}
 use Rattle.yp_nacm.specs.declared.policy.Policy.{Policy}
-use Rattle.yp_nacm.specs.Decision.{is_readable, may_call}
+use Rattle.yp_nacm.specs.Decision.{is_readable}
 use Rattle.yp_nacm.specs.Own.{own_rules}
 use Rattle.yp_nacm.specs.Policies.{opening_policy, IsPolicyOf}
+use Rattle.yp_base.specs.declared.notice.Trigger.{Trigger}
+use Rattle.yp_base.specs.declared.notice.Trigger.TheVariants.{Periodic, OnChange}
+use Rattle.yp_registry.specs.declared.ask.Ask.{Ask}
+use Rattle.yp_registry.specs.declared.ask.FilterAsk.{FilterAsk}
+use Rattle.yp_registry.specs.declared.ask.FilterAsk.TheVariants.{Subtree}
+use Rattle.yp_registry.specs.declared.refused.Refused.{Refused}
+use Rattle.yp_registry.specs.Registry.{Subscriptions, no_subscriptions, established, establish_answer}
+use Rattle.yp_registry.specs.Terms.{HasAnchor}
 use Rattle.yp_edit.specs.declared.patch.Edit.{Edit as PatchEdit}
 use Rattle.yp_edit.specs.declared.patch.Patch.{Patch}
 use Rattle.yp_edit.specs.Patches.{RefusedEdit, applied}
 use Rattle.yp_edit.specs.Shapes.{ids_of, patch_in}
 use Rattle.yp_time.specs.Ticks.{tick_limit}
 use Rattle.yp_journal.specs.declared.command.Command.{Command}
-use Rattle.yp_journal.specs.declared.command.Command.TheVariants.{Tick, Edit, Rules, Everything}
+use Rattle.yp_journal.specs.declared.command.Command.TheVariants.{Tick, Edit, Rules, Establish}
 use Rattle.yp_journal.specs.declared.entry.Entry.{Entry}
 use Rattle.yp_journal.specs.declared.receiver.ReceiverInfo.{ReceiverInfo}
 use Rattle.yp_journal.specs.declared.reply.Reply.{Reply}
-use Rattle.yp_journal.specs.declared.reply.Reply.TheVariants.{Done, Id, Denied, Edit as EditRefused}
-use Rattle.yp_journal.specs.declared.subscription.Subscription.{Subscription}
+use Rattle.yp_journal.specs.declared.reply.Reply.TheVariants.{Done, Id, Registry, Edit as EditRefused}
 
 -- ---- the state
 
--- what a command finds: the rows of the datastore, the policy of access control, the tick, how many commands came before, how many ids were given so far, the subscriptions, and the receivers, which stay as they were declared
+-- what a command finds: the rows of the datastore, the policy of access control, the tick, how many commands came before, the registry of subscriptions, and the receivers, which stay as they were declared
 pub record JournalState : Type 0 where
   pub rows : List Row
   pub policy : Policy
   pub stamp : ℕ
   pub position : ℕ
-  pub given : ℕ
-  pub subscriptions : List Subscription
+  pub registry : Subscriptions
   pub receivers : List ReceiverInfo
+
+-- the registry that the first command finds: the users and the names of the receivers, and no subscription
+abbrev pub first_registry : List ReceiverInfo → Subscriptions
+first_registry receivers = no_subscriptions (map (λ receiver. receiver.user) receivers) (map (λ receiver. receiver.name) receivers)
 
 -- what the first command finds
 abbrev pub first_state : List ReceiverInfo → JournalState
-first_state receivers = record { rows = []; policy = opening_policy; stamp = 0; position = 0; given = 0; subscriptions = []; receivers = receivers }
+first_state receivers = record { rows = []; policy = opening_policy; stamp = 0; position = 0; registry = first_registry receivers; receivers = receivers }
 
 -- the state one position further, with all else as it was
 abbrev pub one_further : JournalState → JournalState
@@ -88,29 +96,23 @@ rules_at state receiver = own_rules state.policy (user_of receiver state.receive
 abbrev pub may_read : List SchemaNode → JournalState → ℕ → List Seg → Bool
 may_read nodes state receiver path = is_readable nodes (rules_at state receiver) path
 
--- whether that user may call an operation (RFC 8341 section 3.4.4)
-abbrev pub may_ask : JournalState → ℕ → Operation → Bool
-may_ask state receiver op = may_call state.policy (user_of receiver state.receivers) op
-
 -- ---- subscriptions
 
--- the id of the next subscription, where so many ids were given: ids rise from the first, and none is given twice
-abbrev pub next_id : ℕ → ℕ
-next_id given = 2147483648 + given
+-- another registry in place of the old one
+abbrev pub with_registry : JournalState → Subscriptions → JournalState
+with_registry state registry = record (one_further state) { registry = registry }
 
--- one subscription more, for the receiver of this number
-abbrev pub with_subscription : JournalState → ℕ → JournalState
-with_subscription state by =
-    record (one_further state) { given = state.given + 1; subscriptions = state.subscriptions ++ record { id = next_id state.given; receiver = by } ∷ [] }
+-- the reply to a call that asks for a subscription
+abbrev pub reply_by : Result ℕ Refused → Reply
+reply_by (Ok id) = Id id
+reply_by (Err refusal) = Registry refusal
 
--- the same where it may be established, and a refusal where it may not
-abbrev pub subscribed : Bool → JournalState → ℕ → JournalState
-subscribed true state by = with_subscription state by
-subscribed false state by = one_further state
+-- the state after the establishment of a subscription, and the reply (RFC 8639 section 2.4.2, RFC 8641 section 4.4.1)
+abbrev pub after_establish : List SchemaNode → JournalState → ℕ → Ask → JournalState
+after_establish nodes state by ask = with_registry state (established nodes state.policy state.registry by ask state.stamp)
 
-abbrev pub subscription_reply : Bool → JournalState → Reply
-subscription_reply true state = Id (next_id state.given)
-subscription_reply false state = Denied
+abbrev pub establish_reply : List SchemaNode → JournalState → ℕ → Ask → Reply
+establish_reply nodes state by ask = reply_by (establish_answer nodes state.policy state.registry by ask state.stamp)
 
 -- ---- commands
 
@@ -120,7 +122,7 @@ accepted nodes state (Tick tick) = (with_tick state tick, Done)
 accepted nodes state (Edit patch) =
     (record (one_further state) { rows = rows_after state.rows (applied nodes state.rows patch) }, patch_reply patch (applied nodes state.rows patch))
 accepted nodes state (Rules policy) = (with_policy state policy, Done)
-accepted nodes state (Everything by) = (subscribed (may_ask state by Establish) state by, subscription_reply (may_ask state by Establish) state)
+accepted nodes state (Establish by ask) = (after_establish nodes state by ask, establish_reply nodes state by ask)
 
 abbrev pub next_state : List SchemaNode → JournalState → Command → JournalState
 next_state nodes state command = (accepted nodes state command).0
@@ -132,7 +134,7 @@ reply_to nodes state command = (accepted nodes state command).1
 abbrev pub is_refusal : Reply → Bool
 is_refusal Done = false
 is_refusal (Id id) = false
-is_refusal Denied = true
+is_refusal (Registry refusal) = true
 is_refusal (EditRefused edit_id tag path) = true
 
 -- the state after commands, in order
@@ -155,12 +157,26 @@ pub record IsRead (patch : Patch) : Type 0 where
   pub read : patch_in json ≡ Some patch
   pub few : length patch.edits < 2 ^ 32
 
+-- updates on change as they are made so far: of each change at once, with a full update first, and of changes of each kind (RFC 8641 section 3.1)
+abbrev pub at_once : Trigger
+at_once = OnChange 0 true (record { create = false; delete = false; insert = false; moved = false; replace = false })
+
+-- whether a subtree filter is asked for
+abbrev pub is_subtree : FilterAsk → Bool
+is_subtree (Subtree json) = true
+is_subtree other = false
+
+-- a subscription as it is served so far: one on change has no subtree filter, and is told at once
+abbrev pub IsServed : FilterAsk → Trigger → Type 0
+IsServed filter (Periodic period anchor) = Unit {0}
+IsServed filter (OnChange dampening sync excluded) = (is_subtree filter ≡ false) × (OnChange dampening sync excluded ≡ at_once)
+
 -- a command that can come of a script that declares these receivers
 abbrev pub MayCome : List SchemaNode → List ReceiverInfo → Command → Type 0
 MayCome nodes receivers (Tick tick) = tick ≤ tick_limit
 MayCome nodes receivers (Edit patch) = IsRead patch
 MayCome nodes receivers (Rules policy) = IsPolicyOf nodes policy
-MayCome nodes receivers (Everything by) = by < length receivers
+MayCome nodes receivers (Establish by ask) = (by < length receivers) × HasAnchor ask.trigger × IsServed ask.filter ask.trigger
 
 -- an entry that may follow where the journal has this state: its command may come, and its reply and its stamp are those of the fold
 pub record MayFollow (nodes : List SchemaNode) (state : JournalState) (entry : Entry) : Type 0 where

@@ -1,26 +1,32 @@
 -- What follows of journals: of one more entry, of refusals, and of the rows that commands leave.
-use Rattle.std.proofs.Common.{◌≡◌, ◌+◌, List, [], ◌∷◌, ◌++◌, length, Bool, true, false, true≢false, Result, Ok, Err, ◌≢◌, refl, sym, ◌∙◌, arith}
+use Rattle.std.proofs.Common.{◌≡◌, ℕ, ◌+◌, List, [], ◌∷◌, ◌++◌, length, true, false, true≢false, Option, Some, None, Result, Ok, Err, ◌≢◌, refl, sym, ◌∙◌, arith}
 use Rattle.yp_base.specs.declared.row.Row.{Row}
 use Rattle.yp_base.specs.RowLaws.{none_order}
 use Rattle.yp_schema.specs.declared.schema.SchemaNode.{SchemaNode}
 use Rattle.yp_schema.specs.Datastore.{IsDatastore}
-use Rattle.yp_nacm.specs.declared.execute.Operation.TheVariants.{Establish}
+use Rattle.yp_registry.specs.declared.ask.Ask.{Ask}
+use Rattle.yp_registry.specs.declared.refused.Refused.{Refused}
+use Rattle.yp_registry.specs.declared.ask.FilterAsk.{FilterAsk}
+use Rattle.yp_registry.specs.declared.ask.FilterAsk.TheVariants.{All, Subtree, XPath}
+use Rattle.yp_registry.specs.Registry.{Subscriptions, established, first_refusal, reasons_against, asked_for, terms_for, after_refusal, or_refused}
+use Rattle.yp_filter.specs.Filters.{all_rows}
 use Rattle.yp_nacm.specs.declared.policy.Policy.{Policy}
 use Rattle.yp_edit.specs.Patches.{RefusedEdit, applied}
 use Rattle.yp_journal.specs.declared.command.Command.{Command}
-use Rattle.yp_journal.specs.declared.command.Command.TheVariants.{Tick, Edit, Rules, Everything}
+use Rattle.yp_journal.specs.declared.command.Command.TheVariants.{Tick, Edit, Rules, Establish}
 use Rattle.yp_journal.specs.declared.entry.Entry.{Entry}
 use Rattle.yp_journal.specs.declared.receiver.ReceiverInfo.{ReceiverInfo}
-use Rattle.yp_journal.specs.History.{JournalState, first_state, one_further, rows_after, patch_reply, may_ask, subscribed, subscription_reply, next_state, reply_to, is_refusal, state_after, state_of, MayFollow, IsLegal}
+use Rattle.yp_journal.specs.History.{JournalState, first_state, one_further, rows_after, patch_reply, reply_by, is_subtree, with_registry, next_state, reply_to, is_refusal, state_after, state_of, MayFollow, IsLegal}
 
 -- a refused command leaves all but the position
 pub refusal_alone : (nodes : List SchemaNode) (state : JournalState) (command : Command) → is_refusal (reply_to nodes state command) ≡ true → next_state nodes state command ≡ one_further state
 refusal_alone nodes state (Tick tick) h = cc
 refusal_alone nodes state (Rules policy) h = cc
-refusal_alone nodes state (Everything by) h =
-    elim (may_ask state by Establish) as (λ (may : Bool). is_refusal (subscription_reply may state) ≡ true → subscribed may state by ≡ one_further state) [
-      | true ↦ λ g. cc
-      | false ↦ λ g. refl
+refusal_alone nodes state (Establish by ask) h =
+    let terms = terms_for nodes state.registry by ask state.stamp in
+    elim (first_refusal (reasons_against nodes state.policy state.registry by ask)) as (λ (found : Option Refused). is_refusal (reply_by (or_refused found terms.id)) ≡ true → with_registry state (after_refusal found state.registry terms) ≡ one_further state) [
+      | Some refusal ↦ λ g. refl
+      | None ↦ λ g. cc
     ] h
 refusal_alone nodes state (Edit patch) h =
     elim (applied nodes state.rows patch) as (λ (after : Result (List Row) RefusedEdit). is_refusal (patch_reply patch after) ≡ true → record (one_further state) { rows = rows_after state.rows after } ≡ one_further state) [
@@ -48,11 +54,7 @@ next_position : (nodes : List SchemaNode) (state : JournalState) (command : Comm
 next_position nodes state (Tick tick) = refl
 next_position nodes state (Edit patch) = refl
 next_position nodes state (Rules policy) = refl
-next_position nodes state (Everything by) =
-    elim (may_ask state by Establish) as (λ (may : Bool). (subscribed may state by).position ≡ state.position + 1) [
-      | true ↦ refl
-      | false ↦ refl
-    ]
+next_position nodes state (Establish by ask) = refl
 
 pub position_of : (nodes : List SchemaNode) (state : JournalState) (entries : List Entry) → (state_of nodes state entries).position ≡ state.position + length entries
 position_of nodes state [] = let same : state.position ≡ state.position + 0 = omega arith in same
@@ -66,26 +68,60 @@ next_receivers : (nodes : List SchemaNode) (state : JournalState) (command : Com
 next_receivers nodes state (Tick tick) = refl
 next_receivers nodes state (Edit patch) = refl
 next_receivers nodes state (Rules policy) = refl
-next_receivers nodes state (Everything by) =
-    elim (may_ask state by Establish) as (λ (may : Bool). (subscribed may state by).receivers ≡ state.receivers) [
-      | true ↦ refl
-      | false ↦ refl
-    ]
+next_receivers nodes state (Establish by ask) = refl
 
 pub receivers_stay : (nodes : List SchemaNode) (state : JournalState) (entries : List Entry) → (state_of nodes state entries).receivers ≡ state.receivers
 receivers_stay nodes state [] = refl
 receivers_stay nodes state (entry ∷ entries) = receivers_stay nodes (next_state nodes state entry.command) entries ∙ next_receivers nodes state entry.command
+
+-- nor the users and the names in the registry
+module _ (nodes : List SchemaNode) (policy : Policy) (registry : Subscriptions) (by : ℕ) (ask : Ask) (now : ℕ) where
+  pub established_users : (established nodes policy registry by ask now).users ≡ registry.users
+  established_users =
+      elim (first_refusal (reasons_against nodes policy registry by ask)) as (λ (found : Option Refused). (after_refusal found registry (terms_for nodes registry by ask now)).users ≡ registry.users) [
+        | Some refusal ↦ refl
+        | None ↦ refl
+      ]
+
+  established_names : (established nodes policy registry by ask now).names ≡ registry.names
+  established_names =
+      elim (first_refusal (reasons_against nodes policy registry by ask)) as (λ (found : Option Refused). (after_refusal found registry (terms_for nodes registry by ask now)).names ≡ registry.names) [
+        | Some refusal ↦ refl
+        | None ↦ refl
+      ]
+
+pub next_users : (nodes : List SchemaNode) (state : JournalState) (command : Command) → (next_state nodes state command).registry.users ≡ state.registry.users
+next_users nodes state (Tick tick) = refl
+next_users nodes state (Edit patch) = refl
+next_users nodes state (Rules policy) = refl
+next_users nodes state (Establish by ask) = established_users nodes state.policy state.registry by ask state.stamp
+
+pub next_names : (nodes : List SchemaNode) (state : JournalState) (command : Command) → (next_state nodes state command).registry.names ≡ state.registry.names
+next_names nodes state (Tick tick) = refl
+next_names nodes state (Edit patch) = refl
+next_names nodes state (Rules policy) = refl
+next_names nodes state (Establish by ask) = established_names nodes state.policy state.registry by ask state.stamp
+
+pub users_stay : (nodes : List SchemaNode) (state : JournalState) (entries : List Entry) → (state_of nodes state entries).registry.users ≡ state.registry.users
+users_stay nodes state [] = refl
+users_stay nodes state (entry ∷ entries) = users_stay nodes (next_state nodes state entry.command) entries ∙ next_users nodes state entry.command
+
+pub names_stay : (nodes : List SchemaNode) (state : JournalState) (entries : List Entry) → (state_of nodes state entries).registry.names ≡ state.registry.names
+names_stay nodes state [] = refl
+names_stay nodes state (entry ∷ entries) = names_stay nodes (next_state nodes state entry.command) entries ∙ next_names nodes state entry.command
+
+-- without a subtree filter everything is selected
+pub all_selected : (nodes : List SchemaNode) (filter : FilterAsk) → is_subtree filter ≡ false → asked_for nodes filter ≡ all_rows
+all_selected nodes All h = refl
+all_selected nodes (Subtree json) h = absurd (true≢false h)
+all_selected nodes XPath h = refl
 
 -- a command other than a policy leaves the policy
 pub policy_stays : (nodes : List SchemaNode) (state : JournalState) (command : Command) → ((policy : Policy) → command ≢ Rules policy) → (next_state nodes state command).policy ≡ state.policy
 policy_stays nodes state (Tick tick) other = refl
 policy_stays nodes state (Edit patch) other = refl
 policy_stays nodes state (Rules policy) other = absurd (other policy refl)
-policy_stays nodes state (Everything by) other =
-    elim (may_ask state by Establish) as (λ (may : Bool). (subscribed may state by).policy ≡ state.policy) [
-      | true ↦ refl
-      | false ↦ refl
-    ]
+policy_stays nodes state (Establish by ask) other = refl
 
 -- no rows are a datastore
 pub opening_datastore : (nodes : List SchemaNode) (receivers : List ReceiverInfo) → IsDatastore nodes (first_state receivers).rows

@@ -4,6 +4,7 @@ use yp_base::memory::{Duplicate, NoMemory};
 use yp_base::series::Series;
 use yp_edit::patch::Patch;
 use yp_nacm::policy::Policy;
+use yp_registry::ask::Ask;
 
 /// A command of the journal.
 #[derive(Drop)]
@@ -14,9 +15,9 @@ pub enum Command {
     Edit(Patch),
     /// Another policy of access control in place of the old one (RFC 8341 section 3.5).
     Rules(Policy),
-    /// An on-change subscription of everything (RFC 8641 section 3.1) for the receiver of this number,
-    /// from 0 on in the order of their declaration.
-    Everything { by: u32 },
+    /// A subscription is asked for (RFC 8639 section 2.4.2) by the receiver of this number, from 0 on in
+    /// the order of their declaration.
+    Establish { by: u32, ask: Ask },
 }
 
 /// Commands, in order.
@@ -28,7 +29,10 @@ impl Duplicate for Command {
             Command::Tick(tick) => Command::Tick(*tick),
             Command::Edit(patch) => Command::Edit(patch.copy(alloc)?),
             Command::Rules(policy) => Command::Rules(policy.copy(alloc)?),
-            Command::Everything { by } => Command::Everything { by: *by },
+            Command::Establish { by, ask } => Command::Establish {
+                by: *by,
+                ask: ask.copy(alloc)?,
+            },
         })
     }
 }

@@ -1,13 +1,16 @@
 //! Laws of journals, which the definitions keep; nothing runs.
-ghost use Rattle.std.specs.Prelude.{◌≡◌, ◌+◌, ◌++◌, ◌∷◌, [], List, length, true, ◌≢◌};
+ghost use Rattle.std.specs.Prelude.{◌≡◌, ◌+◌, ◌++◌, ◌∷◌, [], List, length, map, true, false, ◌≢◌};
+ghost use Rattle.yp_filter.specs.Filters.{all_rows};
 ghost use Rattle.yp_schema.specs.declared.schema.SchemaNode.{SchemaNode};
 ghost use Rattle.yp_schema.specs.Datastore.{IsDatastore};
 ghost use Rattle.yp_nacm.specs.declared.policy.Policy.{Policy};
+ghost use Rattle.yp_registry.specs.declared.ask.FilterAsk.{FilterAsk};
+ghost use Rattle.yp_registry.specs.Registry.{asked_for};
 ghost use Rattle.yp_journal.specs.declared.command.Command.{Command};
 ghost use Rattle.yp_journal.specs.declared.command.Command.TheVariants.{Rules};
 ghost use Rattle.yp_journal.specs.declared.entry.Entry.{Entry};
 ghost use Rattle.yp_journal.specs.declared.receiver.ReceiverInfo.{ReceiverInfo};
-ghost use Rattle.yp_journal.specs.History.{JournalState, first_state, one_further, next_state, reply_to, is_refusal, state_after, state_of, MayFollow, IsLegal};
+ghost use Rattle.yp_journal.specs.History.{JournalState, first_state, one_further, is_subtree, next_state, reply_to, is_refusal, state_after, state_of, MayFollow, IsLegal};
 
 use yp_edit::laws::a_patch_keeps_a_datastore;
 
@@ -32,14 +35,37 @@ pub fn a_journal_goes_on_entry_by_entry()
         → (state_of nodes state entries).receivers ≡ state.receivers }
 {}
 
-/// A policy stays until another one comes, and one that comes leaves the rows and the subscriptions.
+/// A policy stays until another one comes, and one that comes leaves the rows and the registry.
 #[tactic(auto, using(crate::specs::JournalLaws::policy_stays))]
 pub fn a_policy_stays_until_another_comes()
     ensures stays { (nodes : List SchemaNode) (state : JournalState) (command : Command)
         → ((policy : Policy) → command ≢ Rules policy) → (next_state nodes state command).policy ≡ state.policy }
     ensures comes { (nodes : List SchemaNode) (state : JournalState) (policy : Policy) → (next_state nodes state (Rules policy)).policy ≡ policy }
     ensures rows { (nodes : List SchemaNode) (state : JournalState) (policy : Policy) → (next_state nodes state (Rules policy)).rows ≡ state.rows }
-    ensures subscriptions { (nodes : List SchemaNode) (state : JournalState) (policy : Policy) → (next_state nodes state (Rules policy)).subscriptions ≡ state.subscriptions }
+    ensures registry { (nodes : List SchemaNode) (state : JournalState) (policy : Policy) → (next_state nodes state (Rules policy)).registry ≡ state.registry }
+{}
+
+/// The registry has the users and the names of the receivers, and no command changes these; so it has as
+/// many users as there are receivers.
+#[tactic(auto, using(crate::specs::JournalLaws::next_users, crate::specs::JournalLaws::next_names, crate::specs::JournalLaws::users_stay, crate::specs::JournalLaws::names_stay))]
+pub fn a_journal_keeps_users_and_names()
+    ensures opening_users { (receivers : List ReceiverInfo) → (first_state receivers).registry.users ≡ map (λ receiver. receiver.user) receivers }
+    ensures opening_names { (receivers : List ReceiverInfo) → (first_state receivers).registry.names ≡ map (λ receiver. receiver.name) receivers }
+    ensures next_users { (nodes : List SchemaNode) (state : JournalState) (command : Command)
+        → (next_state nodes state command).registry.users ≡ state.registry.users }
+    ensures next_names { (nodes : List SchemaNode) (state : JournalState) (command : Command)
+        → (next_state nodes state command).registry.names ≡ state.registry.names }
+    ensures users { (nodes : List SchemaNode) (state : JournalState) (entries : List Entry)
+        → (state_of nodes state entries).registry.users ≡ state.registry.users }
+    ensures names { (nodes : List SchemaNode) (state : JournalState) (entries : List Entry)
+        → (state_of nodes state entries).registry.names ≡ state.registry.names }
+{}
+
+/// Without a subtree filter everything is selected, also where an XPath filter is asked for, which is
+/// refused.
+#[tactic(auto, using(crate::specs::JournalLaws::all_selected))]
+pub fn without_a_subtree_everything_is_selected()
+    ensures { (nodes : List SchemaNode) (filter : FilterAsk) → is_subtree filter ≡ false → asked_for nodes filter ≡ all_rows }
 {}
 
 /// A legal journal stays legal with one entry more that may follow.

@@ -4,7 +4,8 @@
 //! and numbers, and each command as a function of that record (`specs/History.antt`, which also says
 //! which journals are legal). Commands, replies and entries are plain variants and fields, whose copies
 //! are equal. A refused command changes the position alone; where memory runs out nothing is changed.
-//! Patches follow RFC 8072, policies of access control RFC 8341, subscriptions RFC 8639 and RFC 8641.
+//! Patches follow RFC 8072, policies of access control RFC 8341, subscriptions RFC 8639 and RFC 8641,
+//! by the registry of `yp_registry`.
 #![tactic(auto)]
 
 pub mod command;
@@ -13,4 +14,3 @@ pub mod laws;
 pub mod receiver;
 pub mod reply;
 pub mod state;
-pub mod subscription;

@@ -5,6 +5,7 @@ use std::alloc::Global;
 use yp_base::memory::{Duplicate, NoMemory};
 use yp_base::txt::Txt;
 use yp_edit::fault::Tag;
+use yp_registry::refused::Refused;
 
 /// The reply to a command. It never tells that memory ran out.
 #[derive(Drop)]
@@ -13,8 +14,8 @@ pub enum Reply {
     Done,
     /// A subscription was given, with this id (RFC 8639 section 2.4.2).
     Id(u32),
-    /// The receiver's user may not call the operation (RFC 8341 section 3.4.4).
-    Denied,
+    /// A call that is about subscriptions is refused, for this reason.
+    Registry(Refused),
     /// A patch is refused: the id of the first edit that is refused, its error, and where the edit's
     /// target is a key leaf the target's text (RFC 8072 section 2.3).
     Edit {
@@ -38,7 +39,7 @@ impl Duplicate for Reply {
         Ok(match self {
             Reply::Done => Reply::Done,
             Reply::Id(id) => Reply::Id(*id),
-            Reply::Denied => Reply::Denied,
+            Reply::Registry(refusal) => Reply::Registry(*refusal),
             Reply::Edit { edit_id, tag, path } => Reply::Edit {
                 edit_id: edit_id.copy(alloc)?,
                 tag: *tag,

@@ -4,15 +4,15 @@ ghost use Rattle.yp_schema.specs.Datastore.{IsDatastore};
 ghost use Rattle.yp_edit.specs.Answers.{LeavesAll, NamesOneOf};
 ghost use Rattle.yp_edit.specs.Changes.{changed_rows};
 ghost use Rattle.yp_edit.specs.Patches.{applied};
-ghost use Rattle.yp_nacm.specs.declared.execute.Operation.TheVariants.{Establish};
 ghost use Rattle.yp_journal.specs.declared.command.Command.TheVariants.{Edit};
-ghost use Rattle.yp_journal.specs.History.{first_state, one_further, with_tick, with_policy, with_subscription, user_of, may_ask, subscribed, subscription_reply, id_at, next_id, next_state, reply_to, is_refusal, MayCome};
+ghost use Rattle.yp_registry.specs.Registry.{IsRegistryOf};
+ghost use Rattle.yp_registry.specs.Terms.{HasAnchor};
+ghost use Rattle.yp_journal.specs.History.{first_state, first_registry, one_further, with_tick, with_policy, after_establish, establish_reply, id_at, next_state, reply_to, is_refusal, MayCome};
 ghost use Rattle.yp_time.specs.Ticks.{tick_limit};
 
 use crate::command::Command;
 use crate::receiver::{ReceiverInfo, Receivers};
 use crate::reply::Reply;
-use crate::subscription::{Subscription, next_id};
 use std::alloc::Global;
 use std::marker::{Brand, Model};
 use std::sync::ledger::{Blank, Ledger};
@@ -24,8 +24,10 @@ use yp_edit::applying::apply;
 use yp_edit::changed::Changed;
 use yp_edit::fault::EditFault;
 use yp_edit::patch::{Edits, Patch};
-use yp_nacm::execute::{Operation, may_exec};
 use yp_nacm::policy::Policy;
+use yp_registry::ask::Ask;
+use yp_registry::refused::Refused;
+use yp_registry::registry::Registry;
 use yp_schema::schema::Schema;
 use yp_tree::tree::Tree;
 
@@ -36,22 +38,24 @@ pub struct State {
     policy: Policy,
     stamp: u64,
     position: u64,
-    /// How many ids of subscriptions were given.
-    given: u32,
-    subscriptions: Vec<Subscription>,
+    registry: Registry,
     receivers: Receivers,
 }
 
 impl Model for State {
-    ghost use Rattle.std.specs.Prelude.{◌≤◌};
+    ghost use Rattle.std.specs.Coded.{codes};
+    ghost use Rattle.std.specs.Prelude.{◌≡◌, ◌≤◌, length};
     ghost use Rattle.yp_journal.specs.History.{JournalState};
+    ghost use Rattle.yp_registry.specs.Coding.{coded_subscriptions};
     ghost use Rattle.yp_time.specs.Ticks.{tick_limit};
 
     ghost Value = { JournalState };
 
-    ghost view = { λ s. record { rows = s.tree; policy = s.policy; stamp = s.stamp; position = s.position; given = s.given; subscriptions = s.subscriptions.items; receivers = s.receivers } };
+    ghost coded = { Prim.hlevel (codes, coded_subscriptions) };
 
-    ghost invariant = { λ s. s.stamp ≤ tick_limit };
+    ghost view = { λ s. record { rows = s.tree; policy = s.policy; stamp = s.stamp; position = s.position; registry = s.registry; receivers = s.receivers } };
+
+    ghost invariant = { λ s. (s.stamp ≤ tick_limit) × (length s.registry.users ≡ length s.receivers) };
 }
 
 /// What came of a command.
@@ -105,6 +109,19 @@ fn apply_with<L: Ledger>(
     apply(alloc, schema, tree, patch, &mut steps)
 }
 
+/// The users and the names of receivers.
+fn first_registry(alloc: Global, receivers: &[ReceiverInfo]) -> Result<Registry, NoMemory>
+    ensures { IfOk result (λ registry. registry ≡ first_registry receivers.now) }
+{
+    let mut users = Vec::new(alloc);
+    let mut names = Vec::new(alloc);
+    for receiver in receivers {
+        users.push(receiver.user.copy(alloc)?)?;
+        names.push(receiver.name.copy(alloc)?)?;
+    }
+    Ok(Registry::new(alloc, Series::from_vec(users), Series::from_vec(names)))
+}
+
 fn no_changes(alloc: Global) -> Changed
     ensures { result ≡ [] }
 {
@@ -126,8 +143,7 @@ impl State {
             policy: Policy::opening(alloc),
             stamp: 0,
             position: 0,
-            given: 0,
-            subscriptions: Vec::new(alloc),
+            registry: first_registry(alloc, receivers)?,
             receivers: copies_of(alloc, receivers)?,
         })
     }
@@ -161,18 +177,17 @@ impl State {
         self.position
     }
 
-    /// The subscriptions, in the order in which they were given.
-    pub fn subscriptions(&self) -> &[Subscription]
-        ensures given { result.now ≡ self.now.subscriptions }
+    /// The registry of subscriptions. It has a user for each receiver.
+    pub fn registry(&self) -> &Registry
+        ensures registry { result.now ≡ self.now.registry }
+        ensures users { length self.now.registry.users ≡ length self.now.receivers }
     {
-        self.subscriptions.as_slice()
+        &self.registry
     }
 
     /// Takes a command: the state goes on to what it leaves, and its reply and the rows that it changed
-    /// are told. A command that is refused moves the position alone; so a subscription is denied where the
-    /// receiver's user may not establish one (RFC 8341 section 3.4.4). After `NoMemory` the state is as it
-    /// was; it is returned too where 2147483648 ids were given and a subscription is asked for. Rows that
-    /// are a datastore of the schema stay one.
+    /// are told. A command that is refused moves the position alone. After `NoMemory` the state is as it
+    /// was. Rows that are a datastore of the schema stay one, and so does a registry of it.
     #[tactic(auto, using(yp_edit::specs::ChangeLaws::none_differ))]
     pub fn accept(
         &mut self,
@@ -192,12 +207,13 @@ impl State {
         ensures receivers { self.new.receivers ≡ self.old.receivers }
         ensures unchanged { OnErr result (self.new ≡ self.old) }
         ensures datastore { IsDatastore schema.now self.old.rows → IsDatastore schema.now self.new.rows }
+        ensures registry { IsRegistryOf schema.now self.old.registry → IsRegistryOf schema.now self.new.registry }
     {
         match command {
             Command::Tick(tick) => Ok(self.tick(alloc, *tick)),
             Command::Edit(patch) => self.edit(alloc, schema, patch),
             Command::Rules(policy) => self.govern(alloc, policy),
-            Command::Everything { by } => self.request(alloc, *by),
+            Command::Establish { by, ask } => self.establish(alloc, schema, *by, ask),
         }
     }
 
@@ -260,38 +276,32 @@ impl State {
         Ok(self.advance(Reply::Done, no_changes(alloc)))
     }
 
-    /// The user of the receiver of this number.
-    fn user(&self, number: u32) -> &str
-        requires { number < length self.now.receivers }
-        ensures { result.now ≡ user_of number self.now.receivers }
-    {
-        self.receivers.items()[number as usize].user.as_str()
-    }
-
-    /// Gives a subscription to a receiver, where its user may establish one.
-    fn request(&mut self, alloc: Global, by: u32) -> Result<Outcome, NoMemory>
+    /// Asks the registry for a subscription.
+    fn establish(
+        &mut self,
+        alloc: Global,
+        schema: &Schema,
+        by: u32,
+        ask: &Ask,
+    ) -> Result<Outcome, NoMemory>
         requires receiver { by < length self.old.receivers }
+        requires anchor { HasAnchor ask.now.trigger }
         requires position { self.old.position < 2 ^ 63 }
-        ensures state { OnOk result (self.new ≡ subscribed (may_ask self.old by Establish) self.old by) }
-        ensures outcome { IfOk result (λ outcome. outcome ≡ record { stamp = self.old.stamp; reply = subscription_reply (may_ask self.old by Establish) self.old; changed = [] }) }
+        ensures state { OnOk result (self.new ≡ after_establish schema.now self.old by ask.now) }
+        ensures outcome { IfOk result (λ outcome. outcome ≡ record { stamp = self.old.stamp; reply = establish_reply schema.now self.old by ask.now; changed = [] }) }
         ensures unchanged { OnErr result (self.new ≡ self.old) }
+        ensures kept { IsRegistryOf schema.now self.old.registry → IsRegistryOf schema.now self.new.registry }
     {
-        if !may_exec(&self.policy, self.user(by), Operation::Establish) {
-            return Ok(self.advance(Reply::Denied, no_changes(alloc)));
+        let stamp = self.stamp;
+        match self
+            .registry
+            .establish(alloc, schema, &self.policy, by, ask, stamp)
+        {
+            Ok(id) => Ok(self.advance(Reply::Id(id), no_changes(alloc))),
+            Err(refusal) => match refusal {
+                Refused::Memory => Err(NoMemory),
+                _ => Ok(self.advance(Reply::Registry(refusal), no_changes(alloc))),
+            },
         }
-        self.subscribe(alloc, by)
-    }
-
-    /// Gives a subscription to a receiver.
-    fn subscribe(&mut self, alloc: Global, by: u32) -> Result<Outcome, NoMemory>
-        requires { self.old.position < 2 ^ 63 }
-        ensures state { OnOk result (self.new ≡ with_subscription self.old by) }
-        ensures outcome { IfOk result (λ outcome. outcome ≡ record { stamp = self.old.stamp; reply = Reply.Id (next_id self.old.given); changed = [] }) }
-        ensures unchanged { OnErr result (self.new ≡ self.old) }
-    {
-        let id = next_id(self.given)?;
-        self.subscriptions.push(Subscription { id, receiver: by })?;
-        self.given += 1;
-        Ok(self.advance(Reply::Id(id), no_changes(alloc)))
     }
 }
