@@ -1,5 +1,9 @@
 pub mod Concealing
+pub mod Due
+pub mod Each
 pub mod Everywhere
+pub mod Feeds
+pub mod Fitting
 pub mod Held
 pub mod Mirror
 pub mod Own
@@ -9,4 +13,4 @@ pub mod Selecting
 pub mod Sendables
 pub mod Serving
 pub mod Steps
-pub mod Subscriptions
+pub mod Timing

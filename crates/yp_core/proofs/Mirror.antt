@@ -1,30 +1,31 @@
 -- After each update of a subscription its receiver's rows are fresh selection; the positions of its updates rise.
-use Rattle.std.proofs.Common.{◌≡◌, ℕ, suc, ◌+◌, ◌==◌, ◌<◌, ◌&&◌, Bool, true, false, true≢false, List, [], ◌∷◌, ◌++◌, take, Option, Some, None, is_some, unwrap_or, refl, sym, ap, ◌∙◌, subst, cond, arith}
+use Rattle.std.proofs.Common.{◌≡◌, ℕ, suc, ◌+◌, ◌<◌, Bool, true, false, true≢false, List, [], ◌∷◌, ◌++◌, take, Option, Some, None, unwrap_or, refl, sym, ap, ◌∙◌, subst, cond, arith}
 use Rattle.std.proofs.lemmas.List.Elements.{filter-append}
 use Rattle.yp_base.specs.declared.notice.Change.{Change}
-use Rattle.yp_base.specs.declared.notice.Notice.TheVariants.{Full}
+use Rattle.yp_base.specs.declared.notice.Trigger.{Trigger}
+use Rattle.yp_base.specs.declared.notice.Trigger.TheVariants.{Periodic, OnChange}
 use Rattle.yp_base.specs.declared.row.Row.{Row}
 use Rattle.yp_base.specs.Rows.{changed_by, put_rows}
 use Rattle.yp_schema.specs.declared.schema.SchemaNode.{SchemaNode}
 use Rattle.yp_schema.specs.WellFormed.{IsSchema}
-use Rattle.yp_nacm.specs.Same.{are_same_rules}
 use Rattle.yp_edit.specs.Records.{change_record}
 use Rattle.yp_journal.specs.declared.command.Command.{Command}
 use Rattle.yp_journal.specs.declared.entry.Entry.{Entry}
 use Rattle.yp_journal.specs.declared.receiver.ReceiverInfo.{ReceiverInfo}
-use Rattle.yp_journal.specs.declared.subscription.Subscription.{Subscription}
-use Rattle.yp_journal.specs.History.{JournalState, first_state, next_state, state_of, rules_at}
-use Rattle.yp_journal.specs.JournalLaws.{position_of, CommandsKeepDatastores}
+use Rattle.yp_journal.specs.History.{JournalState, first_state, next_state, state_of, IsLegal}
+use Rattle.yp_journal.specs.JournalLaws.{position_of}
 use Rattle.yp_core.specs.Concealed.{RisesPast, NeverFall}
 use Rattle.yp_core.specs.declared.made.Made.{Made}
 use Rattle.yp_core.specs.Received.{held_of, received, updates, IsFresh, Mirrors}
 use Rattle.yp_core.specs.States.{Fits}
-use Rattle.yp_core.specs.Updates.{of_id, is_given, change_update, updates_of, attempts_at, attempts_from, made_for, made_by, state_at, want}
+use Rattle.yp_core.specs.Updates.{Feed, all_feeds, attempts_at, attempts_from, change_update, feed_at, first_updates, full_update, full_where, is_due_between, is_given, is_on_change, keeps_rules_of, made_for, made_by, next_updates, state_at, updates_of, want}
 use Rattle.yp_core.specs.AttemptLaws.{made_of, made_joined}
+use Rattle.yp_core.proofs.Each.{all_found}
+use Rattle.yp_core.proofs.Feeds.{all_apart, feed_is_new, feed_stays, found_id, is_feed, number_itself, were_given}
+use Rattle.yp_core.proofs.Fitting.{StatesFit}
 use Rattle.yp_core.proofs.Held.{heard_of, received_of, held_received}
-use Rattle.yp_core.proofs.Own.{own, own_update, told, own_at, received_own, own_split}
-use Rattle.yp_core.proofs.Selecting.{SameRules, want_leads, want_stays, want_told}
-use Rattle.yp_core.proofs.Subscriptions.{given_is, given_stays, has_id, fits_first, fits_next}
+use Rattle.yp_core.proofs.Own.{own, own_update, own_at, received_own, own_split}
+use Rattle.yp_core.proofs.Selecting.{want_leads, want_stays, want_told}
 
 -- what all steps make of a subscription's updates is what the first makes, and then what the others make
 own_on : (nodes : List SchemaNode) (receiver id : ℕ) (state : JournalState) (entry : Entry) (entries : List Entry)
@@ -37,107 +38,114 @@ own_on nodes receiver id state entry entries =
 
 -- ---- one step
 
--- where a subscription is the receiver's, these rows are held of it
+-- where a feed is there that is told on change, these rows are held of it
 abbrev Holds : List SchemaNode → ℕ → ℕ → JournalState → Option (List Row) → Type 0
-Holds nodes receiver id state held = (s : Subscription) → of_id id state.subscriptions ≡ Some s → (s.receiver == receiver) ≡ true → held ≡ Some (want nodes state s)
+Holds nodes receiver id state held = (feed : Feed) → feed_at id receiver state ≡ Some feed → is_on_change feed.terms.trigger ≡ true → held ≡ Some (want nodes state feed)
 
--- what a step makes for a subscription: nothing where nothing has to be heard, or one update that leaves fresh selection
+-- what a step makes for a feed: nothing where nothing has to be heard, or one update that leaves fresh selection
 abbrev IsStep : List SchemaNode → ℕ → ℕ → JournalState → Option (List Row) → List Made → Type 0
 IsStep nodes receiver id after held [] = Holds nodes receiver id after held
 IsStep nodes receiver id after held (made ∷ []) = (made.position ≡ after.position) × IsFresh nodes after receiver id (heard_of id made.notice held)
 IsStep nodes receiver id after held (made ∷ other ∷ more) = ⊥
 
-none_held : (nodes : List SchemaNode) (receiver id : ℕ) (after : JournalState) (held : Option (List Row)) (s : Subscription) → of_id id after.subscriptions ≡ Some s → (s.receiver == receiver) ≡ false → Holds nodes receiver id after held
-none_held nodes receiver id after held s is other t there mine = let one : s ≡ t = cc in absurd (true≢false (sym mine ∙ ap (λ (u : Subscription). u.receiver == receiver) (sym one) ∙ other))
+-- there is one feed of an id for a receiver at most
+one_of : (found : Option Feed) (feed other : Feed) → found ≡ Some feed → found ≡ Some other → feed ≡ other
+one_of found feed other is was = cc
 
-itself : (id other : ℕ) → other ≡ id → (other == id) ≡ true
-itself id other is = grind (arith, is)
+module _ (nodes : List SchemaNode) (receiver id : ℕ) (before after : JournalState) (held : Option (List Row)) (feed : Feed) (there : feed_at id receiver after ≡ Some feed) where
+  same_id : feed.terms.id ≡ id
+  same_id = found_id id receiver after feed there
 
-same_one : (a b : ℕ) → (a == b) ≡ true → a ≡ b
-same_one a b is = grind (arith, is)
+  -- a feed that is told all holds it
+  full_step : Fits nodes after → IsStep nodes receiver id after held (made_of after (full_update nodes after feed ∷ []))
+  full_step next = (
+    refl,
+    record {
+      feed = feed;
+      given = there;
+      rows =
+          ap (λ (b : Bool). cond b (Some (put_rows (want nodes after feed) [])) held) (number_itself feed.terms.id id same_id)
+          ∙ ap (λ (rows : List Row). Some rows) (want_told nodes after feed next);
+    },
+  )
 
--- there is one subscription of an id at most
-one_of : (found : Option Subscription) (s t : Subscription) → found ≡ Some s → found ≡ Some t → s ≡ t
-one_of found s t is other = cc
+  -- one that isn't told on change needs to hold nothing
+  not_told : is_on_change feed.terms.trigger ≡ false → Holds nodes receiver id after held
+  not_told periodic other found on_change =
+      let one : feed ≡ other = one_of (feed_at id receiver after) feed other there found in
+      absurd (true≢false (sym on_change ∙ ap (λ (f : Feed). is_on_change f.terms.trigger) (sym one) ∙ periodic))
 
--- a subscription that goes on hears what changed
-given_step : (nodes : List SchemaNode) (receiver id : ℕ) (before after : JournalState) (held : Option (List Row)) (s : Subscription) (changes : List Change)
-    → changes ≡ change_record (want nodes before s) (want nodes after s) → SameRules before after s → Fits nodes before → Fits nodes after → held ≡ Some (want nodes before s) → s.id ≡ id → of_id id after.subscriptions ≡ Some s
-    → (s.receiver == receiver) ≡ true → IsStep nodes receiver id after held (made_of after (change_update s.id after.position changes))
-given_step nodes receiver id before after held s [] is rules fits next held_is same there_is is_mine = λ t there mine.
-    held_is ∙ ap (λ (rows : List Row). Some rows) (want_stays nodes before after s rules fits next (sym is)) ∙ ap (λ (u : Subscription). Some (want nodes after u)) (one_of (of_id id after.subscriptions) s t there_is there)
-given_step nodes receiver id before after held s (change ∷ changes) is rules fits next held_is same there_is is_mine = (
-  refl,
-  record {
-    subscription = s;
-    given = there_is;
-    mine = same_one s.receiver receiver is_mine;
-    rows =
-        ap (λ b. cond b (Some (changed_by (change ∷ changes) (unwrap_or held []))) held) (itself id s.id same)
-        ∙ ap (λ h. Some (changed_by (change ∷ changes) (unwrap_or h []))) held_is
-        ∙ ap (λ cs. Some (changed_by cs (want nodes before s))) is
-        ∙ ap (λ (rows : List Row). Some rows) (want_leads nodes before after s rules fits next);
-  },
-)
+  where_step : (due : Bool) → is_on_change feed.terms.trigger ≡ false → Fits nodes after → IsStep nodes receiver id after held (made_of after (full_where due nodes after feed))
+  where_step true periodic next = full_step next
+  where_step false periodic next = not_told periodic
 
--- any other hears all
-full_step : (nodes : List SchemaNode) (receiver id : ℕ) (after : JournalState) (held : Option (List Row)) (s : Subscription) → Fits nodes after → s.id ≡ id → of_id id after.subscriptions ≡ Some s → (s.receiver == receiver) ≡ true
-    → IsStep nodes receiver id after held (made_of after (Full s.id (want nodes after s) ∷ []))
-full_step nodes receiver id after held s fits same there_is is_mine = (
-  refl,
-  record {
-    subscription = s;
-    given = there_is;
-    mine = same_one s.receiver receiver is_mine;
-    rows = ap (λ b. cond b (Some (put_rows (want nodes after s) [])) held) (itself id s.id same) ∙ ap (λ (rows : List Row). Some rows) (want_told nodes after s fits);
-  },
-)
+  -- one that is told on change hears what changed
+  change_step : (changes : List Change) → changes ≡ change_record (want nodes before feed) (want nodes after feed) → Fits nodes before → Fits nodes after → held ≡ Some (want nodes before feed)
+      → IsStep nodes receiver id after held (made_of after (change_update feed.terms.id after.position changes))
+  change_step [] is fits next held_is = λ other found on_change.
+      held_is
+      ∙ ap (λ (rows : List Row). Some rows) (want_stays nodes before after feed fits next (sym is))
+      ∙ ap (λ (f : Feed). Some (want nodes after f)) (one_of (feed_at id receiver after) feed other there found)
+  change_step (change ∷ changes) is fits next held_is = (
+    refl,
+    record {
+      feed = feed;
+      given = there;
+      rows =
+          ap (λ (b : Bool). cond b (Some (changed_by (change ∷ changes) (unwrap_or held []))) held) (number_itself feed.terms.id id same_id)
+          ∙ ap (λ (h : Option (List Row)). Some (changed_by (change ∷ changes) (unwrap_or h []))) held_is
+          ∙ ap (λ (cs : List Change). Some (changed_by cs (want nodes before feed))) is
+          ∙ ap (λ (rows : List Row). Some rows) (want_leads nodes before after feed fits next);
+    },
+  )
 
--- one that was there goes on where its user's own rules are the same
-was_given : (nodes : List SchemaNode) (receiver id : ℕ) (before after : JournalState) (held : Option (List Row)) (s : Subscription) (r : Bool)
-    → (s.receiver == receiver) ≡ r → of_id id before.subscriptions ≡ Some s → of_id id after.subscriptions ≡ Some s → Fits nodes before → Fits nodes after → Holds nodes receiver id before held
-    → IsStep nodes receiver id after held (cond r (made_of after (updates_of nodes before after s)) [])
-was_given nodes receiver id before after held s false mine was is fits next holds = none_held nodes receiver id after held s is mine
-was_given nodes receiver id before after held s true mine was is fits next holds =
-    let same : s.id ≡ id = has_id id before.subscriptions s was in
-    let given : is_given s.id before.subscriptions ≡ true = ap (λ n. is_given n before.subscriptions) same ∙ given_is id before.subscriptions ∙ ap (λ (o : Option Subscription). is_some o) was in
-    let rules : Bool = are_same_rules (rules_at before s.receiver) (rules_at after s.receiver) in
-    let changes : List Change = change_record (want nodes before s) (want nodes after s) in
-    subst (λ (b : Bool). IsStep nodes receiver id after held (made_of after (told (b && rules) after s changes (want nodes after s)))) (sym given)
-    (elim rules as (λ (b : Bool). rules ≡ b → IsStep nodes receiver id after held (made_of after (told b after s changes (want nodes after s)))) [
-      | true ↦ λ stay. given_step nodes receiver id before after held s changes refl stay fits next (holds s was mine) same is mine
-      | false ↦ λ change. full_step nodes receiver id after held s next same is mine
-    ] refl)
+  next_step : (trigger : Trigger) → feed.terms.trigger ≡ trigger → Fits nodes before → Fits nodes after → (is_on_change feed.terms.trigger ≡ true → held ≡ Some (want nodes before feed))
+      → IsStep nodes receiver id after held (made_of after (next_updates trigger nodes before after feed))
+  next_step (Periodic period anchor) is fits next holds = where_step (is_due_between (Periodic period anchor) (before.stamp + 1) after.stamp) (ap is_on_change is) next
+  next_step (OnChange dampening sync excluded) is fits next holds =
+      change_step (change_record (want nodes before feed) (want nodes after feed)) refl fits next (holds (ap is_on_change is))
 
--- one that the step establishes hears all
-is_new : (nodes : List SchemaNode) (receiver id : ℕ) (before after : JournalState) (held : Option (List Row)) (s : Subscription) (r : Bool)
-    → (s.receiver == receiver) ≡ r → of_id id before.subscriptions ≡ None → of_id id after.subscriptions ≡ Some s → Fits nodes after
-    → IsStep nodes receiver id after held (cond r (made_of after (updates_of nodes before after s)) [])
-is_new nodes receiver id before after held s false mine was is next = none_held nodes receiver id after held s is mine
-is_new nodes receiver id before after held s true mine was is next =
-    let same : s.id ≡ id = has_id id after.subscriptions s is in
-    let given : is_given s.id before.subscriptions ≡ false = ap (λ n. is_given n before.subscriptions) same ∙ given_is id before.subscriptions ∙ ap (λ (o : Option Subscription). is_some o) was in
-    subst (λ (b : Bool). IsStep nodes receiver id after held (made_of after (told (b && are_same_rules (rules_at before s.receiver) (rules_at after s.receiver)) after s (change_record (want nodes before s) (want nodes after s)) (want nodes after s)))) (sym given)
-    (full_step nodes receiver id after held s next same is mine)
+  first_step : (trigger : Trigger) → feed.terms.trigger ≡ trigger → Fits nodes after → IsStep nodes receiver id after held (made_of after (first_updates trigger nodes after feed))
+  first_step (Periodic period anchor) is next = where_step (is_due_between (Periodic period anchor) after.stamp after.stamp) (ap is_on_change is) next
+  first_step (OnChange dampening sync excluded) is next = full_step next
 
-new_or_none : (nodes : List SchemaNode) (receiver id : ℕ) (before after : JournalState) (held : Option (List Row)) (now : Option Subscription)
-    → of_id id before.subscriptions ≡ None → of_id id after.subscriptions ≡ now → Fits nodes after → IsStep nodes receiver id after held (own_update nodes receiver before after now)
-new_or_none nodes receiver id before after held None was is next = λ s there mine. let never : None ≡ Some s = sym is ∙ there in cc
-new_or_none nodes receiver id before after held (Some s) was is next = is_new nodes receiver id before after held s (s.receiver == receiver) refl was is next
+  -- what a feed is told that was there before
+  given_step : feed_at id receiver before ≡ Some feed → Fits nodes before → Fits nodes after → Holds nodes receiver id before held → IsStep nodes receiver id after held (made_of after (updates_of nodes before after feed))
+  given_step was fits next holds =
+      let keeps : Bool = keeps_rules_of before after feed in
+      let given : is_given feed.terms.id before.registry.live ≡ true = all_found (λ (f : Feed). is_given f.terms.id before.registry.live ≡ true) (is_feed id receiver) (all_feeds before) feed was (were_given before) in
+      subst (λ (b : Bool). IsStep nodes receiver id after held (made_of after (cond b (cond keeps (next_updates feed.terms.trigger nodes before after feed) (full_update nodes after feed ∷ [])) (first_updates feed.terms.trigger nodes after feed))))
+      (sym given)
+      (elim keeps as (λ (b : Bool). IsStep nodes receiver id after held (made_of after (cond b (next_updates feed.terms.trigger nodes before after feed) (full_update nodes after feed ∷ [])))) [
+        | true ↦ next_step feed.terms.trigger refl fits next (holds feed was)
+        | false ↦ full_step next
+      ])
 
-one_step : CommandsKeepDatastores → (nodes : List SchemaNode) (receiver id : ℕ) (before : JournalState) (command : Command) (held : Option (List Row)) (was : Option Subscription) → of_id id before.subscriptions ≡ was → Fits nodes before → Holds nodes receiver id before held
-    → IsStep nodes receiver id (next_state nodes before command) held (own_update nodes receiver before (next_state nodes before command) (of_id id (next_state nodes before command).subscriptions))
-one_step keeps nodes receiver id before command held None was fits holds = new_or_none nodes receiver id before (next_state nodes before command) held (of_id id (next_state nodes before command).subscriptions) was refl (fits_next keeps nodes before command fits)
-one_step keeps nodes receiver id before command held (Some s) was fits holds =
-    let is : of_id id (next_state nodes before command).subscriptions ≡ Some s = given_stays nodes before command id s was in
-    subst (λ (o : Option Subscription). IsStep nodes receiver id (next_state nodes before command) held (own_update nodes receiver before (next_state nodes before command) o)) (sym is)
-    (was_given nodes receiver id before (next_state nodes before command) held s (s.receiver == receiver) refl was is fits (fits_next keeps nodes before command fits) holds)
+  -- and one that is new
+  new_step : is_given feed.terms.id before.registry.live ≡ false → Fits nodes after → IsStep nodes receiver id after held (made_of after (updates_of nodes before after feed))
+  new_step new next =
+      subst
+      (λ (b : Bool). IsStep nodes receiver id after held
+      (made_of after (cond b (cond (keeps_rules_of before after feed) (next_updates feed.terms.trigger nodes before after feed) (full_update nodes after feed ∷ [])) (first_updates feed.terms.trigger nodes after feed))))
+      (sym new) (first_step feed.terms.trigger refl next)
 
-step_own : CommandsKeepDatastores → (nodes : List SchemaNode) (receiver id : ℕ) (before : JournalState) (command : Command) (held : Option (List Row)) → Fits nodes before → Holds nodes receiver id before held
-    → IsStep nodes receiver id (next_state nodes before command) held (own id (made_for receiver (attempts_at nodes before (next_state nodes before command))))
-step_own keeps nodes receiver id before command held fits holds =
-    subst (λ (made : List Made). IsStep nodes receiver id (next_state nodes before command) held made) (sym (own_at nodes receiver id before (next_state nodes before command) (fits_next keeps nodes before command fits).ids))
-    (one_step keeps nodes receiver id before command held (of_id id before.subscriptions) refl fits holds)
+module _ (nodes : List SchemaNode) (receiver id : ℕ) (before : JournalState) (command : Command) (held : Option (List Row)) (fits : Fits nodes before) (next : Fits nodes (next_state nodes before command)) where
+  abbrev after : JournalState
+  after = next_state nodes before command
+
+  new_or_none : feed_at id receiver before ≡ None → (now : Option Feed) → feed_at id receiver after ≡ now → IsStep nodes receiver id after held (own_update nodes before after now)
+  new_or_none was None is = λ feed there on_change. let never : None ≡ Some feed = sym is ∙ there in cc
+  new_or_none was (Some feed) is = new_step nodes receiver id before after held feed is (feed_is_new nodes before command id receiver feed fits.ids was is) next
+
+  one_step : (was : Option Feed) → feed_at id receiver before ≡ was → Holds nodes receiver id before held → IsStep nodes receiver id after held (own_update nodes before after (feed_at id receiver after))
+  one_step None was holds = new_or_none was (feed_at id receiver after) refl
+  one_step (Some feed) was holds =
+      let is : feed_at id receiver after ≡ Some feed = feed_stays nodes before command id receiver feed was in
+      subst (λ (o : Option Feed). IsStep nodes receiver id after held (own_update nodes before after o)) (sym is) (given_step nodes receiver id before after held feed is was fits next holds)
+
+  step_own : Holds nodes receiver id before held → IsStep nodes receiver id after held (own id (made_for receiver (attempts_at nodes before after)))
+  step_own holds =
+      subst (λ (made : List Made). IsStep nodes receiver id after held made) (sym (own_at nodes receiver id before after (all_apart nodes after next))) (one_step (feed_at id receiver before) refl holds)
 
 -- ---- all steps
 
@@ -147,10 +155,10 @@ record IsMirrored (nodes : List SchemaNode) (receiver id : ℕ) (state : Journal
   position : update.position ≡ state.position + count
   fresh : IsFresh nodes (state_of nodes state (take count entries)) receiver id (received_of id held (before ++ update ∷ []))
 
--- a step that made an update leaves what each subscription of the id selects
+-- a step that made an update leaves what the feed selects
 fresh_holds : (nodes : List SchemaNode) (state : JournalState) (receiver id : ℕ) (held : Option (List Row)) → IsFresh nodes state receiver id held → Holds nodes receiver id state held
-fresh_holds nodes state receiver id held fresh s there mine =
-    fresh.rows ∙ ap (λ (u : Subscription). Some (want nodes state u)) (one_of (of_id id state.subscriptions) fresh.subscription s fresh.given there)
+fresh_holds nodes state receiver id held fresh feed there on_change =
+    fresh.rows ∙ ap (λ (f : Feed). Some (want nodes state f)) (one_of (feed_at id receiver state) fresh.feed feed fresh.given there)
 
 further : (nodes : List SchemaNode) (receiver id : ℕ) (state : JournalState) (entry : Entry) (entries : List Entry) (held was : Option (List Row)) (before all : List Made) (update : Made)
     → received_of id was (all ++ update ∷ []) ≡ received_of id held (before ++ update ∷ [])
@@ -184,22 +192,23 @@ mirrored_at nodes receiver id state held entry entries (made ∷ []) (m ∷ befo
     (later (heard_of id made.notice held) before (fresh_holds nodes (next_state nodes state entry.command) receiver id (heard_of id made.notice held) step.1) rest)
 mirrored_at nodes receiver id state held entry entries (made ∷ other ∷ more) before update after step is later = absurd step
 
-mirrored : CommandsKeepDatastores → (nodes : List SchemaNode) (receiver id : ℕ) (state : JournalState) (held : Option (List Row)) (entries : List Entry) (before : List Made) (update : Made) (after : List Made) → Fits nodes state → Holds nodes receiver id state held
+mirrored : StatesFit → (nodes : List SchemaNode) (receiver id : ℕ) (state : JournalState) (held : Option (List Row)) (entries : List Entry) (before : List Made) (update : Made) (after : List Made) → IsLegal nodes state entries → Fits nodes state → Holds nodes receiver id state held
     → own id (made_for receiver (attempts_from nodes state entries)) ≡ before ++ update ∷ after → IsMirrored nodes receiver id state held entries before update
-mirrored keeps nodes receiver id state held [] [] update after fits holds is = absurd cc
-mirrored keeps nodes receiver id state held [] (m ∷ before) update after fits holds is = absurd cc
-mirrored keeps nodes receiver id state held (entry ∷ entries) before update after fits holds is =
-    mirrored_at nodes receiver id state held entry entries (own id (made_for receiver (attempts_at nodes state (next_state nodes state entry.command)))) before update after (step_own keeps nodes receiver id state entry.command held fits holds)
+mirrored laws nodes receiver id state held [] [] update after legal fits holds is = absurd cc
+mirrored laws nodes receiver id state held [] (m ∷ before) update after legal fits holds is = absurd cc
+mirrored laws nodes receiver id state held (entry ∷ entries) before update after legal fits holds is =
+    let next : Fits nodes (next_state nodes state entry.command) = laws.next nodes state entry.command legal.0.command fits in
+    mirrored_at nodes receiver id state held entry entries (own id (made_for receiver (attempts_at nodes state (next_state nodes state entry.command)))) before update after (step_own nodes receiver id state entry.command held fits next holds)
     (sym (own_on nodes receiver id state entry entries) ∙ is)
-    (λ now front holds_now. mirrored keeps nodes receiver id (next_state nodes state entry.command) now entries front update after (fits_next keeps nodes state entry.command fits) holds_now)
+    (λ now front holds_now. mirrored laws nodes receiver id (next_state nodes state entry.command) now entries front update after legal.1 next holds_now)
 
 -- before any command nothing is given
 pub none_given : (nodes : List SchemaNode) (receiver id : ℕ) (receivers : List ReceiverInfo) → Holds nodes receiver id (first_state receivers) None
-none_given nodes receiver id receivers s there mine = let never : None ≡ Some s = there in cc
+none_given nodes receiver id receivers feed there on_change = let never : None ≡ Some feed = there in cc
 
-pub mirrors : CommandsKeepDatastores → (nodes : List SchemaNode) (receivers : List ReceiverInfo) (entries : List Entry) (receiver : ℕ) → IsSchema nodes → Mirrors nodes receivers entries receiver (made_by nodes receivers entries receiver)
-mirrors keeps nodes receivers entries receiver schema id before update after is mine =
-    let m = mirrored keeps nodes receiver id (first_state receivers) None entries (own id before) update (own id after) (fits_first nodes receivers schema) (none_given nodes receiver id receivers)
+pub mirrors : StatesFit → (nodes : List SchemaNode) (receivers : List ReceiverInfo) (entries : List Entry) (receiver : ℕ) → IsSchema nodes → IsLegal nodes (first_state receivers) entries → Mirrors nodes receivers entries receiver (made_by nodes receivers entries receiver)
+mirrors laws nodes receivers entries receiver schema legal id before update after is mine =
+    let m = mirrored laws nodes receiver id (first_state receivers) None entries (own id before) update (own id after) legal (laws.first nodes receivers schema) (none_given nodes receiver id receivers)
     (ap (own id) is ∙ own_split id before update after mine) in
     let position : update.position ≡ 0 + m.count = m.position in
     let at : m.count ≡ update.position = omega (arith, position) in
@@ -225,13 +234,14 @@ rise_at nodes receiver id state held entry entries (made ∷ []) step later =
     (past, subst (λ (n : ℕ). RisesPast n (own id (made_for receiver (attempts_from nodes (next_state nodes state entry.command) entries)))) (sym step.0) (later (heard_of id made.notice held) (fresh_holds nodes (next_state nodes state entry.command) receiver id (heard_of id made.notice held) step.1)))
 rise_at nodes receiver id state held entry entries (made ∷ other ∷ more) step later = absurd step
 
-rise : CommandsKeepDatastores → (nodes : List SchemaNode) (receiver id : ℕ) (state : JournalState) (held : Option (List Row)) (entries : List Entry) → Fits nodes state → Holds nodes receiver id state held → RisesPast state.position (own id (made_for receiver (attempts_from nodes state entries)))
-rise keeps nodes receiver id state held [] fits holds = tt
-rise keeps nodes receiver id state held (entry ∷ entries) fits holds =
+rise : StatesFit → (nodes : List SchemaNode) (receiver id : ℕ) (state : JournalState) (held : Option (List Row)) (entries : List Entry) → IsLegal nodes state entries → Fits nodes state → Holds nodes receiver id state held → RisesPast state.position (own id (made_for receiver (attempts_from nodes state entries)))
+rise laws nodes receiver id state held [] legal fits holds = tt
+rise laws nodes receiver id state held (entry ∷ entries) legal fits holds =
+    let next : Fits nodes (next_state nodes state entry.command) = laws.next nodes state entry.command legal.0.command fits in
     subst (λ (made : List Made). RisesPast state.position made)
     (sym (own_on nodes receiver id state entry entries))
-    (rise_at nodes receiver id state held entry entries (own id (made_for receiver (attempts_at nodes state (next_state nodes state entry.command)))) (step_own keeps nodes receiver id state entry.command held fits holds)
-    (λ now holds_now. rise keeps nodes receiver id (next_state nodes state entry.command) now entries (fits_next keeps nodes state entry.command fits) holds_now))
+    (rise_at nodes receiver id state held entry entries (own id (made_for receiver (attempts_at nodes state (next_state nodes state entry.command)))) (step_own nodes receiver id state entry.command held fits next holds)
+    (λ now holds_now. rise laws nodes receiver id (next_state nodes state entry.command) now entries legal.1 next holds_now))
 
-pub never_fall : CommandsKeepDatastores → (nodes : List SchemaNode) (receivers : List ReceiverInfo) (entries : List Entry) (receiver : ℕ) → IsSchema nodes → NeverFall (made_by nodes receivers entries receiver)
-never_fall keeps nodes receivers entries receiver schema id = rise keeps nodes receiver id (first_state receivers) None entries (fits_first nodes receivers schema) (none_given nodes receiver id receivers)
+pub never_fall : StatesFit → (nodes : List SchemaNode) (receivers : List ReceiverInfo) (entries : List Entry) (receiver : ℕ) → IsSchema nodes → IsLegal nodes (first_state receivers) entries → NeverFall (made_by nodes receivers entries receiver)
+never_fall laws nodes receivers entries receiver schema legal id = rise laws nodes receiver id (first_state receivers) None entries legal (laws.first nodes receivers schema) (none_given nodes receiver id receivers)

@@ -1,6 +1,7 @@
--- What is made for one subscription: an update at most for each step.
-use Rattle.std.specs.List.{flat_map}
-use Rattle.std.proofs.Common.{◌≡◌, ℕ, ◌+◌, ◌==◌, ◌<◌, Bool, true, false, List, [], ◌∷◌, ◌++◌, filter, Option, Some, None, unwrap_or, refl, ap, ◌∙◌, cond, arith, append-nil}
+-- What is made for one feed: an update at most for each step.
+use Rattle.std.specs.List.{AllByRecursion, flat_map}
+use Rattle.std.proofs.Common.{◌≡◌, ℕ, ◌==◌, ◌&&◌, Bool, true, false, List, [], ◌∷◌, ◌++◌, filter, Option, Some, None, unwrap_or, refl, ap, ◌∙◌, cond, append-nil}
+use Rattle.std.specs.Prelude.{find}
 use Rattle.std.proofs.lemmas.List.Elements.{filter-append}
 use Rattle.yp_base.specs.declared.notice.Change.{Change}
 use Rattle.yp_base.specs.declared.notice.Notice.{Notice}
@@ -9,79 +10,95 @@ use Rattle.yp_base.specs.declared.row.Row.{Row}
 use Rattle.yp_base.specs.Rows.{changed_by, put_rows}
 use Rattle.yp_schema.specs.declared.schema.SchemaNode.{SchemaNode}
 use Rattle.yp_edit.specs.Records.{change_record}
-use Rattle.yp_journal.specs.declared.subscription.Subscription.{Subscription}
-use Rattle.yp_journal.specs.History.{JournalState, next_id}
+use Rattle.yp_journal.specs.History.{JournalState}
 use Rattle.yp_core.specs.declared.made.Made.{Made}
 use Rattle.yp_core.specs.Received.{updates}
-use Rattle.yp_core.specs.States.{AreIds}
-use Rattle.yp_core.specs.Updates.{of_id, goes_on, want, change_update, updates_of, attempts_for, attempts_at, made_for}
+use Rattle.yp_core.specs.Updates.{Feed, all_feeds, attempts_at, attempts_for, change_update, feed_at, made_for, updates_of, want}
 use Rattle.yp_core.specs.AttemptLaws.{made_of, made_joined, made_mine}
+use Rattle.yp_core.proofs.Everywhere.{each_update}
+use Rattle.yp_core.proofs.Feeds.{AreApart, is_feed, no_other}
 use Rattle.yp_core.proofs.Held.{heard_of, received_of}
-use Rattle.yp_core.proofs.Subscriptions.{none_of_id}
 
 -- those of some notices that are updates of a subscription
 abbrev pub own : ℕ → List Made → List Made
 own id made = filter (λ (m : Made). updates id m.notice) made
 
--- what a step makes for one subscription, where it is the receiver's of this number
-abbrev pub own_update : List SchemaNode → ℕ → JournalState → JournalState → Option Subscription → List Made
-own_update nodes receiver before after None = []
-own_update nodes receiver before after (Some subscription) = cond (subscription.receiver == receiver) (made_of after (updates_of nodes before after subscription)) []
+-- what a step makes of the feed that is found
+abbrev pub own_update : List SchemaNode → JournalState → JournalState → Option Feed → List Made
+own_update nodes before after None = []
+own_update nodes before after (Some feed) = made_of after (updates_of nodes before after feed)
 
--- the update of a subscription that goes on, or not, of what changed of its selection and of all of it
-abbrev pub told : Bool → JournalState → Subscription → List Change → List Row → List Notice
-told goes after s changes rows = cond goes (change_update s.id after.position changes) (Full s.id rows ∷ [])
+-- ---- the updates of a feed are those of its subscription
 
--- ---- a subscription's updates are its own
+-- whether a notice is an update of an id
+abbrev pub Tells : ℕ → Bool → Notice → Type 0
+Tells id is notice = updates id notice ≡ is
 
-changes_own : (id other : ℕ) (b : Bool) (state : JournalState) (n : ℕ) (changes : List Change) → (other == id) ≡ b → own id (made_of state (change_update other n changes)) ≡ cond b (made_of state (change_update other n changes)) []
-changes_own id other true state n [] is = refl
-changes_own id other false state n [] is = refl
-changes_own id other true state n (change ∷ changes) is = ap (λ b. cond b (record { position = state.position; stamp = state.stamp; notice = Changes other n (change ∷ changes) false } ∷ []) []) is
-changes_own id other false state n (change ∷ changes) is = ap (λ b. cond b (record { position = state.position; stamp = state.stamp; notice = Changes other n (change ∷ changes) false } ∷ []) []) is
+changes_own : (id other : ℕ) (b : Bool) (n : ℕ) (changes : List Change) → (other == id) ≡ b → AllByRecursion (Tells id b) (change_update other n changes)
+changes_own id other b n [] is = tt
+changes_own id other b n (change ∷ changes) is = (is, tt)
 
-updates_own : (g : Bool) (b : Bool) (id : ℕ) (after : JournalState) (s : Subscription) (changes : List Change) (rows : List Row) → (s.id == id) ≡ b
-    → own id (made_of after (told g after s changes rows)) ≡ cond b (made_of after (told g after s changes rows)) []
-updates_own true b id after s changes rows is = changes_own id s.id b after after.position changes is
-updates_own false true id after s changes rows is = ap (λ b. cond b (record { position = after.position; stamp = after.stamp; notice = Full s.id rows } ∷ []) []) is
-updates_own false false id after s changes rows is = ap (λ b. cond b (record { position = after.position; stamp = after.stamp; notice = Full s.id rows } ∷ []) []) is
+pub updates_own : (nodes : List SchemaNode) (id : ℕ) (before after : JournalState) (feed : Feed) (b : Bool) → (feed.terms.id == id) ≡ b → AllByRecursion (Tells id b) (updates_of nodes before after feed)
+updates_own nodes id before after feed b is =
+    each_update (Tells id b) nodes before after feed is (λ same. changes_own id feed.terms.id b after.position (change_record (want nodes before feed) (want nodes after feed)) is)
 
-one_own : (r b : Bool) (nodes : List SchemaNode) (id : ℕ) (before after : JournalState) (s : Subscription) → (s.id == id) ≡ b
-    → own id (cond r (made_of after (updates_of nodes before after s)) []) ≡ cond b (cond r (made_of after (updates_of nodes before after s)) []) []
-one_own true b nodes id before after s is = updates_own (goes_on before after s) b id after s (change_record (want nodes before s) (want nodes after s)) (want nodes after s) is
-one_own false true nodes id before after s is = refl
-one_own false false nodes id before after s is = refl
+own_of : (id : ℕ) (b : Bool) (state : JournalState) (notices : List Notice) → AllByRecursion (Tells id b) notices → own id (made_of state notices) ≡ cond b (made_of state notices) []
+own_of id true state [] all = refl
+own_of id false state [] all = refl
+own_of id true state (notice ∷ notices) all =
+    let one : Made = record { position = state.position; stamp = state.stamp; notice = notice } in
+    λ i. cond (all.0 i) (one ∷ own_of id true state notices all.1 i) (own id (made_of state notices))
+own_of id false state (notice ∷ notices) all =
+    let one : Made = record { position = state.position; stamp = state.stamp; notice = notice } in
+    λ i. cond (all.0 i) (one ∷ own id (made_of state notices)) (own_of id false state notices all.1 i)
 
-own_for : (n : ℕ) (nodes : List SchemaNode) (receiver id : ℕ) (before after : JournalState) (subscriptions : List Subscription) → AreIds n subscriptions
-    → own id (made_for receiver (flat_map (attempts_for nodes before after) subscriptions)) ≡ own_update nodes receiver before after (of_id id subscriptions)
-own_for n nodes receiver id before after [] ids = refl
-own_for n nodes receiver id before after (subscription ∷ subscriptions) ids =
-    ap (own id) (made_joined receiver (attempts_for nodes before after subscription) (flat_map (attempts_for nodes before after) subscriptions) ∙ ap (λ made. made ++ others) (made_mine receiver after subscription (updates_of nodes before after subscription)))
+-- of the attempts of a feed those for a receiver that are updates of an id
+one_own : (nodes : List SchemaNode) (receiver id : ℕ) (before after : JournalState) (feed : Feed)
+    → own id (made_for receiver (attempts_for nodes before after feed)) ≡ cond (is_feed id receiver feed) (made_of after (updates_of nodes before after feed)) []
+one_own nodes receiver id before after feed =
+    ap (own id) (made_mine receiver after feed (updates_of nodes before after feed))
+    ∙ at (feed.terms.id == id) (feed.receiver == receiver) (own_of id (feed.terms.id == id) after (updates_of nodes before after feed) (updates_own nodes id before after feed (feed.terms.id == id) refl))
+  where
+    all : List Made
+    all = made_of after (updates_of nodes before after feed)
+
+    at : (b r : Bool) → own id all ≡ cond b all [] → own id (cond r all []) ≡ cond (b && r) all []
+    at true true is = is
+    at true false is = refl
+    at false true is = is
+    at false false is = refl
+
+own_for : (nodes : List SchemaNode) (receiver id : ℕ) (before after : JournalState) (feeds : List Feed) → AreApart feeds
+    → own id (made_for receiver (flat_map (attempts_for nodes before after) feeds)) ≡ own_update nodes before after (find (is_feed id receiver) feeds)
+own_for nodes receiver id before after [] apart = refl
+own_for nodes receiver id before after (feed ∷ feeds) apart =
+    ap (own id) (made_joined receiver (attempts_for nodes before after feed) (flat_map (attempts_for nodes before after) feeds))
     ∙ filter-append (λ (m : Made). updates id m.notice) mine others
-    ∙ at (subscription.id == id) refl (own_for (n + 1) nodes receiver id before after subscriptions ids.1)
+    ∙ at (is_feed id receiver feed) refl (own_for nodes receiver id before after feeds apart.1)
   where
     mine : List Made
-    mine = cond (subscription.receiver == receiver) (made_of after (updates_of nodes before after subscription)) []
+    mine = made_for receiver (attempts_for nodes before after feed)
 
     others : List Made
-    others = made_for receiver (flat_map (attempts_for nodes before after) subscriptions)
+    others = made_for receiver (flat_map (attempts_for nodes before after) feeds)
 
-    at : (b : Bool) → (subscription.id == id) ≡ b → own id others ≡ own_update nodes receiver before after (of_id id subscriptions)
-        → own id mine ++ own id others ≡ own_update nodes receiver before after (cond b (Some subscription) (of_id id subscriptions))
+    all : List Made
+    all = made_of after (updates_of nodes before after feed)
+
+    at : (b : Bool) → is_feed id receiver feed ≡ b → own id others ≡ own_update nodes before after (find (is_feed id receiver) feeds)
+        → own id mine ++ own id others ≡ own_update nodes before after (cond b (Some feed) (find (is_feed id receiver) feeds))
     at true is rest =
-        let past : id < next_id (n + 1) = grind (arith, ids.0, is) in
-        let none : of_id id subscriptions ≡ None = none_of_id (n + 1) id subscriptions ids.1 past in
-        let nothing : own id others ≡ [] = rest ∙ ap (own_update nodes receiver before after) none in
-        let here : own id mine ≡ mine = one_own (subscription.receiver == receiver) true nodes id before after subscription is in
-        (λ i. here i ++ nothing i) ∙ append-nil mine
+        let here : own id mine ≡ all = one_own nodes receiver id before after feed ∙ ap (λ (b : Bool). cond b all []) is in
+        let nothing : own id others ≡ [] = rest ∙ ap (own_update nodes before after) (no_other id receiver feed feeds is apart.0) in
+        (λ i. here i ++ nothing i) ∙ append-nil all
     at false is rest =
-        let here : own id mine ≡ [] = one_own (subscription.receiver == receiver) false nodes id before after subscription is in
-        ap (λ made. made ++ own id others) here ∙ rest
+        let here : own id mine ≡ [] = one_own nodes receiver id before after feed ∙ ap (λ (b : Bool). cond b all []) is in
+        ap (λ (made : List Made). made ++ own id others) here ∙ rest
 
--- what a step makes of a subscription's updates
-pub own_at : (nodes : List SchemaNode) (receiver id : ℕ) (before after : JournalState) → AreIds 0 after.subscriptions
-    → own id (made_for receiver (attempts_at nodes before after)) ≡ own_update nodes receiver before after (of_id id after.subscriptions)
-own_at nodes receiver id before after ids = own_for 0 nodes receiver id before after after.subscriptions ids
+-- what a step makes of the updates of a subscription for a receiver
+pub own_at : (nodes : List SchemaNode) (receiver id : ℕ) (before after : JournalState) → AreApart (all_feeds after)
+    → own id (made_for receiver (attempts_at nodes before after)) ≡ own_update nodes before after (feed_at id receiver after)
+own_at nodes receiver id before after apart = own_for nodes receiver id before after (all_feeds after) apart
 
 -- ---- other notices change nothing of what is held
 

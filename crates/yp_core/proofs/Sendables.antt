@@ -1,6 +1,5 @@
 -- What receivers are made can be sent, and what they hold of it can be written.
-use Rattle.std.proofs.Common.{◌≡◌, ℕ, ◌≤◌, Bool, true, false, not, List, [], ◌∷◌, Some, unwrap_or, refl, sym, subst, cond, arith}
-use Rattle.std.proofs.lemmas.Bool.{and_parts}
+use Rattle.std.proofs.Common.{ℕ, ◌≤◌, Bool, true, false, not, List, [], ◌∷◌, Some, unwrap_or, sym, subst, cond}
 use Rattle.std.specs.BTreeMap.{insert_entry, is_at}
 use Rattle.std.specs.List.{AllByRecursion}
 use Rattle.std.specs.Ordering.{nat_cmp, match_ordering}
@@ -17,75 +16,56 @@ use Rattle.yp_base.specs.RowLaws.{all_puts, none_order, puts_order, put_to_none,
 use Rattle.yp_schema.specs.declared.schema.SchemaNode.{SchemaNode}
 use Rattle.yp_schema.specs.Datastore.{IsRowOf}
 use Rattle.yp_schema.specs.WellFormed.{IsSchema}
-use Rattle.yp_nacm.specs.declared.execute.Operation.TheVariants.{Establish}
 use Rattle.yp_edit.specs.Records.{change_record}
 use Rattle.yp_encode.specs.Lines.{carries_value}
 use Rattle.yp_encode.specs.Sendable.{HasRows, IsSendable, IsSendableChange}
 use Rattle.yp_select.specs.SelectionLaws.{all_selected, top_writable}
 use Rattle.yp_time.specs.Ticks.{tick_limit}
 use Rattle.yp_journal.specs.declared.command.Command.{Command}
-use Rattle.yp_journal.specs.declared.command.Command.TheVariants.{Tick, Edit, Rules, Everything}
 use Rattle.yp_journal.specs.declared.entry.Entry.{Entry}
 use Rattle.yp_journal.specs.declared.receiver.ReceiverInfo.{ReceiverInfo}
-use Rattle.yp_journal.specs.declared.subscription.Subscription.{Subscription}
-use Rattle.yp_journal.specs.History.{JournalState, first_state, next_state, may_ask, subscribed, MayCome, IsLegal}
-use Rattle.yp_journal.specs.JournalLaws.{CommandsKeepDatastores}
+use Rattle.yp_journal.specs.History.{JournalState, first_state, next_state, MayCome, IsLegal}
 use Rattle.yp_core.specs.declared.made.Made.{Made}
 use Rattle.yp_core.specs.Received.{held_of, heard, received}
 use Rattle.yp_core.specs.Sending.{CanBeSent, AllCanBeSent, CanBeShown}
 use Rattle.yp_core.specs.States.{Fits}
-use Rattle.yp_core.specs.Updates.{Attempt, goes_on, change_update, attempts_at, attempts_of, made_by, want}
-use Rattle.yp_core.proofs.Everywhere.{Holds, each_made, each_mine, each_step}
-use Rattle.yp_core.proofs.Own.{told}
+use Rattle.yp_core.specs.Updates.{Attempt, Feed, all_feeds, attempts_at, attempts_of, change_update, made_by, updates_of, want}
+use Rattle.yp_core.proofs.Each.{every}
+use Rattle.yp_core.proofs.Everywhere.{Holds, each_made, each_mine, each_step, each_update}
+use Rattle.yp_core.proofs.Fitting.{StatesFit}
 use Rattle.yp_core.proofs.Selecting.{want_writable, record_sent}
-use Rattle.yp_core.proofs.Subscriptions.{fits_first, fits_next}
 
 -- ---- what is made
 
 abbrev Sends : List SchemaNode → Attempt → Type 0
 Sends nodes attempt = CanBeSent nodes attempt.made
 
-changes_sent : (nodes : List SchemaNode) (after : JournalState) (s : Subscription) (changes : List Change) → after.stamp ≤ tick_limit → AllByRecursion (IsSendableChange nodes) changes
-    → AllByRecursion (Holds (Sends nodes) after s) (change_update s.id after.position changes)
-changes_sent nodes after s [] tick all = tt
-changes_sent nodes after s (change ∷ changes) tick all = ((all, tick), tt)
+changes_sent : (nodes : List SchemaNode) (after : JournalState) (feed : Feed) (changes : List Change) → after.stamp ≤ tick_limit → AllByRecursion (IsSendableChange nodes) changes
+    → AllByRecursion (Holds (Sends nodes) after feed) (change_update feed.terms.id after.position changes)
+changes_sent nodes after feed [] tick all = tt
+changes_sent nodes after feed (change ∷ changes) tick all = ((all, tick), tt)
 
-updates_sent : (nodes : List SchemaNode) (before after : JournalState) (s : Subscription) (goes : Bool) → goes_on before after s ≡ goes → Fits nodes before → Fits nodes after → after.stamp ≤ tick_limit
-    → AllByRecursion (Holds (Sends nodes) after s) (told goes after s (change_record (want nodes before s) (want nodes after s)) (want nodes after s))
-updates_sent nodes before after s true is was now tick =
-    changes_sent nodes after s (change_record (want nodes before s) (want nodes after s)) tick (record_sent nodes before after s (and_parts _ _ is).1 was now)
-updates_sent nodes before after s false is was now tick = ((want_writable nodes after s now, tick), tt)
+updates_sent : (nodes : List SchemaNode) (before after : JournalState) → Fits nodes before → Fits nodes after → (feed : Feed) → AllByRecursion (Holds (Sends nodes) after feed) (updates_of nodes before after feed)
+updates_sent nodes before after was now feed =
+    each_update (Holds (Sends nodes) after feed) nodes before after feed (want_writable nodes after feed now, now.time)
+    (λ same. changes_sent nodes after feed (change_record (want nodes before feed) (want nodes after feed)) now.time (record_sent nodes before after feed was now))
 
-steps_sent : (nodes : List SchemaNode) (before after : JournalState) → Fits nodes before → Fits nodes after → after.stamp ≤ tick_limit → AllCanBeSent nodes (attempts_at nodes before after)
-steps_sent nodes before after was now tick = each_step (Sends nodes) nodes before after (λ s. updates_sent nodes before after s (goes_on before after s) refl was now tick) after.subscriptions
+steps_sent : (nodes : List SchemaNode) (before after : JournalState) → Fits nodes before → Fits nodes after → AllCanBeSent nodes (attempts_at nodes before after)
+steps_sent nodes before after was now =
+    each_step (Sends nodes) nodes before after (all_feeds after) (every (λ (feed : Feed). AllByRecursion (Holds (Sends nodes) after feed) (updates_of nodes before after feed)) (updates_sent nodes before after was now) (all_feeds after))
 
 -- each notice that a step makes can be sent
-pub step_sendable : CommandsKeepDatastores → (nodes : List SchemaNode) (before : JournalState) (command : Command) → Fits nodes before → (next_state nodes before command).stamp ≤ tick_limit → AllCanBeSent nodes (attempts_at nodes before (next_state nodes before command))
-step_sendable keeps nodes before command fits tick = steps_sent nodes before (next_state nodes before command) fits (fits_next keeps nodes before command fits) tick
-
--- a state that a legal journal leaves
-record Leaves (nodes : List SchemaNode) (state : JournalState) (left : List Entry) : Type 0 where
-  fits : Fits nodes state
-  tick : state.stamp ≤ tick_limit
-
-next_tick : (nodes : List SchemaNode) (receivers : List ReceiverInfo) (state : JournalState) (command : Command) → MayCome nodes receivers command → state.stamp ≤ tick_limit → (next_state nodes state command).stamp ≤ tick_limit
-next_tick nodes receivers state (Tick tick) may less = omega (arith, may, less)
-next_tick nodes receivers state (Edit patch) may less = less
-next_tick nodes receivers state (Rules policy) may less = less
-next_tick nodes receivers state (Everything by) may less =
-    elim (may_ask state by Establish) as (λ (b : Bool). (subscribed b state by).stamp ≤ tick_limit) [
-      | true ↦ less
-      | false ↦ less
-    ]
+pub step_sendable : StatesFit → (nodes : List SchemaNode) (before : JournalState) (command : Command) → MayCome nodes before.receivers command → Fits nodes before → AllCanBeSent nodes (attempts_at nodes before (next_state nodes before command))
+step_sendable laws nodes before command may fits = steps_sent nodes before (next_state nodes before command) fits (laws.next nodes before command may fits)
 
 -- each notice that a legal journal makes can be sent
-pub made_sendable : CommandsKeepDatastores → (nodes : List SchemaNode) (receivers : List ReceiverInfo) (entries : List Entry) (receiver : ℕ) → IsSchema nodes → IsLegal nodes (first_state receivers) entries → AllByRecursion (CanBeSent nodes) (made_by nodes receivers entries receiver)
-made_sendable keeps nodes receivers entries receiver schema legal =
+pub made_sendable : StatesFit → (nodes : List SchemaNode) (receivers : List ReceiverInfo) (entries : List Entry) (receiver : ℕ) → IsSchema nodes → IsLegal nodes (first_state receivers) entries → AllByRecursion (CanBeSent nodes) (made_by nodes receivers entries receiver)
+made_sendable laws nodes receivers entries receiver schema legal =
     each_mine (Sends nodes) (CanBeSent nodes) receiver (λ a same can. can) (attempts_of nodes receivers entries)
-    (each_made (Sends nodes) nodes (Leaves nodes)
-    (λ state entry left may such. record { fits = fits_next keeps nodes state entry.command such.fits; tick = next_tick nodes state.receivers state entry.command may.command such.tick })
-    (λ state entry left was is. steps_sent nodes state (next_state nodes state entry.command) was.fits is.fits is.tick)
-    (first_state receivers) entries (record { fits = fits_first nodes receivers schema; tick = omega arith }) legal)
+    (each_made (Sends nodes) nodes (λ (state : JournalState) (left : List Entry). Fits nodes state)
+    (λ state entry left may fits. laws.next nodes state entry.command may.command fits)
+    (λ state entry left was is. steps_sent nodes state (next_state nodes state entry.command) was is)
+    (first_state receivers) entries (laws.first nodes receivers schema) legal)
 
 -- ---- what is held
 
@@ -150,7 +130,7 @@ all_writable nodes [] all = tt
 all_writable nodes (e ∷ held) all = (top_writable nodes e.1 all.0.order all.0.of_schema, all_writable nodes held all.1)
 
 -- what is held of that can be written
-pub held_writable : CommandsKeepDatastores → (nodes : List SchemaNode) (receivers : List ReceiverInfo) (entries : List Entry) (receiver : ℕ) → IsSchema nodes → IsLegal nodes (first_state receivers) entries → CanBeShown nodes (received [] (made_by nodes receivers entries receiver))
-held_writable keeps nodes receivers entries receiver schema legal =
+pub held_writable : StatesFit → (nodes : List SchemaNode) (receivers : List ReceiverInfo) (entries : List Entry) (receiver : ℕ) → IsSchema nodes → IsLegal nodes (first_state receivers) entries → CanBeShown nodes (received [] (made_by nodes receivers entries receiver))
+held_writable laws nodes receivers entries receiver schema legal =
     let made = made_by nodes receivers entries receiver in
-    all_writable nodes (received [] made) (received_rows nodes [] made (made_sendable keeps nodes receivers entries receiver schema legal) tt)
+    all_writable nodes (received [] made) (received_rows nodes [] made (made_sendable laws nodes receivers entries receiver schema legal) tt)

@@ -1,147 +1,173 @@
 -- What a step makes, by its command.
-use Rattle.std.proofs.Common.{◌≡◌, ℕ, ◌+◌, ◌==◌, ◌||◌, ◌&&◌, not, Bool, true, false, List, [], ◌∷◌, ◌++◌, map, filter, length, refl, sym, ap, ◌∙◌, cond, arith, append_assoc, Option, Some, None, is_some}
-use Rattle.std.specs.List.{flat_map}
+use Rattle.std.proofs.Common.{◌≡◌, ℕ, ◌+◌, not, Bool, true, false, List, [], ◌∷◌, ◌++◌, map, filter, refl, sym, ap, ◌∙◌, subst, cond, append-nil, Option, Some, None}
+use Rattle.std.specs.List.{AllByRecursion, flat_map}
 use Rattle.std.proofs.lemmas.Grind.{flat_map-append}
 use Rattle.yp_base.specs.declared.notice.Change.{Change}
+use Rattle.yp_base.specs.declared.notice.Trigger.{Trigger}
+use Rattle.yp_base.specs.declared.notice.Trigger.TheVariants.{Periodic, OnChange}
 use Rattle.yp_base.specs.declared.row.Row.{Row}
 use Rattle.yp_schema.specs.declared.schema.SchemaNode.{SchemaNode}
-use Rattle.yp_nacm.specs.declared.execute.Operation.TheVariants.{Establish}
 use Rattle.yp_nacm.specs.declared.policy.Policy.{Policy}
-use Rattle.yp_nacm.specs.Same.{are_same_rules}
 use Rattle.yp_nacm.specs.SameLaws.{same_itself}
 use Rattle.yp_edit.specs.Records.{change_record}
 use Rattle.yp_edit.specs.declared.patch.Patch.{Patch}
+use Rattle.yp_registry.specs.declared.ask.Ask.{Ask}
+use Rattle.yp_registry.specs.declared.refused.Refused.{Refused}
+use Rattle.yp_registry.specs.Registry.{after_refusal, first_refusal, or_refused, reasons_against, terms_for, with_terms}
+use Rattle.yp_registry.specs.Terms.{Terms}
 use Rattle.yp_touch.specs.RecordLaws.{record_of_one}
 use Rattle.yp_journal.specs.declared.command.Command.{Command}
-use Rattle.yp_journal.specs.declared.command.Command.TheVariants.{Tick, Edit, Rules, Everything}
+use Rattle.yp_journal.specs.declared.command.Command.TheVariants.{Tick, Edit, Rules, Establish}
 use Rattle.yp_journal.specs.declared.reply.Reply.TheVariants.{Id}
-use Rattle.yp_journal.specs.declared.subscription.Subscription.{Subscription}
-use Rattle.yp_journal.specs.History.{JournalState, next_id, next_state, reply_to, is_refusal, one_further, rules_at, may_ask, subscribed, subscription_reply, with_policy, with_subscription, with_tick}
+use Rattle.yp_journal.specs.History.{JournalState, next_state, reply_by, reply_to, is_refusal, one_further, rules_at, with_policy, with_registry, with_tick}
 use Rattle.yp_journal.specs.JournalLaws.{refusal_alone}
-use Rattle.yp_core.specs.States.{AreIds, Fits}
-use Rattle.yp_core.specs.Steps.{changes_for, attempts_of_changes, full_attempt, is_renewed, attempts_of_renewal}
-use Rattle.yp_core.specs.Updates.{of_id, is_given, change_update, want, Attempt, attempt_of, attempts_for, attempts_at}
-use Rattle.yp_core.proofs.Own.{told}
+use Rattle.yp_core.specs.States.{Fits}
+use Rattle.yp_core.specs.Steps.{attempts_in_time, attempts_of_changes, attempts_of_renewal, changes_for, first_attempts, full_attempt, is_due}
+use Rattle.yp_core.specs.Updates.{Attempt, Feed, all_feeds, attempt_of, attempts_at, attempts_for, change_update, feeds_of, first_updates, full_update, full_where, is_due_between, is_given, is_on_change, keeps_rules_of, next_updates, want}
+use Rattle.yp_core.proofs.Due.{not_due}
+use Rattle.yp_core.proofs.Feeds.{next_is_new, were_given}
 use Rattle.yp_core.proofs.Selecting.{SameRules, want_kept}
-use Rattle.yp_core.proofs.Subscriptions.{given_is}
-
--- ---- subscriptions that were there before
-
-given_here : (front : List Subscription) (s : Subscription) (more : List Subscription) → is_given s.id (front ++ s ∷ more) ≡ true
-given_here [] s more = ap (λ b. b || is_given s.id more) (same s.id)
-  where
-    same : (n : ℕ) → (n == n) ≡ true
-    same n = grind arith
-given_here (first ∷ front) s more = at (first.id == s.id) (given_here front s more)
-  where
-    at : (b : Bool) → is_given s.id (front ++ s ∷ more) ≡ true → (b || is_given s.id (front ++ s ∷ more)) ≡ true
-    at true rest = refl
-    at false rest = rest
 
 module _ (nodes : List SchemaNode) (before after : JournalState) where
-  given_before : (front : List Subscription) (s : Subscription) (more : List Subscription) → before.subscriptions ≡ front ++ s ∷ more → is_given s.id before.subscriptions ≡ true
-  given_before front s more is = ap (is_given s.id) is ∙ given_here front s more
+  -- a feed was there before the step
+  abbrev WasGiven : Feed → Type 0
+  WasGiven feed = is_given feed.terms.id before.registry.live ≡ true
 
-  one_on : (front : List Subscription) (s : Subscription) (more : List Subscription) → before.subscriptions ≡ front ++ s ∷ more → before.subscriptions ≡ (front ++ s ∷ []) ++ more
-  one_on front s more is = is ∙ sym (append_assoc front (s ∷ []) more)
+  -- a step that leaves its user's own rules makes of it what follows of its trigger
+  goes_on : (feed : Feed) → WasGiven feed → SameRules before after feed → attempts_for nodes before after feed ≡ map (attempt_of after feed) (next_updates feed.terms.trigger nodes before after feed)
+  goes_on feed given same =
+      λ i. map (attempt_of after feed) (cond (given i) (cond (same i) (next_updates feed.terms.trigger nodes before after feed) (full_update nodes after feed ∷ [])) (first_updates feed.terms.trigger nodes after feed))
 
-  -- where all rules stay, each goes on
-  attempts_given : ((s : Subscription) → SameRules before after s) → (front subscriptions : List Subscription) → before.subscriptions ≡ front ++ subscriptions
-      → flat_map (attempts_for nodes before after) subscriptions ≡ flat_map (changes_for nodes before after) subscriptions
-  attempts_given same front [] is = refl
-  attempts_given same front (s ∷ subscriptions) is =
-      let given : is_given s.id before.subscriptions ≡ true = given_before front s subscriptions is in
-      λ i. map (attempt_of after s) (told (given i && same s i) after s (change_record (want nodes before s) (want nodes after s)) (want nodes after s))
-      ++ attempts_given same (front ++ s ∷ []) subscriptions (one_on front s subscriptions is) i
+  -- ---- where time stays
 
-  -- and where all rows stay too, nobody is told anything
-  none_told : ((s : Subscription) → SameRules before after s) → ((s : Subscription) → want nodes before s ≡ want nodes after s) → (front subscriptions : List Subscription) → before.subscriptions ≡ front ++ subscriptions
-      → flat_map (attempts_for nodes before after) subscriptions ≡ []
-  none_told same stay front [] is = refl
-  none_told same stay front (s ∷ subscriptions) is =
-      let given : is_given s.id before.subscriptions ≡ true = given_before front s subscriptions is in
-      let none : change_record (want nodes before s) (want nodes after s) ≡ [] = ap (λ (rows : List Row). change_record (want nodes before s) rows) (sym (stay s)) ∙ record_of_one (want nodes before s) in
-      λ i. map (attempt_of after s) (told (given i && same s i) after s (none i) (want nodes after s)) ++ none_told same stay (front ++ s ∷ []) subscriptions (one_on front s subscriptions is) i
+  module _ (still : after.stamp ≡ before.stamp) where
+    never_due : (trigger : Trigger) → is_due_between trigger (before.stamp + 1) after.stamp ≡ false
+    never_due trigger = ap (is_due_between trigger (before.stamp + 1)) still ∙ not_due trigger before.stamp
 
-  -- where all rows stay, those are told all whose rules don't
-  renewed_told : ((s : Subscription) → SameRules before after s → want nodes before s ≡ want nodes after s) → (front subscriptions : List Subscription) → before.subscriptions ≡ front ++ subscriptions
-      → flat_map (attempts_for nodes before after) subscriptions ≡ map (full_attempt nodes after) (filter (is_renewed before after) subscriptions)
-  renewed_told stay front [] is = refl
-  renewed_told stay front (s ∷ subscriptions) is =
-      ap (λ b. map (attempt_of after s) (told (b && rules) after s changes (want nodes after s)) ++ flat_map (attempts_for nodes before after) subscriptions) (given_before front s subscriptions is)
-      ∙ at rules refl (renewed_told stay (front ++ s ∷ []) subscriptions (one_on front s subscriptions is))
+    -- a feed is told what changed
+    changes_alone : (trigger : Trigger) (feed : Feed) → map (attempt_of after feed) (next_updates trigger nodes before after feed)
+        ≡ cond (is_on_change trigger) (map (attempt_of after feed) (change_update feed.terms.id after.position (change_record (want nodes before feed) (want nodes after feed)))) []
+    changes_alone (Periodic period anchor) feed = ap (λ (due : Bool). map (attempt_of after feed) (full_where due nodes after feed)) (never_due (Periodic period anchor))
+    changes_alone (OnChange dampening sync excluded) feed = refl
+
+    pub attempts_given : ((feed : Feed) → SameRules before after feed) → (feeds : List Feed) → AllByRecursion WasGiven feeds → flat_map (attempts_for nodes before after) feeds ≡ flat_map (changes_for nodes before after) feeds
+    attempts_given same [] given = refl
+    attempts_given same (feed ∷ feeds) given = λ i. (goes_on feed given.0 (same feed) ∙ changes_alone feed.terms.trigger feed) i ++ attempts_given same feeds given.1 i
+
+  -- ---- where what is selected stays
+
+  -- a feed is told all, where it is due
+  all_where_due : (trigger : Trigger) (feed : Feed) → want nodes before feed ≡ want nodes after feed
+      → map (attempt_of after feed) (next_updates trigger nodes before after feed) ≡ cond (is_due_between trigger (before.stamp + 1) after.stamp) (full_attempt nodes after feed ∷ []) []
+  all_where_due (Periodic period anchor) feed stay = at (is_due_between (Periodic period anchor) (before.stamp + 1) after.stamp)
     where
-      rules : Bool
-      rules = are_same_rules (rules_at before s.receiver) (rules_at after s.receiver)
+      at : (due : Bool) → map (attempt_of after feed) (full_where due nodes after feed) ≡ cond due (full_attempt nodes after feed ∷ []) []
+      at true = refl
+      at false = refl
+  all_where_due (OnChange dampening sync excluded) feed stay =
+      let none : change_record (want nodes before feed) (want nodes after feed) ≡ [] = ap (λ (rows : List Row). change_record (want nodes before feed) rows) (sym stay) ∙ record_of_one (want nodes before feed) in
+      ap (λ (changes : List Change). map (attempt_of after feed) (change_update feed.terms.id after.position changes)) none
 
-      changes : List Change
-      changes = change_record (want nodes before s) (want nodes after s)
+  timely_told : ((feed : Feed) → SameRules before after feed) → ((feed : Feed) → want nodes before feed ≡ want nodes after feed) → (feeds : List Feed) → AllByRecursion WasGiven feeds
+      → flat_map (attempts_for nodes before after) feeds ≡ map (full_attempt nodes after) (filter (is_due before after) feeds)
+  timely_told same stay [] given = refl
+  timely_told same stay (feed ∷ feeds) given =
+      (λ i. (goes_on feed given.0 (same feed) ∙ all_where_due feed.terms.trigger feed (stay feed)) i ++ timely_told same stay feeds given.1 i)
+      ∙ at (is_due before after feed)
+    where
+      rest : List Feed
+      rest = filter (is_due before after) feeds
 
-      rest : List Subscription
-      rest = filter (is_renewed before after) subscriptions
+      at : (due : Bool) → cond due (full_attempt nodes after feed ∷ []) [] ++ map (full_attempt nodes after) rest ≡ map (full_attempt nodes after) (cond due (feed ∷ rest) rest)
+      at true = refl
+      at false = refl
 
-      at : (b : Bool) → rules ≡ b → flat_map (attempts_for nodes before after) subscriptions ≡ map (full_attempt nodes after) rest
-          → map (attempt_of after s) (told b after s changes (want nodes after s)) ++ flat_map (attempts_for nodes before after) subscriptions ≡ map (full_attempt nodes after) (cond (not b) (s ∷ rest) rest)
+  none_due : after.stamp ≡ before.stamp → (feeds : List Feed) → filter (is_due before after) feeds ≡ []
+  none_due still [] = refl
+  none_due still (feed ∷ feeds) = ap (λ (due : Bool). cond due (feed ∷ filter (is_due before after) feeds) (filter (is_due before after) feeds)) (never_due still feed.terms.trigger) ∙ none_due still feeds
+
+  -- where time stays too, nobody is told anything
+  none_told : ((feed : Feed) → SameRules before after feed) → ((feed : Feed) → want nodes before feed ≡ want nodes after feed) → after.stamp ≡ before.stamp → (feeds : List Feed) → AllByRecursion WasGiven feeds
+      → flat_map (attempts_for nodes before after) feeds ≡ []
+  none_told same stay still feeds given = timely_told same stay feeds given ∙ ap (map (full_attempt nodes after)) (none_due still feeds)
+
+  -- where the rows and time stay, those are told all whose user's own rules don't
+  renewed_told : ((feed : Feed) → SameRules before after feed → want nodes before feed ≡ want nodes after feed) → after.stamp ≡ before.stamp → (feeds : List Feed) → AllByRecursion WasGiven feeds
+      → flat_map (attempts_for nodes before after) feeds ≡ map (full_attempt nodes after) (filter (λ feed. not (keeps_rules_of before after feed)) feeds)
+  renewed_told stay still [] given = refl
+  renewed_told stay still (feed ∷ feeds) given =
+      ap (λ (b : Bool). map (attempt_of after feed) (cond b (cond keeps (next_updates feed.terms.trigger nodes before after feed) (full_update nodes after feed ∷ [])) (first_updates feed.terms.trigger nodes after feed)) ++ others) given.0
+      ∙ at keeps refl (renewed_told stay still feeds given.1)
+    where
+      keeps : Bool
+      keeps = keeps_rules_of before after feed
+
+      others : List Attempt
+      others = flat_map (attempts_for nodes before after) feeds
+
+      rest : List Feed
+      rest = filter (λ feed. not (keeps_rules_of before after feed)) feeds
+
+      at : (b : Bool) → keeps ≡ b → others ≡ map (full_attempt nodes after) rest
+          → map (attempt_of after feed) (cond b (next_updates feed.terms.trigger nodes before after feed) (full_update nodes after feed ∷ [])) ++ others ≡ map (full_attempt nodes after) (cond (not b) (feed ∷ rest) rest)
       at true same later =
-          let none : changes ≡ [] = ap (λ (rows : List Row). change_record (want nodes before s) rows) (sym (stay s same)) ∙ record_of_one (want nodes before s) in
-          ap (λ cs. map (attempt_of after s) (change_update s.id after.position cs) ++ flat_map (attempts_for nodes before after) subscriptions) none ∙ later
-      at false same later = ap (λ (more : List Attempt). full_attempt nodes after s ∷ more) later
+          let none : map (attempt_of after feed) (next_updates feed.terms.trigger nodes before after feed) ≡ [] =
+          all_where_due feed.terms.trigger feed (stay feed same) ∙ ap (λ (due : Bool). cond due (full_attempt nodes after feed ∷ []) []) (never_due still feed.terms.trigger) in
+          ap (λ (attempts : List Attempt). attempts ++ others) none ∙ later
+      at false same later = ap (λ (more : List Attempt). full_attempt nodes after feed ∷ more) later
 
--- ---- time, refusals and patches
+-- ---- time, refusals, patches and policies
 
--- time that goes on makes nothing
-pub tick_makes : (nodes : List SchemaNode) (before : JournalState) (tick : ℕ) → Fits nodes before → attempts_at nodes before (next_state nodes before (Tick tick)) ≡ []
-tick_makes nodes before tick fits = none_told nodes before (with_tick before tick) (λ s. same_itself (rules_at before s.receiver)) (λ s. refl) [] before.subscriptions refl
+-- time that goes on makes the full updates that are due
+pub tick_makes : (nodes : List SchemaNode) (before : JournalState) (tick : ℕ) → Fits nodes before → attempts_at nodes before (next_state nodes before (Tick tick)) ≡ attempts_in_time nodes before (next_state nodes before (Tick tick))
+tick_makes nodes before tick fits = timely_told nodes before (with_tick before tick) (λ feed. same_itself (rules_at before feed.receiver)) (λ feed. refl) (all_feeds before) (were_given before)
 
--- nor does a refused command
+-- a refused command makes nothing
 pub refused_makes : (nodes : List SchemaNode) (before : JournalState) (command : Command) → Fits nodes before → is_refusal (reply_to nodes before command) ≡ true → attempts_at nodes before (next_state nodes before command) ≡ []
 refused_makes nodes before command fits refused =
     ap (attempts_at nodes before) (refusal_alone nodes before command refused)
-    ∙ none_told nodes before (one_further before) (λ s. same_itself (rules_at before s.receiver)) (λ s. refl) [] before.subscriptions refl
+    ∙ none_told nodes before (one_further before) (λ feed. same_itself (rules_at before feed.receiver)) (λ feed. refl) refl (all_feeds before) (were_given before)
 
 -- a patch makes change updates alone
 pub patch_makes : (nodes : List SchemaNode) (before : JournalState) (patch : Patch) → Fits nodes before → attempts_at nodes before (next_state nodes before (Edit patch)) ≡ attempts_of_changes nodes before (next_state nodes before (Edit patch))
-patch_makes nodes before patch fits = attempts_given nodes before (next_state nodes before (Edit patch)) (λ s. same_itself (rules_at before s.receiver)) [] before.subscriptions refl
+patch_makes nodes before patch fits = attempts_given nodes before (next_state nodes before (Edit patch)) refl (λ feed. same_itself (rules_at before feed.receiver)) (all_feeds before) (were_given before)
+
+-- a policy makes the full updates of the feeds whose user's own rules it changes
+pub policy_makes : (nodes : List SchemaNode) (before : JournalState) (policy : Policy) → Fits nodes before
+    → attempts_at nodes before (next_state nodes before (Rules policy)) ≡ attempts_of_renewal nodes before (next_state nodes before (Rules policy))
+policy_makes nodes before policy fits =
+    renewed_told nodes before (with_policy before policy) (λ feed same. want_kept nodes before (with_policy before policy) feed same refl) refl (all_feeds before) (were_given before)
 
 -- ---- where one was established
 
-fresh : (n : ℕ) (subscriptions : List Subscription) → AreIds n subscriptions → of_id (next_id (n + length subscriptions)) subscriptions ≡ None
-fresh n [] ids = refl
-fresh n (s ∷ subscriptions) ids =
-    let other : (s.id == next_id (n + length (s ∷ subscriptions))) ≡ false = grind (arith, ids.0) in
-    let same : n + 1 + length subscriptions ≡ n + length (s ∷ subscriptions) = omega arith in
-    ap (λ b. cond b (Some s) (of_id (next_id (n + length (s ∷ subscriptions))) subscriptions)) other
-    ∙ ap (λ m. of_id (next_id m) subscriptions) (sym same) ∙ fresh (n + 1) subscriptions ids.1
+module _ (nodes : List SchemaNode) (before : JournalState) (by : ℕ) (ask : Ask) (fits : Fits nodes before) where
+  abbrev new_terms : Terms
+  new_terms = terms_for nodes before.registry by ask before.stamp
 
-not_given : (given : ℕ) (subscriptions : List Subscription) → given ≡ length subscriptions → AreIds 0 subscriptions → is_given (next_id given) subscriptions ≡ false
-not_given given subscriptions count ids =
-    let same : 0 + length subscriptions ≡ given = omega (arith, count) in
-    given_is (next_id given) subscriptions ∙ ap (λ m. is_some (of_id (next_id m) subscriptions)) (sym same) ∙ ap (λ (o : Option Subscription). is_some o) (fresh 0 subscriptions ids)
+  abbrev new_feed : Feed
+  new_feed = record { terms = new_terms; receiver = by }
 
--- a step that establishes a subscription makes its full update alone
-full_made : (nodes : List SchemaNode) (before : JournalState) (by : ℕ) → Fits nodes before
-    → attempts_at nodes before (with_subscription before by) ≡ full_attempt nodes (with_subscription before by) (record { id = next_id before.given; receiver = by }) ∷ []
-full_made nodes before by fits =
-    let after : JournalState = with_subscription before by in
-    let new : Subscription = record { id = next_id before.given; receiver = by } in
-    let rules : Bool = are_same_rules (rules_at before by) (rules_at after by) in
-    flat_map-append (attempts_for nodes before after) before.subscriptions (new ∷ [])
-    ∙ ap (λ (t : List Attempt). t ++ flat_map (attempts_for nodes before after) (new ∷ [])) (none_told nodes before after (λ s. same_itself (rules_at before s.receiver)) (λ s. refl) [] before.subscriptions refl)
-    ∙ ap (λ b. map (attempt_of after new) (told (b && rules) after new (change_record (want nodes before new) (want nodes after new)) (want nodes after new)) ++ []) (not_given before.given before.subscriptions fits.given fits.ids)
+  -- a step that adds a subscription makes what its feed is told first
+  first_made : (after : JournalState) → after ≡ with_registry before (with_terms before.registry new_terms) → attempts_at nodes before after ≡ first_attempts nodes after new_feed
+  first_made after is =
+      subst (λ (state : JournalState). attempts_at nodes before state ≡ first_attempts nodes state new_feed) (sym is)
+      (ap (flat_map (attempts_for nodes before then)) (flat_map-append feeds_of before.registry.live (new_terms ∷ []))
+      ∙ flat_map-append (attempts_for nodes before then) (all_feeds before) (new_feed ∷ [])
+      ∙ ap (λ (attempts : List Attempt). attempts ++ (attempts_for nodes before then new_feed ++ []))
+      (none_told nodes before then (λ feed. same_itself (rules_at before feed.receiver)) (λ feed. refl) refl (all_feeds before) (were_given before))
+      ∙ append-nil (attempts_for nodes before then new_feed)
+      ∙ ap (λ (b : Bool). map (attempt_of then new_feed) (cond b (cond (keeps_rules_of before then new_feed) (next_updates new_terms.trigger nodes before then new_feed) (full_update nodes then new_feed ∷ [])) (first_updates new_terms.trigger nodes then new_feed)))
+      (next_is_new before fits.ids))
+    where
+      then : JournalState
+      then = with_registry before (with_terms before.registry new_terms)
 
-pub establish_makes : (nodes : List SchemaNode) (before : JournalState) (by id : ℕ) → Fits nodes before → reply_to nodes before (Everything by) ≡ Id id
-    → attempts_at nodes before (next_state nodes before (Everything by)) ≡ full_attempt nodes (next_state nodes before (Everything by)) (record { id = id; receiver = by }) ∷ []
-establish_makes nodes before by id fits gives =
-    elim (may_ask before by Establish) as (λ (may : Bool). subscription_reply may before ≡ Id id → attempts_at nodes before (subscribed may before by) ≡ full_attempt nodes (subscribed may before by) (record { id = id; receiver = by }) ∷ []) [
-      | true ↦ λ replied.
-          let given : next_id before.given ≡ id = cc in
-          full_made nodes before by fits ∙ ap (λ (n : ℕ). full_attempt nodes (with_subscription before by) (record { id = n; receiver = by }) ∷ []) given
-      | false ↦ λ replied. absurd cc
-    ] gives
-
--- ---- policies
-
--- a policy makes the full updates of the subscriptions whose user's own rules it changes
-pub policy_makes : (nodes : List SchemaNode) (before : JournalState) (policy : Policy) → Fits nodes before
-    → attempts_at nodes before (next_state nodes before (Rules policy)) ≡ attempts_of_renewal nodes before (next_state nodes before (Rules policy))
-policy_makes nodes before policy fits = renewed_told nodes before (with_policy before policy) (λ s same. want_kept nodes before (with_policy before policy) s same refl) [] before.subscriptions refl
+  pub establish_makes : (id : ℕ) → reply_to nodes before (Establish by ask) ≡ Id id
+      → (new_terms.id ≡ id) × (attempts_at nodes before (next_state nodes before (Establish by ask)) ≡ first_attempts nodes (next_state nodes before (Establish by ask)) new_feed)
+  establish_makes id gives =
+      elim (first_refusal (reasons_against nodes before.policy before.registry by ask))
+      as (λ (refusal : Option Refused). reply_by (or_refused refusal new_terms.id) ≡ Id id
+      → (new_terms.id ≡ id) × (attempts_at nodes before (with_registry before (after_refusal refusal before.registry new_terms)) ≡ first_attempts nodes (with_registry before (after_refusal refusal before.registry new_terms)) new_feed)) [
+        | Some refusal ↦ λ replied. absurd cc
+        | None ↦ λ replied. (cc, first_made (with_registry before (with_terms before.registry new_terms)) refl)
+      ] gives

@@ -7,10 +7,9 @@ use Rattle.yp_base.specs.declared.notice.Notice.{Notice}
 use Rattle.yp_schema.specs.declared.schema.SchemaNode.{SchemaNode}
 use Rattle.yp_journal.specs.declared.entry.Entry.{Entry}
 use Rattle.yp_journal.specs.declared.receiver.ReceiverInfo.{ReceiverInfo}
-use Rattle.yp_journal.specs.declared.subscription.Subscription.{Subscription}
 use Rattle.yp_journal.specs.History.{JournalState, first_state, next_state, state_of}
 use Rattle.yp_core.specs.declared.made.Made.{Made}
-use Rattle.yp_core.specs.Updates.{Attempt, attempt_of, attempts_at, attempts_from, attempts_of, made_for, made_by}
+use Rattle.yp_core.specs.Updates.{Attempt, Feed, attempt_of, attempts_at, attempts_from, attempts_of, made_for, made_by}
 
 -- notices that are made at the position and the tick of a state
 abbrev pub made_of : JournalState → List Notice → List Made
@@ -23,19 +22,19 @@ made_joined receiver attempts more =
     ap (map (λ (a : Attempt). a.made)) (filter-append (λ (a : Attempt). a.receiver == receiver) attempts more)
     ∙ map-append (λ (a : Attempt). a.made) (filter (λ (a : Attempt). a.receiver == receiver) attempts) (filter (λ (a : Attempt). a.receiver == receiver) more)
 
--- notices of a subscription are for its receiver alone
-pub made_mine : (receiver : ℕ) (state : JournalState) (s : Subscription) (notices : List Notice) → made_for receiver (map (attempt_of state s) notices) ≡ cond (s.receiver == receiver) (made_of state notices) []
-made_mine receiver state s [] = none (s.receiver == receiver)
+-- notices of a feed are for its receiver alone
+pub made_mine : (receiver : ℕ) (state : JournalState) (feed : Feed) (notices : List Notice) → made_for receiver (map (attempt_of state feed) notices) ≡ cond (feed.receiver == receiver) (made_of state notices) []
+made_mine receiver state feed [] = none (feed.receiver == receiver)
   where
     none : (b : Bool) → made_of state [] ≡ cond b (made_of state []) []
     none true = refl
     none false = refl
-made_mine receiver state s (notice ∷ notices) = at (s.receiver == receiver) (made_mine receiver state s notices)
+made_mine receiver state feed (notice ∷ notices) = at (feed.receiver == receiver) (made_mine receiver state feed notices)
   where
     rest : List Attempt
-    rest = filter (λ (a : Attempt). a.receiver == receiver) (map (attempt_of state s) notices)
+    rest = filter (λ (a : Attempt). a.receiver == receiver) (map (attempt_of state feed) notices)
 
-    at : (b : Bool) → map (λ (a : Attempt). a.made) rest ≡ cond b (made_of state notices) [] → map (λ (a : Attempt). a.made) (cond b (attempt_of state s notice ∷ rest) rest) ≡ cond b (made_of state (notice ∷ notices)) []
+    at : (b : Bool) → map (λ (a : Attempt). a.made) rest ≡ cond b (made_of state notices) [] → map (λ (a : Attempt). a.made) (cond b (attempt_of state feed notice ∷ rest) rest) ≡ cond b (made_of state (notice ∷ notices)) []
     at true is = ap (λ (made : List Made). record { position = state.position; stamp = state.stamp; notice = notice } ∷ made) is
     at false is = is
 

@@ -6,4 +6,5 @@ pub mod Sending
 pub mod Served
 pub mod States
 pub mod Steps
+pub mod Timely
 pub mod Updates

@@ -8,14 +8,14 @@ use Rattle.yp_base.specs.declared.notice.Notice.{Notice}
 use Rattle.yp_base.specs.declared.notice.Notice.TheVariants.{Full, Changes, Started, Modified, Suspended, Resumed, Terminated}
 use Rattle.yp_base.specs.Rows.{changed_by, put_rows}
 use Rattle.yp_schema.specs.declared.schema.SchemaNode.{SchemaNode}
-use Rattle.yp_journal.specs.declared.command.Command.TheVariants.{Everything}
+use Rattle.yp_journal.specs.declared.command.Command.TheVariants.{Establish}
 use Rattle.yp_journal.specs.declared.entry.Entry.{Entry}
 use Rattle.yp_journal.specs.declared.receiver.ReceiverInfo.{ReceiverInfo}
 use Rattle.yp_journal.specs.declared.reply.Reply.TheVariants.{Id}
-use Rattle.yp_journal.specs.declared.subscription.Subscription.{Subscription}
+use Rattle.yp_registry.specs.declared.ask.Ask.{Ask}
 use Rattle.yp_journal.specs.History.{JournalState}
 use Rattle.yp_core.specs.declared.made.Made.{Made}
-use Rattle.yp_core.specs.Updates.{of_id, want, state_at}
+use Rattle.yp_core.specs.Updates.{Feed, feed_at, is_on_change, want, state_at}
 
 -- the rows that are held of a subscription, by its id, where it had an update
 abbrev pub held_of : ℕ → List (ℕ × List Row) → Option (List Row)
@@ -46,19 +46,19 @@ updates id (Suspended other) = false
 updates id (Resumed other) = false
 updates id (Terminated other) = false
 
--- what is held of an id is what its subscription, which is the receiver's, selects at a state
+-- what is held of an id is what the receiver's feed of it selects at a state
 pub record IsFresh (nodes : List SchemaNode) (state : JournalState) (receiver id : ℕ) (held : Option (List Row)) : Type 0 where
-  pub subscription : Subscription
-  pub given : of_id id state.subscriptions ≡ Some subscription
-  pub mine : subscription.receiver ≡ receiver
-  pub rows : held ≡ Some (want nodes state subscription)
+  pub feed : Feed
+  pub given : feed_at id receiver state ≡ Some feed
+  pub rows : held ≡ Some (want nodes state feed)
 
 -- after each update of a subscription, all that its receiver was made up to it leaves fresh selection at the update's position
 abbrev pub Mirrors : List SchemaNode → List ReceiverInfo → List Entry → ℕ → List Made → Type 0
 Mirrors nodes receivers entries receiver made = (id : ℕ) (before : List Made) (update : Made) (after : List Made) → made ≡ before ++ update ∷ after → updates id update.notice ≡ true
     → IsFresh nodes (state_at nodes receivers entries update.position) receiver id (held_of id (received [] (before ++ update ∷ [])))
 
--- each subscription that was established for a receiver has its full update at the position of the command
+-- each on-change subscription that was established for a receiver has its full update at the position of the command
 abbrev pub Opens : List Entry → ℕ → List Made → Type 0
-Opens entries receiver made = (before : List Entry) (entry : Entry) (after : List Entry) (id : ℕ) → entries ≡ before ++ entry ∷ after → entry.command ≡ Everything receiver → entry.reply ≡ Id id
+Opens entries receiver made = (before : List Entry) (entry : Entry) (after : List Entry) (id : ℕ) (ask : Ask) → entries ≡ before ++ entry ∷ after → entry.command ≡ Establish receiver ask
+    → is_on_change ask.trigger ≡ true → entry.reply ≡ Id id
     → (front : List Made) × (rows : List Row) × (rest : List Made) × (made ≡ front ++ record { position = length before + 1; stamp = entry.stamp; notice = Full id rows } ∷ rest)

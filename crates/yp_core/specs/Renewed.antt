@@ -8,21 +8,20 @@ use Rattle.yp_nacm.specs.Same.{are_same_rules}
 use Rattle.yp_journal.specs.declared.command.Command.TheVariants.{Rules}
 use Rattle.yp_journal.specs.declared.entry.Entry.{Entry}
 use Rattle.yp_journal.specs.declared.receiver.ReceiverInfo.{ReceiverInfo}
-use Rattle.yp_journal.specs.declared.subscription.Subscription.{Subscription}
 use Rattle.yp_journal.specs.History.{rules_at}
 use Rattle.yp_core.specs.declared.made.Made.{Made}
-use Rattle.yp_core.specs.Updates.{of_id, want, state_at}
+use Rattle.yp_core.specs.Updates.{Feed, feed_at, want, state_at}
 
 -- whether the own rules of a receiver's user stay as they were from a position to the next
 abbrev pub keeps_rules : List SchemaNode → List ReceiverInfo → List Entry → ℕ → ℕ → Bool
 keeps_rules nodes receivers entries receiver n = are_same_rules (rules_at (state_at nodes receivers entries n) receiver) (rules_at (state_at nodes receivers entries (n + 1)) receiver)
 
--- where an entry changes the own rules of a receiver's user, each subscription of the receiver has a full update at the position of the entry
+-- where an entry changes the own rules of a receiver's user, each feed of the receiver has a full update at the position of the entry
 abbrev pub Renews : List SchemaNode → List ReceiverInfo → List Entry → ℕ → List Made → Type 0
-Renews nodes receivers entries receiver made = (before : List Entry) (entry : Entry) (after : List Entry) (id : ℕ) (subscription : Subscription) → entries ≡ before ++ entry ∷ after
-    → keeps_rules nodes receivers entries receiver (length before) ≡ false → of_id id (state_at nodes receivers entries (length before + 1)).subscriptions ≡ Some subscription → subscription.receiver ≡ receiver
+Renews nodes receivers entries receiver made = (before : List Entry) (entry : Entry) (after : List Entry) (id : ℕ) (feed : Feed) → entries ≡ before ++ entry ∷ after
+    → keeps_rules nodes receivers entries receiver (length before) ≡ false → feed_at id receiver (state_at nodes receivers entries (length before + 1)) ≡ Some feed
     → (front : List Made) × (rest : List Made) × (made ≡ front
-    ++ record { position = length before + 1; stamp = entry.stamp; notice = Full id (want nodes (state_at nodes receivers entries (length before + 1)) subscription) } ∷ rest)
+    ++ record { position = length before + 1; stamp = entry.stamp; notice = Full id (want nodes (state_at nodes receivers entries (length before + 1)) feed) } ∷ rest)
 
 -- a policy that leaves them as they were makes nothing for the receiver
 abbrev pub StaysSilent : List SchemaNode → List ReceiverInfo → List Entry → ℕ → List Made → Type 0

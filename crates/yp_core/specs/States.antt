@@ -1,24 +1,38 @@
--- What commands leave: a datastore, subscriptions whose ids follow one another, and for each of them a receiver.
-use Rattle.std.specs.Prelude.{◌≡◌, ℕ, ◌+◌, ◌<◌, List, [], ◌∷◌, length}
+-- What commands leave: a datastore, a registry of the schema whose ids rise and whose users are the receivers', and a tick that there is.
+use Rattle.std.specs.Prelude.{◌≡◌, ◌<◌, ◌≤◌, ℕ, List, map}
 use Rattle.std.specs.List.{AllByRecursion}
 use Rattle.yp_schema.specs.declared.schema.SchemaNode.{SchemaNode}
 use Rattle.yp_schema.specs.Datastore.{IsDatastore}
 use Rattle.yp_schema.specs.WellFormed.{IsSchema}
-use Rattle.yp_journal.specs.declared.subscription.Subscription.{Subscription}
-use Rattle.yp_journal.specs.History.{JournalState, next_id}
+use Rattle.yp_base.specs.declared.notice.Trigger.{Trigger}
+use Rattle.yp_base.specs.declared.notice.Trigger.TheVariants.{Periodic, OnChange}
+use Rattle.yp_filter.specs.Filters.{Asked, all_rows}
+use Rattle.yp_registry.specs.Ids.{HasRisingIds}
+use Rattle.yp_registry.specs.Terms.{Terms}
+use Rattle.yp_registry.specs.Registry.{IsRegistryOf}
+use Rattle.yp_time.specs.Ticks.{tick_limit}
+use Rattle.yp_journal.specs.History.{JournalState}
+use Rattle.yp_core.specs.Updates.{Feed}
 
--- ids that follow one another, the first where so many were given before
-abbrev pub AreIds : ℕ → List Subscription → Type 0
-AreIds n [] = Unit {0}
-AreIds n (subscription ∷ subscriptions) = (subscription.id ≡ next_id n) × AreIds (n + 1) subscriptions
+-- a trigger with this filter is served so far: on change there is none
+abbrev pub HasNoFilter : Asked → Trigger → Type 0
+HasNoFilter asked (Periodic period anchor) = Unit {0}
+HasNoFilter asked (OnChange dampening sync excluded) = asked ≡ all_rows
 
--- a state that commands leave: its rows are a datastore, and its ids follow one another, as many as were given
+-- terms as they are served so far
+abbrev pub IsServedBy : Terms → Type 0
+IsServedBy terms = HasNoFilter terms.asked terms.trigger
+
+-- a state that commands leave: its rows are a datastore, its registry is one of the schema, for the users of the receivers, its ids rise, and its tick is no later than the last
 pub record Fits (nodes : List SchemaNode) (state : JournalState) : Type 0 where
   pub schema : IsSchema nodes
   pub datastore : IsDatastore nodes state.rows
-  pub given : state.given ≡ length state.subscriptions
-  pub ids : AreIds 0 state.subscriptions
+  pub registry : IsRegistryOf nodes state.registry
+  pub users : state.registry.users ≡ map (λ receiver. receiver.user) state.receivers
+  pub ids : HasRisingIds state.registry
+  pub served : AllByRecursion IsServedBy state.registry.live
+  pub time : state.stamp ≤ tick_limit
 
--- subscriptions of so many receivers
-abbrev pub HaveOwners : ℕ → List Subscription → Type 0
-HaveOwners count subscriptions = AllByRecursion (λ subscription. subscription.receiver < count) subscriptions
+-- feeds of so many receivers
+abbrev pub HaveOwners : ℕ → List Feed → Type 0
+HaveOwners count feeds = AllByRecursion (λ feed. feed.receiver < count) feeds

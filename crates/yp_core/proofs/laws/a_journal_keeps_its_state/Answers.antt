@@ -1,17 +1,10 @@
-use Rattle.yp_core.proofs.Subscriptions.{fits_first, fits_next, fits_all, owners_next, owners_all}
+use Rattle.yp_core.proofs.Fitting.{RegistriesAreKept, StatesFit, states_fit, fits_all, owners, owners_all}
 use Rattle.yp_core.proofs.laws.a_journal_keeps_its_state.Goals as goal
 
-pub returns-clause-first : goal.returns-clause-first
-returns-clause-first c = fits_first
-
-pub returns-clause-command : goal.returns-clause-command
-returns-clause-command c = fits_next c.a_journal_keeps_a_datastore.ensures.command
-
-pub returns-clause-entries : goal.returns-clause-entries
-returns-clause-entries c = fits_all c.a_journal_keeps_a_datastore.ensures.command
-
-pub returns-clause-owner : goal.returns-clause-owner
-returns-clause-owner c = owners_next
-
-pub returns-clause-owners : goal.returns-clause-owners
-returns-clause-owners c = owners_all
+pub returns : goal.returns
+returns c =
+    let kept = c.an_establishment_keeps_a_registry.ensures in
+    let rising = c.ids_rise.ensures in
+    let registries : RegistriesAreKept = record { first = kept.first; kept = kept.kept; rising_first = rising.first; rising = rising.kept } in
+    let laws : StatesFit = states_fit c.a_journal_keeps_a_datastore.ensures.command registries in
+    record { first = laws.first; command = laws.next; entries = fits_all laws; owners = owners; owners_all = owners_all laws }
