@@ -20,7 +20,7 @@ use Rattle.yp_script.specs.Forms.{line_form}
 use Rattle.yp_script.specs.Lines.{Line, pieces_of, without_feed, is_blank, json_in, is_in_script, lines_from}
 use Rattle.yp_script.specs.Order.{next_stage}
 use Rattle.yp_script.specs.Readings.{Gives}
-use Rattle.yp_script.specs.Script.{Progress, no_progress, with_start, with_part, with_receiver, counting, put_at, with_command, with_lanes, with_laned, schema_said, taken, at_stage, form_taken, line_taken, at_line, complete_start, script_at, script_from, script_of, count_commands}
+use Rattle.yp_script.specs.Script.{Progress, no_progress, with_start, with_part, with_receiver, put_at, with_command, with_lanes, with_laned, schema_said, taken, at_stage, form_taken, line_taken, at_line, complete_start, script_at, script_from, script_of, count_commands}
 use Rattle.yp_script.specs.Values.{start_said, receiver_said, command_said, lanes_said, laned_said}
 use Rattle.yp_script.specs.Words.{is_yes}
 use Rattle.yp_script.specs.SaidLaws.{map_is, map_any, then_is, if_is, line_is}
@@ -57,10 +57,10 @@ taken_more progress (Start value) = map_any (with_start progress) (start_said va
 taken_more progress (Schema value) = map_any (with_part progress value) (schema_said (schema_of (progress.parts ++ value ∷ []))) (HasAtMost (count_so_far progress + 1)) (λ nodes. omega arith)
 taken_more progress (Receiver value) = map_any (with_receiver progress) (receiver_said progress.receivers value) (HasAtMost (count_so_far progress + 1)) (λ receiver. omega arith)
 taken_more progress (Command request) =
-    map_any (with_command progress) (command_said progress.schema progress.receivers progress.established request) (HasAtMost (count_so_far progress + 1)) (λ command. command_more progress.stage (counting command progress) command)
+    map_any (with_command progress) (command_said progress.schema progress.start progress.receivers request) (HasAtMost (count_so_far progress + 1)) (λ command. command_more progress.stage progress command)
 taken_more progress (Lanes value) = map_any (with_lanes progress) (lanes_said value) (HasAtMost (count_so_far progress + 1)) (λ count. omega (arith, no_more count))
 taken_more progress (Lane lane request) =
-    map_any (with_laned progress) (laned_said progress.schema progress.receivers progress.established (length progress.lanes) lane request) (HasAtMost (count_so_far progress + 1))
+    map_any (with_laned progress) (laned_said progress.schema progress.start progress.receivers (length progress.lanes) lane request) (HasAtMost (count_so_far progress + 1))
     (λ laned. omega (arith, lane_more progress.lanes (laned.lane - 1) laned.command))
 taken_more progress (Join value) = if_is kinds.Member (is_yes value) (Ok progress) (HasAtMost (count_so_far progress + 1)) (λ yes. omega arith)
 

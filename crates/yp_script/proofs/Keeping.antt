@@ -8,6 +8,9 @@ use Rattle.std.proofs.lemmas.List.Elements.{All-push, All-nil, All-set, All-get_
 use Rattle.std.proofs.lemmas.Option.{IfSome_then}
 use Rattle.std.proofs.lemmas.Result.{IfOk-weaker}
 use Rattle.serde_json.specs.Data.{Data}
+use Rattle.std.specs.Option.{ForSome}
+use Rattle.yp_base.specs.declared.notice.Trigger.{Trigger}
+use Rattle.yp_base.specs.declared.notice.Trigger.TheVariants.{Periodic, OnChange}
 use Rattle.yp_base.specs.Json.{member_of}
 use Rattle.yp_base.specs.Results.{◌>>=◌, or_fault}
 use Rattle.yp_base.specs.Types.{same_text, is_among, are_distinct}
@@ -21,8 +24,9 @@ use Rattle.yp_edit.specs.Shapes.{patch_in}
 use Rattle.yp_journal.specs.declared.command.Command.{Command}
 use Rattle.yp_journal.specs.declared.command.Command.TheVariants as commands
 use Rattle.yp_journal.specs.declared.receiver.ReceiverInfo.{ReceiverInfo}
-use Rattle.yp_journal.specs.History.{MayCome}
-use Rattle.yp_time.specs.Ticks.{tick_limit}
+use Rattle.yp_journal.specs.History.{MayCome, IsServed}
+use Rattle.yp_registry.specs.Terms.{HasAnchor}
+use Rattle.yp_time.specs.Ticks.{tick_limit, IsAnchor}
 use Rattle.yp_script.specs.declared.command.Laned.{Laned}
 use Rattle.yp_script.specs.declared.fault.ScriptKind.TheVariants as kinds
 use Rattle.yp_script.specs.declared.fault.ScriptFault.{ScriptFault}
@@ -33,15 +37,18 @@ use Rattle.yp_script.specs.declared.form.Request.TheVariants.{Tick, Patch, Polic
 use Rattle.yp_script.specs.declared.script.Script.{Script}
 use Rattle.yp_script.specs.declared.stage.Stage.{Stage}
 use Rattle.yp_script.specs.declared.stage.Stage.TheVariants.{Opening, Started, Schemas, Receivers, Before, Within, After}
-use Rattle.yp_script.specs.Commands.{HasFewEdits, HasFew}
+use Rattle.yp_script.specs.Asks.{establish_said}
+use Rattle.yp_script.specs.Commands.{IsBounded, HasBounds, anchor_of}
 use Rattle.yp_script.specs.Faults.{LineFault, Said, said_map}
 use Rattle.yp_script.specs.Forms.{line_form}
 use Rattle.yp_script.specs.Lines.{Line, pieces_of, lines_from}
+use Rattle.yp_script.specs.Names.{names_of, receiver_number}
 use Rattle.yp_script.specs.Order.{next_stage}
 use Rattle.yp_script.specs.Readings.{Gives}
-use Rattle.yp_script.specs.Script.{Progress, no_progress, with_start, with_part, with_receiver, counting, put_at, with_command, with_lanes, with_laned, schema_said, taken, at_stage, form_taken, line_taken, at_line, complete_start, script_at, script_from, script_of, IsReceiver, AreReceivers, MayRun}
-use Rattle.yp_script.specs.Values.{is_receiver_name, is_user_name, is_new_name, names_of, receiver_number, has_receiver_form, name_said, user_said, queue_said, places_said, receiver_of, receiver_said, patch_said, sound, policy_said, is_of_everything, everything_said, subscription_limit, command_said, lanes_said, laned_said, start_said}
+use Rattle.yp_script.specs.Script.{Progress, no_progress, with_start, with_part, with_receiver, put_at, with_command, with_lanes, with_laned, schema_said, taken, at_stage, form_taken, line_taken, at_line, complete_start, script_at, script_from, script_of, IsReceiver, AreReceivers, MayRun}
+use Rattle.yp_script.specs.Values.{is_receiver_name, is_user_name, is_new_name, has_receiver_form, name_said, user_said, queue_said, places_said, receiver_of, receiver_said, patch_said, sound, policy_said, command_said, lanes_said, laned_said, start_said}
 use Rattle.yp_script.specs.Words.{text_at, where_true, whole_said, is_yes}
+use Rattle.yp_script.proofs.AskLaws.{asked_is}
 use Rattle.yp_script.proofs.Positions.{position_within, none_there}
 use Rattle.yp_script.specs.SaidLaws.{map_is, map_any, then_is, if_is, or_is, together_is, holding_is, where_is, itself_is, then_some, line_is, whole_is}
 
@@ -125,13 +132,13 @@ abbrev pub IsOf : List SchemaNode → List ReceiverInfo → Command → Type 0
 IsOf nodes receivers (commands.Tick tick) = tick ≤ tick_limit
 IsOf nodes receivers (commands.Edit patch) = (json : Data) × (patch_in json ≡ Some patch)
 IsOf nodes receivers (commands.Rules policy) = (json : Data) × (policy_in nodes json ≡ Ok policy)
-IsOf nodes receivers (commands.Everything by) = by < length receivers
+IsOf nodes receivers (commands.Establish by ask) = (by < length receivers) × IsServed ask.filter ask.trigger
 
 of_more : (nodes : List SchemaNode) (receivers : List ReceiverInfo) (receiver : ReceiverInfo) (command : Command) → IsOf nodes receivers command → IsOf nodes (receivers ++ receiver ∷ []) command
 of_more nodes receivers receiver (commands.Tick tick) is = is
 of_more nodes receivers receiver (commands.Edit patch) is = is
 of_more nodes receivers receiver (commands.Rules policy) is = is
-of_more nodes receivers receiver (commands.Everything by) is = omega (arith, is, length-append receivers (receiver ∷ []))
+of_more nodes receivers receiver (commands.Establish by ask) is = (omega (arith, is.0, length-append receivers (receiver ∷ [])), is.1)
 
 all_more : (nodes : List SchemaNode) (receivers : List ReceiverInfo) (receiver : ReceiverInfo) (gathered : List Command) → All (IsOf nodes receivers) gathered → All (IsOf nodes (receivers ++ receiver ∷ [])) gathered
 all_more nodes receivers receiver gathered are = All-weaker (IsOf nodes receivers) (IsOf nodes (receivers ++ receiver ∷ [])) (of_more nodes receivers receiver) gathered are
@@ -149,24 +156,23 @@ sound_is (Err fault) = tt
 policy_is : (nodes : List SchemaNode) (receivers : List ReceiverInfo) (json : Data) → IfOk (policy_said nodes json) (IsOf nodes receivers)
 policy_is nodes receivers json = map_is commands.Rules (sound (policy_in nodes json)) (λ policy. policy_in nodes json ≡ Ok policy) (IsOf nodes receivers) (sound_is (policy_in nodes json)) (λ policy is. (json, is))
 
-everything_is : (nodes : List SchemaNode) (receivers : List ReceiverInfo) (json : Data) → IfOk (everything_said receivers json) (IsOf nodes receivers)
-everything_is nodes receivers json =
+establish_is : (nodes : List SchemaNode) (start : Option ℕ) (receivers : List ReceiverInfo) (json : Data) → IfOk (establish_said start receivers json) (IsOf nodes receivers)
+establish_is nodes start receivers json =
     let by = option_and_then (receiver_number receivers) (text_at (codes "by") json) in
-    if_is kinds.Member (is_of_everything json) (said_map commands.Everything (or_fault kinds.Member by)) (IsOf nodes receivers) (λ whole.
-    map_is commands.Everything (or_fault kinds.Member by) (λ n. n < length receivers) (IsOf nodes receivers)
+    asked_is start receivers json (IsOf nodes receivers)
     (or_is kinds.Member by (λ n. n < length receivers) (then_some (receiver_number receivers) (text_at (codes "by") json) (λ n. n < length receivers) (number_within receivers)))
-    (λ n is. is))
+    (λ n ask there is. (there, is))
 
-command_is : (nodes : List SchemaNode) (receivers : List ReceiverInfo) (established : ℕ) (request : Request Data) → IfOk (command_said nodes receivers established request) (IsOf nodes receivers)
-command_is nodes receivers established (Tick json) = map_is commands.Tick (whole_said 0 tick_limit json) (λ n. (0 ≤ n) × (n ≤ tick_limit)) (IsOf nodes receivers) (whole_is 0 tick_limit json) (λ n bounds. bounds.1)
-command_is nodes receivers established (Patch json) = patch_is nodes receivers json
-command_is nodes receivers established (Ruling json) = policy_is nodes receivers json
-command_is nodes receivers established (Establish json) = if_is kinds.UnknownCommand (nat_lt established subscription_limit) (everything_said receivers json) (IsOf nodes receivers) (λ few. everything_is nodes receivers json)
+command_is : (nodes : List SchemaNode) (start : Option ℕ) (receivers : List ReceiverInfo) (request : Request Data) → IfOk (command_said nodes start receivers request) (IsOf nodes receivers)
+command_is nodes start receivers (Tick json) = map_is commands.Tick (whole_said 0 tick_limit json) (λ n. (0 ≤ n) × (n ≤ tick_limit)) (IsOf nodes receivers) (whole_is 0 tick_limit json) (λ n bounds. bounds.1)
+command_is nodes start receivers (Patch json) = patch_is nodes receivers json
+command_is nodes start receivers (Ruling json) = policy_is nodes receivers json
+command_is nodes start receivers (Establish json) = establish_is nodes start receivers json
 
-laned_is : (nodes : List SchemaNode) (receivers : List ReceiverInfo) (established count : ℕ) (place : Data) (request : Request Data) → IfOk (laned_said nodes receivers established count place request) (λ laned. IsOf nodes receivers laned.command)
-laned_is nodes receivers established count place request =
-    together_is (λ lane command. record { lane = lane; command = command }) (whole_said 1 count place) (command_said nodes receivers established request) (IsOf nodes receivers) (λ laned. IsOf nodes receivers laned.command)
-    (command_is nodes receivers established request) (λ lane command is. is)
+laned_is : (nodes : List SchemaNode) (start : Option ℕ) (receivers : List ReceiverInfo) (count : ℕ) (place : Data) (request : Request Data) → IfOk (laned_said nodes start receivers count place request) (λ laned. IsOf nodes receivers laned.command)
+laned_is nodes start receivers count place request =
+    together_is (λ lane command. record { lane = lane; command = command }) (whole_said 1 count place) (command_said nodes start receivers request) (IsOf nodes receivers) (λ laned. IsOf nodes receivers laned.command)
+    (command_is nodes start receivers request) (λ lane command is. is)
 
 -- ---- commands come after the schema
 
@@ -315,11 +321,11 @@ keeps_taken progress (forms.Receiver value) stage leads keeps bare =
       led (next_stage progress.stage (forms.Receiver value)) stage progress.before progress.lanes progress.after leads (receiver_leads progress.before progress.lanes progress.after progress.stage value),
     ))
 keeps_taken progress (forms.Command request) stage leads keeps bare =
-    map_is (with_command progress) (command_said progress.schema progress.receivers progress.established request) (IsOf progress.schema progress.receivers) (KeepAt stage)
-    (command_is progress.schema progress.receivers progress.established request)
+    map_is (with_command progress) (command_said progress.schema progress.start progress.receivers request) (IsOf progress.schema progress.receivers) (KeepAt stage)
+    (command_is progress.schema progress.start progress.receivers request)
     (λ command is.
     let next = with_command progress command in (
-      keeps_command progress.stage (counting command progress) command keeps is,
+      keeps_command progress.stage progress command keeps is,
       led (next_stage progress.stage (forms.Command request)) stage next.before next.lanes next.after leads (command_leads next.before next.lanes next.after progress.stage request),
     ))
 keeps_taken progress (forms.Lanes value) stage leads keeps bare =
@@ -336,8 +342,8 @@ keeps_taken progress (forms.Lanes value) stage leads keeps bare =
       led (next_stage progress.stage (forms.Lanes value)) stage next.before next.lanes next.after leads (lanes_lead next.before next.lanes next.after progress.stage value),
     ))
 keeps_taken progress (forms.Lane lane request) stage leads keeps bare =
-    map_is (with_laned progress) (laned_said progress.schema progress.receivers progress.established (length progress.lanes) lane request) (λ laned. IsOf progress.schema progress.receivers laned.command) (KeepAt stage)
-    (laned_is progress.schema progress.receivers progress.established (length progress.lanes) lane request)
+    map_is (with_laned progress) (laned_said progress.schema progress.start progress.receivers (length progress.lanes) lane request) (λ laned. IsOf progress.schema progress.receivers laned.command) (KeepAt stage)
+    (laned_is progress.schema progress.start progress.receivers (length progress.lanes) lane request)
     (λ laned is.
     let next = with_laned progress laned in (
       keeps_laned progress laned keeps is,
@@ -395,13 +401,18 @@ script_keeps end lines =
 abbrev pub PathsKept : Type 0
 PathsKept = (nodes : List SchemaNode) (json : Data) (policy : Policy) → policy_in nodes json ≡ Ok policy → IsPolicyOf nodes policy
 
-may_come : PathsKept → (nodes : List SchemaNode) (receivers : List ReceiverInfo) (command : Command) → IsOf nodes receivers command → HasFewEdits command → MayCome nodes receivers command
-may_come paths nodes receivers (commands.Tick tick) is few = is
-may_come paths nodes receivers (commands.Edit patch) is few = record { json = is.0; read = is.1; few = few }
-may_come paths nodes receivers (commands.Rules policy) is few = paths nodes is.0 policy is.1
-may_come paths nodes receivers (commands.Everything by) is few = is
+has_anchor : (trigger : Trigger) → ForSome (anchor_of trigger) IsAnchor → HasAnchor trigger
+has_anchor (Periodic period (Some anchor)) within = within anchor refl
+has_anchor (Periodic period None) within = tt
+has_anchor (OnChange dampening sync excluded) within = tt
 
-may_run : PathsKept → (script : Script) → ScriptKeeps script → HasFew script → MayRun script
+may_come : PathsKept → (nodes : List SchemaNode) (receivers : List ReceiverInfo) (command : Command) → IsOf nodes receivers command → IsBounded command → MayCome nodes receivers command
+may_come paths nodes receivers (commands.Tick tick) is few = is
+may_come paths nodes receivers (commands.Edit patch) is few = record { json = is.0; read = is.1; few = few.0 }
+may_come paths nodes receivers (commands.Rules policy) is few = paths nodes is.0 policy is.1
+may_come paths nodes receivers (commands.Establish by ask) is few = (is.0, has_anchor ask.trigger few.1, is.1)
+
+may_run : PathsKept → (script : Script) → ScriptKeeps script → HasBounds script → MayRun script
 may_run paths script keeps few = record {
   before = λ k d h. may_come paths script.schema script.receivers (get_or script.before k d) (keeps.before k d h) (few.before k d h);
   lanes = λ k d h. λ j e g. may_come paths script.schema script.receivers (get_or (get_or script.lanes k d) j e) (keeps.lanes k d h j e g) (few.lanes k d h j e g);
@@ -422,7 +433,7 @@ pub read_lanes : (r : Result Script ScriptFault) → IfOk r ScriptKeeps → IfOk
 read_lanes (Ok script) keeps = keeps.few
 read_lanes (Err fault) keeps = tt
 
-pub read_commands : PathsKept → (r : Result Script ScriptFault) → IfOk r ScriptKeeps → IfOk r HasFew → IfOk r MayRun
+pub read_commands : PathsKept → (r : Result Script ScriptFault) → IfOk r ScriptKeeps → IfOk r HasBounds → IfOk r MayRun
 read_commands paths (Ok script) keeps few = may_run paths script keeps few
 read_commands paths (Err fault) keeps few = tt
 

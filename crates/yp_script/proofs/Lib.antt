@@ -1,3 +1,4 @@
+pub mod AskLaws
 pub mod CommandLaws
 pub mod Counting
 pub mod Keeping

@@ -1,5 +1,5 @@
 -- The form of a line of a script, with the values that stand in it: a line is a JSON object of one member, or of two in a lane.
-use Rattle.std.specs.Prelude.{ℕ, ◌&&◌, ◌||◌, List, Bool, false, not, Option, Some, None, option_map, option_and_then, if◌then◌else◌, codes}
+use Rattle.std.specs.Prelude.{ℕ, ◌&&◌, List, Bool, not, Option, Some, None, option_map, option_and_then, if◌then◌else◌, codes}
 use Rattle.std.specs.Borrow.{Bor}
 use Rattle.serde_json.specs.Data.{Data}
 use Rattle.serde_json.specs.View.{view}
@@ -10,23 +10,13 @@ use Rattle.yp_script.specs.declared.form.Request.{Request}
 use Rattle.yp_script.specs.declared.form.Request.TheVariants.{Tick, Patch, Policy, Establish}
 use Rattle.yp_script.specs.declared.form.Form.{Form}
 use Rattle.yp_script.specs.declared.form.Form.TheVariants.{Start, Schema, Receiver, Command, Lanes, Lane, Join}
-use Rattle.yp_script.specs.Words.{has_count, sole_member, text_at, says, has, has_terms}
+use Rattle.yp_script.specs.Words.{has_count, sole_member, says}
 
--- ---- forms that aren't read yet
+-- ---- a form that isn't read yet
 
 -- a receiver that waits for commands to take its packets
 abbrev pub is_later_receiver : Data → Bool
 is_later_receiver value = says (codes "take") (codes "command") value
-
-abbrev pub is_other_store : Option (List ℕ) → Bool
-is_other_store None = false
-is_other_store (Some text) = not (same_text text (codes "ietf-datastores:operational"))
-
--- a subscription that is not one to every change of everything: with an encoding, a filter or a period (RFC 8641 section 3.1), of another datastore (RFC 8342), or with terms for its changes
-abbrev pub is_later_subscription : Data → Bool
-is_later_subscription value =
-    has (codes "encoding") value || has (codes "datastore-subtree-filter") value || has (codes "datastore-xpath-filter") value || has (codes "periodic") value
-    || is_other_store (text_at (codes "datastore") value) || has_terms (member_of (codes "on-change") value)
 
 -- ---- commands
 
@@ -36,7 +26,7 @@ request_named name value =
     if same_text name (codes "tick") then Some (Tick value)
     else (if same_text name (codes "patch") then Some (Patch value)
     else (if same_text name (codes "policy") then Some (Policy value)
-    else (if same_text name (codes "establish") && not (is_later_subscription value) then Some (Establish value)
+    else (if same_text name (codes "establish") then Some (Establish value)
     else None)))
 
 -- the command that an object of one member asks for

@@ -1,9 +1,11 @@
+pub mod Asks
 pub mod Commands
 pub mod Cursor
 pub mod Faults
 pub mod Forms
 pub mod LimitLaws
 pub mod Lines
+pub mod Names
 pub mod Order
 pub mod Readers
 pub mod Readings

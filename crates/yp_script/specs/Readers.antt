@@ -25,7 +25,6 @@ progress_with reader nodes = record {
   parts = map view reader.parts.parts.items;
   schema = nodes;
   receivers = reader.receivers;
-  established = reader.established;
   before = reader.before.commands.items;
   lanes = map (λ lane. lane.commands.items) reader.lanes.items;
   after = reader.after.commands.items;

@@ -8,7 +8,6 @@ use Rattle.yp_schema.specs.declared.schema.SchemaNode.{SchemaNode}
 use Rattle.yp_schema.specs.Reading.{schema_of}
 use Rattle.yp_schema.specs.Rounds.{Fault}
 use Rattle.yp_journal.specs.declared.command.Command.{Command}
-use Rattle.yp_journal.specs.declared.command.Command.TheVariants.{Everything}
 use Rattle.yp_journal.specs.declared.receiver.ReceiverInfo.{ReceiverInfo}
 use Rattle.yp_journal.specs.History.{MayCome}
 use Rattle.yp_script.specs.declared.command.Laned.{Laned}
@@ -22,26 +21,26 @@ use Rattle.yp_script.specs.Faults.{LineFault, Said, said_map, with_fault}
 use Rattle.yp_script.specs.Forms.{line_form}
 use Rattle.yp_script.specs.Lines.{Line, pieces_of, lines_from, byte_limit}
 use Rattle.yp_script.specs.Order.{next_stage, is_complete, InOrder}
-use Rattle.yp_script.specs.Values.{is_receiver_name, is_user_name, names_of, start_said, receiver_said, command_said, lanes_said, laned_said}
+use Rattle.yp_script.specs.Names.{names_of}
+use Rattle.yp_script.specs.Values.{is_receiver_name, is_user_name, start_said, receiver_said, command_said, lanes_said, laned_said}
 use Rattle.yp_script.specs.Words.{is_yes}
 
 -- ---- what the lines so far say
 
--- the stage, the start, the parts of the schema and what they compile to, the receivers, how many subscriptions are asked for, and the commands before the lanes, in each lane and after them
+-- the stage, the start, the parts of the schema and what they compile to, the receivers, and the commands before the lanes, in each lane and after them
 pub record Progress : Type 0 where
   pub stage : Stage
   pub start : Option ℕ
   pub parts : List Data
   pub schema : List SchemaNode
   pub receivers : List ReceiverInfo
-  pub established : ℕ
   pub before : List Command
   pub lanes : List (List Command)
   pub after : List Command
 
 -- before the first line
 abbrev pub no_progress : Progress
-no_progress = record { stage = Opening; start = None; parts = []; schema = []; receivers = []; established = 0; before = []; lanes = []; after = [] }
+no_progress = record { stage = Opening; start = None; parts = []; schema = []; receivers = []; before = []; lanes = []; after = [] }
 
 abbrev pub with_start : Progress → ℕ → Progress
 with_start progress start = record progress { start = Some start }
@@ -52,21 +51,13 @@ with_part progress part nodes = record progress { parts = progress.parts ++ part
 abbrev pub with_receiver : Progress → ReceiverInfo → Progress
 with_receiver progress receiver = record progress { receivers = progress.receivers ++ receiver ∷ [] }
 
--- how many subscriptions are asked for with one command more
-abbrev pub established_by : Command → ℕ → ℕ
-established_by (Everything by) count = count + 1
-established_by other count = count
-
-abbrev pub counting : Command → Progress → Progress
-counting command progress = record progress { established = established_by command progress.established }
-
 -- a command after the join is one after the lanes, and any other outside them one before
 abbrev pub put_at : Stage → Progress → Command → Progress
 put_at After progress command = record progress { after = progress.after ++ command ∷ [] }
 put_at other progress command = record progress { before = progress.before ++ command ∷ [] }
 
 abbrev pub with_command : Progress → Command → Progress
-with_command progress command = put_at progress.stage (counting command progress) command
+with_command progress command = put_at progress.stage progress command
 
 -- so many lanes without commands
 abbrev pub with_lanes : Progress → ℕ → Progress
@@ -77,7 +68,7 @@ abbrev pub in_lane : ℕ → Command → List (List Command) → List (List Comm
 in_lane number command lanes = slice_set lanes (number - 1) (slice_index_or lanes (number - 1) [] ++ command ∷ [])
 
 abbrev pub with_laned : Progress → Laned → Progress
-with_laned progress laned = record (counting laned.command progress) { lanes = in_lane laned.lane laned.command progress.lanes }
+with_laned progress laned = record progress { lanes = in_lane laned.lane laned.command progress.lanes }
 
 -- ---- what a line says
 
@@ -86,14 +77,14 @@ abbrev pub schema_said : Result (List SchemaNode) Fault → Said (List SchemaNod
 schema_said (Ok nodes) = Ok nodes
 schema_said (Err fault) = Err kinds.Schema
 
--- what the values of a line add, or the least of their faults; a part of the schema is judged by those before it, and a policy by the schema so far
+-- what the values of a line add, or the least of their faults; a part of the schema is judged by those before it, a policy by the schema so far, and a subscription by the start and the receivers so far
 abbrev pub taken : Progress → Form Data → Said Progress
 taken progress (forms.Start value) = said_map (with_start progress) (start_said value)
 taken progress (forms.Schema value) = said_map (with_part progress value) (schema_said (schema_of (progress.parts ++ value ∷ [])))
 taken progress (forms.Receiver value) = said_map (with_receiver progress) (receiver_said progress.receivers value)
-taken progress (forms.Command request) = said_map (with_command progress) (command_said progress.schema progress.receivers progress.established request)
+taken progress (forms.Command request) = said_map (with_command progress) (command_said progress.schema progress.start progress.receivers request)
 taken progress (forms.Lanes value) = said_map (with_lanes progress) (lanes_said value)
-taken progress (forms.Lane lane request) = said_map (with_laned progress) (laned_said progress.schema progress.receivers progress.established (length progress.lanes) lane request)
+taken progress (forms.Lane lane request) = said_map (with_laned progress) (laned_said progress.schema progress.start progress.receivers (length progress.lanes) lane request)
 taken progress (forms.Join value) = if is_yes value then Ok progress else Err kinds.Member
 
 -- the same at the stage to which the line leads; a line that may not stand at its place has that fault too

@@ -1,9 +1,8 @@
 -- What the values of a line say, by its form, or the least of their faults.
-use Rattle.std.specs.Prelude.{ℕ, ◌==◌, ◌&&◌, ◌||◌, List, [], ◌∷◌, length, map, Bool, true, not, Option, Some, None, is_some, option_and_then, Result, Ok, Err, if◌then◌else◌, nat_le, nat_lt, position, codes}
+use Rattle.std.specs.Prelude.{ℕ, ◌==◌, ◌&&◌, ◌||◌, List, [], ◌∷◌, length, Bool, true, not, Option, Some, None, is_some, Result, Ok, Err, if◌then◌else◌, nat_le, nat_lt, codes}
 use Rattle.serde_json.specs.Data.{Data, string}
 use Rattle.yp_base.specs.Json.{member_of}
 use Rattle.yp_base.specs.Results.{◌>>=◌, or_fault}
-use Rattle.yp_base.specs.Types.{same_text}
 use Rattle.yp_schema.specs.declared.schema.SchemaNode.{SchemaNode}
 use Rattle.yp_nacm_text.specs.Faults.{Fault}
 use Rattle.yp_nacm_text.specs.Policies.{policy_in}
@@ -17,8 +16,10 @@ use Rattle.yp_script.specs.declared.command.Laned.{Laned}
 use Rattle.yp_script.specs.declared.fault.ScriptKind.TheVariants as kinds
 use Rattle.yp_script.specs.declared.form.Request.{Request}
 use Rattle.yp_script.specs.declared.form.Request.TheVariants.{Tick, Patch, Policy, Establish}
+use Rattle.yp_script.specs.Asks.{establish_said}
 use Rattle.yp_script.specs.Faults.{Said, said_map, holding, together}
-use Rattle.yp_script.specs.Words.{has_count, text_at, says, where_true, whole_said, has_no_terms}
+use Rattle.yp_script.specs.Names.{receiver_number}
+use Rattle.yp_script.specs.Words.{has_count, text_at, says, where_true, whole_said}
 
 -- ---- {"start":T}
 
@@ -41,13 +42,6 @@ is_receiver_name text = nat_le 1 (length text) && nat_le (length text) 32 && are
 
 abbrev pub is_user_name : List ℕ → Bool
 is_user_name text = nat_le 1 (length text) && nat_le (length text) 64
-
-abbrev pub names_of : List ReceiverInfo → List (List ℕ)
-names_of receivers = map (λ receiver. receiver.name) receivers
-
--- the number of the receiver of a name, from 0 on in the order of their declaration
-abbrev pub receiver_number : List ReceiverInfo → List ℕ → Option ℕ
-receiver_number receivers name = position (same_text name) (names_of receivers)
 
 -- a receiver's own name, which none of those before it has
 abbrev pub is_new_name : List ReceiverInfo → List ℕ → Bool
@@ -80,14 +74,7 @@ receiver_said receivers json =
     then name_said receivers json >>= (λ name. user_said json >>= (λ user. said_map (receiver_of name user) (places_said receivers json)))
     else Err kinds.Member
 
--- ---- {"tick":T}, {"patch":D} (RFC 8072), {"policy":D} (RFC 8341), {"establish":{"by":N,"datastore":"ietf-datastores:operational","on-change":{}}} (RFC 8641 section 3.1)
-
-abbrev pub is_of_everything : Data → Bool
-is_of_everything json = has_count 3 json && says (codes "datastore") (codes "ietf-datastores:operational") json && has_no_terms (member_of (codes "on-change") json)
-
-abbrev pub everything_said : List ReceiverInfo → Data → Said Command
-everything_said receivers json =
-    if is_of_everything json then said_map commands.Everything (or_fault kinds.Member (option_and_then (receiver_number receivers) (text_at (codes "by") json))) else Err kinds.Member
+-- ---- {"tick":T}, {"patch":D} (RFC 8072), {"policy":D} (RFC 8341)
 
 abbrev pub patch_said : Data → Said Command
 patch_said json = said_map commands.Edit (or_fault kinds.Patch (patch_in json))
@@ -101,16 +88,12 @@ sound (Err fault) = Err kinds.Policy
 abbrev pub policy_said : List SchemaNode → Data → Said Command
 policy_said nodes json = said_map commands.Rules (sound (policy_in nodes json))
 
--- of the subscriptions that are asked for so many are read
-abbrev pub subscription_limit : ℕ
-subscription_limit = 256
-
--- a command, by the nodes of the schema, where so many subscriptions are asked for before it
-abbrev pub command_said : List SchemaNode → List ReceiverInfo → ℕ → Request Data → Said Command
-command_said nodes receivers established (Tick json) = said_map commands.Tick (whole_said 0 tick_limit json)
-command_said nodes receivers established (Patch json) = patch_said json
-command_said nodes receivers established (Policy json) = policy_said nodes json
-command_said nodes receivers established (Establish json) = if nat_lt established subscription_limit then everything_said receivers json else Err kinds.UnknownCommand
+-- a command, by the nodes of the schema, the start and the receivers so far
+abbrev pub command_said : List SchemaNode → Option ℕ → List ReceiverInfo → Request Data → Said Command
+command_said nodes start receivers (Tick json) = said_map commands.Tick (whole_said 0 tick_limit json)
+command_said nodes start receivers (Patch json) = patch_said json
+command_said nodes start receivers (Policy json) = policy_said nodes json
+command_said nodes start receivers (Establish json) = establish_said start receivers json
 
 -- ---- {"lanes":K}, {"lane":k,"do":C}
 
@@ -118,6 +101,6 @@ abbrev pub lanes_said : Data → Said ℕ
 lanes_said json = whole_said 1 64 json
 
 -- a command of one of so many lanes
-abbrev pub laned_said : List SchemaNode → List ReceiverInfo → ℕ → ℕ → Data → Request Data → Said Laned
-laned_said nodes receivers established count place request =
-    together (λ lane command. record { lane = lane; command = command }) (whole_said 1 count place) (command_said nodes receivers established request)
+abbrev pub laned_said : List SchemaNode → Option ℕ → List ReceiverInfo → ℕ → Data → Request Data → Said Laned
+laned_said nodes start receivers count place request =
+    together (λ lane command. record { lane = lane; command = command }) (whole_said 1 count place) (command_said nodes start receivers request)

@@ -62,11 +62,6 @@ abbrev pub has_terms : Option Data → Bool
 has_terms (Some (object (member name value more))) = true
 has_terms other = false
 
--- whether a subscription to changes is without terms for them
-abbrev pub has_no_terms : Option Data → Bool
-has_no_terms (Some (object no_members)) = true
-has_no_terms other = false
-
 -- whether it is the word `true`
 abbrev pub is_yes : Data → Bool
 is_yes (boolean b) = b

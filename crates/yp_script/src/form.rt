@@ -1,10 +1,9 @@
 //! The forms of a script's lines.
-ghost use Rattle.std.specs.Prelude.{◌≡◌, option_map, codes};
+ghost use Rattle.std.specs.Prelude.{◌≡◌, option_map};
 ghost use Rattle.serde_json.specs.View.{view};
-ghost use Rattle.yp_script.specs.Forms.{seen_request, seen_form, is_other_store, is_later_receiver, is_later_subscription, request_named, request_in, form_named, lane_form, line_form};
-ghost use Rattle.yp_script.specs.Words.{text_at};
+ghost use Rattle.yp_script.specs.Forms.{seen_request, seen_form, is_later_receiver, request_named, request_in, form_named, lane_form, line_form};
 
-use crate::words::{has, has_count, has_terms, says, sole_member, text_in};
+use crate::words::{has_count, says, sole_member};
 use serde_json::Value as Json;
 use yp_base::json::member;
 
@@ -17,7 +16,7 @@ pub enum Request<V> {
     Patch(V),
     /// A policy of access control (RFC 8341).
     Policy(V),
-    /// A subscription to every change of everything (RFC 8641 section 3.1).
+    /// A subscription is asked for (RFC 8639 section 2.4.2).
     Establish(V),
 }
 
@@ -47,28 +46,6 @@ fn is_later_receiver(value: &Json) -> bool
     says(value, "take", "command")
 }
 
-/// Whether a datastore is named other than the operational one.
-fn is_other_store(json: &Json) -> bool
-    ensures { result ≡ is_other_store (text_at (codes "datastore") (view json.now)) }
-{
-    match text_in(json, "datastore") {
-        Some(text) => text != "ietf-datastores:operational",
-        None => false,
-    }
-}
-
-/// Whether a subscription is of a form that isn't read yet: it isn't one to every change of everything.
-fn is_later_subscription(value: &Json) -> bool
-    ensures { result ≡ is_later_subscription (view value.now) }
-{
-    has(value, "encoding")
-        || has(value, "datastore-subtree-filter")
-        || has(value, "datastore-xpath-filter")
-        || has(value, "periodic")
-        || is_other_store(value)
-        || has_terms(member(value, "on-change"))
-}
-
 /// The command that a member of this name asks for.
 fn request_named<'a>(name: &str, value: &'a Json) -> Option<Request<&'a Json>>
     ensures { option_map seen_request result ≡ request_named name.now (view value.now) }
@@ -79,7 +56,7 @@ fn request_named<'a>(name: &str, value: &'a Json) -> Option<Request<&'a Json>>
         Some(Request::Patch(value))
     } else if name == "policy" {
         Some(Request::Policy(value))
-    } else if name == "establish" && !is_later_subscription(value) {
+    } else if name == "establish" {
         Some(Request::Establish(value))
     } else {
         None

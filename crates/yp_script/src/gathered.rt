@@ -1,6 +1,6 @@
 //! Commands that a reader gathers.
 ghost use Rattle.std.specs.Prelude.{◌≡◌, ◌<◌, ◌≤◌, ◌++◌, ◌∷◌, [], All, IfOk, OnOk, OnErr, map, replicate, vec_len};
-ghost use Rattle.yp_script.specs.Commands.{HasFewEdits, AreFew};
+ghost use Rattle.yp_script.specs.Commands.{IsBounded, AreBounded};
 ghost use Rattle.yp_script.specs.Script.{in_lane};
 
 use crate::command::Laned;
@@ -15,7 +15,7 @@ use yp_journal::command::{Command, Commands};
 #[derive(Drop)]
 pub struct Gathered {
     pub commands: Vec<Command>,
-    ghost few: { AreFew commands.items },
+    ghost bounds: { AreBounded commands.items },
 }
 
 impl Gathered {
@@ -30,7 +30,7 @@ impl Gathered {
 
     /// One command more, at the end. After want of memory nothing is changed.
     pub fn push(&mut self, command: Command) -> Result<(), NoMemory>
-        requires { HasFewEdits command }
+        requires { IsBounded command }
         ensures ok { OnOk result (self.new.commands.items ≡ self.old.commands.items ++ command ∷ []) }
         ensures err { OnErr result (self.new.commands.items ≡ self.old.commands.items) }
     {
@@ -41,7 +41,7 @@ impl Gathered {
     /// The commands, given on. It takes no memory.
     pub fn into_commands(self) -> Commands
         ensures same { result ≡ self.commands.items }
-        ensures few { AreFew result }
+        ensures bounds { AreBounded result }
     {
         let Gathered { commands } = self;
         Series::from_vec(commands)
@@ -63,7 +63,7 @@ pub fn empty_lanes(alloc: Global, count: u64) -> Result<Vec<Gathered>, NoMemory>
 pub fn push_in(lanes: &mut Vec<Gathered>, laned: Laned) -> Result<(), NoMemory>
     requires some { 1 ≤ laned.lane }
     requires within { laned.lane ≤ vec_len lanes.old }
-    requires few { HasFewEdits laned.command }
+    requires bounds { IsBounded laned.command }
     ensures { OnOk result (map (λ lane. lane.commands.items) lanes.new.items ≡ in_lane laned.lane laned.command (map (λ lane. lane.commands.items) lanes.old.items)) }
 {
     let Laned { lane, command } = laned;
@@ -73,7 +73,7 @@ pub fn push_in(lanes: &mut Vec<Gathered>, laned: Laned) -> Result<(), NoMemory>
 /// The commands of each lane, given on.
 pub fn lanes_of(alloc: Global, lanes: Vec<Gathered>) -> Result<Lanes, NoMemory>
     ensures same { IfOk result (λ made. made ≡ map (λ lane. lane.commands.items) lanes.items) }
-    ensures few { IfOk result (λ made. All AreFew made) }
+    ensures bounds { IfOk result (λ made. All AreBounded made) }
 {
     let mut made = Vec::new(alloc);
     for lane in lanes {

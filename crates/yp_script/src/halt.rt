@@ -1,7 +1,7 @@
 //! What stops the reading of a line.
-ghost use Rattle.std.specs.Prelude.{◌≡◌};
-ghost use Rattle.yp_script.specs.Faults.{least};
-ghost use Rattle.yp_script.specs.Readings.{beside};
+ghost use Rattle.std.specs.Prelude.{◌≡◌, Ok, IfOk};
+ghost use Rattle.yp_script.specs.Faults.{Said, least, both, holding};
+ghost use Rattle.yp_script.specs.Readings.{Tells, beside};
 
 use crate::fault::{ScriptFault, ScriptKind};
 use std::alloc::AllocError;
@@ -61,11 +61,12 @@ impl From<AllocError> for Halt {
     }
 }
 
-/// The lesser of two faults.
+/// Which of two faults of a line is told: the lesser, but that its values are of a later form only where
+/// there is no other.
 pub fn least(kind: ScriptKind, other: ScriptKind) -> ScriptKind
     ensures { result ≡ least kind other }
 {
-    if kind.number() <= other.number() {
+    if kind.rank() <= other.rank() {
         kind
     } else {
         other
@@ -79,5 +80,38 @@ pub fn beside(kind: ScriptKind, halt: Halt) -> Halt
     match halt {
         Halt::Fault(other) => Halt::Fault(least(kind, other)),
         Halt::Memory => Halt::Memory,
+    }
+}
+
+/// A part of a line that has this fault too, unless a test holds.
+pub fn holding<X: Drop>(kind: ScriptKind, holds: bool, part: Result<X, Halt>) -> Result<X, Halt>
+    ensures read { (said : Said X) → Tells part said → Tells result (holding kind holds said) }
+    ensures same { IfOk result (λ x. part ≡ Ok x) }
+{
+    if holds {
+        return part;
+    }
+    match part {
+        Ok(_) => Err(Halt::Fault(kind)),
+        Err(halt) => Err(beside(kind, halt)),
+    }
+}
+
+/// Both of two parts of a line, or what stops them: where both have faults the one that is told.
+pub fn both<X: Drop, Y: Drop>(
+    part: Result<X, Halt>,
+    other: Result<Y, Halt>,
+) -> Result<(X, Y), Halt>
+    ensures read { (said : Said X) (second : Said Y) → Tells part said → Tells other second → Tells result (both said second) }
+    ensures part { IfOk result (λ parts. part ≡ Ok parts.0) }
+    ensures other { IfOk result (λ parts. other ≡ Ok parts.1) }
+{
+    match part {
+        Ok(x) => Ok((x, other?)),
+        Err(Halt::Fault(kind)) => match other {
+            Ok(_) => Err(Halt::Fault(kind)),
+            Err(halt) => Err(beside(kind, halt)),
+        },
+        Err(Halt::Memory) => Err(Halt::Memory),
     }
 }

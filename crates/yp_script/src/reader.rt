@@ -1,10 +1,10 @@
 //! What the lines of a script say so far.
-ghost use Rattle.std.specs.Prelude.{◌≡◌, ◌≤◌};
+ghost use Rattle.std.specs.Prelude.{◌≡◌};
 ghost use Rattle.std.specs.Option.{ForSome};
 ghost use Rattle.yp_time.specs.Instants.{IsStart};
 ghost use Rattle.yp_script.specs.Script.{complete_start};
 
-use crate::command::{established_by, lane_command, read_command};
+use crate::command::{lane_command, read_command};
 use crate::cursor::Line;
 use crate::fault::{ScriptFault, ScriptKind};
 use crate::form::{Form, Request, line_form};
@@ -34,13 +34,10 @@ pub struct Reader {
     pub parts: Parts,
     pub start: Option<Start>,
     pub receivers: Receivers,
-    /// how many subscriptions are asked for
-    pub established: u32,
     pub before: Gathered,
     pub lanes: Vec<Gathered>,
     pub after: Gathered,
     ghost in_range: { ForSome start IsStart },
-    ghost few: { established ≤ 256 },
 }
 
 impl Reader {
@@ -49,14 +46,14 @@ impl Reader {
     ghost use Rattle.yp_schema.specs.WellFormed.{IsSchema};
     ghost use Rattle.yp_schema.specs.declared.schema.SchemaNode.{SchemaNode};
     ghost use Rattle.yp_time.specs.Instants.{IsStart};
-    ghost use Rattle.yp_script.specs.Commands.{HasFewEdits, HasFew};
+    ghost use Rattle.yp_script.specs.Commands.{IsBounded, HasBounds};
     ghost use Rattle.yp_script.specs.Cursor.{seen_line};
     ghost use Rattle.yp_script.specs.Faults.{said_map};
     ghost use Rattle.yp_script.specs.Forms.{seen_form, seen_request};
     ghost use Rattle.yp_script.specs.Order.{next_stage};
     ghost use Rattle.yp_script.specs.Readers.{progress_with, schema_in, progress_in, progress_by, script_by, Adds, Takes, Goes, Steps};
     ghost use Rattle.yp_script.specs.Readings.{Gives, IsFault, Tells};
-    ghost use Rattle.yp_script.specs.Script.{Progress, no_progress, with_command, with_laned, taken, at_stage, form_taken, line_taken, established_by};
+    ghost use Rattle.yp_script.specs.Script.{Progress, no_progress, with_command, with_laned, taken, at_stage, form_taken, line_taken};
     ghost use Rattle.yp_script.specs.Values.{command_said};
     ghost use Rattle.yp_script.specs.declared.form.Form.TheVariants as forms;
 
@@ -69,7 +66,6 @@ impl Reader {
             parts: Parts::new(alloc),
             start: None,
             receivers: Receivers::new(alloc),
-            established: 0,
             before: Gathered::new(alloc),
             lanes: Vec::new(alloc),
             after: Gathered::new(alloc),
@@ -103,12 +99,10 @@ impl Reader {
 
     /// Puts a command after those before the lanes, or where these have ended after those behind them.
     fn put_command(&mut self, command: Command) -> Result<(), NoMemory>
-        requires few { HasFewEdits command }
-        requires most { established_by command self.old.established ≤ 256 }
+        requires bounds { IsBounded command }
         ensures parts { self.new.parts ≡ self.old.parts }
         ensures put { OnOk result ((nodes : List SchemaNode) → progress_with self.new nodes ≡ with_command (progress_with self.old nodes) command) }
     {
-        self.established = established_by(&command, self.established);
         match self.stage {
             Stage::After => self.after.push(command),
             _ => self.before.push(command),
@@ -118,15 +112,14 @@ impl Reader {
     /// The command that a line asks for, by the schema of the parts so far, which are compiled where they
     /// aren't yet. Where a part has a fault, the script stops with it, whatever is answered here.
     fn read_asked(&mut self, alloc: Global, request: Request<&Json>) -> Result<Command, Halt>
-        ensures said { (nodes : List SchemaNode) → schema_in self.old ≡ Ok nodes → Tells result (command_said nodes self.old.receivers self.old.established (seen_request request.entry)) }
+        ensures said { (nodes : List SchemaNode) → schema_in self.old ≡ Ok nodes → Tells result (command_said nodes self.old.start self.old.receivers (seen_request request.entry)) }
         ensures schema { schema_in self.new ≡ schema_in self.old }
         ensures same { (nodes : List SchemaNode) → progress_with self.new nodes ≡ progress_with self.old nodes }
-        ensures few { IfOk result HasFewEdits }
-        ensures most { IfOk result (λ command. established_by command self.new.established ≤ 256) }
+        ensures bounds { IfOk result IsBounded }
     {
         self.parts.compile(alloc)?;
         let schema = self.parts.compiled();
-        read_command(alloc, schema, &self.receivers, self.established, request)
+        read_command(alloc, schema, self.start, &self.receivers, request)
     }
 
     /// Takes a command outside the lanes.
@@ -159,7 +152,6 @@ impl Reader {
         let command = self.read_asked(alloc, request);
         let lane = whole(number, 1, self.lanes.len() as u64);
         let laned = lane_command(lane, command)?;
-        self.established = established_by(&laned.command, self.established);
         push_in(&mut self.lanes, laned)?;
         Ok(())
     }
@@ -251,7 +243,7 @@ impl Reader {
     /// The script that ends here; `end` is the number of the line after the last.
     pub fn finish(self, alloc: Global, end: u32) -> Result<Script, ScriptFault>
         ensures read { Gives result (script_by end self) }
-        ensures few { IfOk result HasFew }
+        ensures bounds { IfOk result HasBounds }
         ensures start { IfOk result (λ script. IsStart script.start) }
         ensures schema { IfOk result (λ script. IsSchema script.schema) }
     {

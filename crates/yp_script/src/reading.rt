@@ -2,7 +2,7 @@
 ghost use Rattle.std.specs.Prelude.{◌≡◌, ◌+◌, ◌≤◌, length, take, IfOk, OnOk};
 ghost use Rattle.yp_schema.specs.WellFormed.{IsSchema};
 ghost use Rattle.yp_time.specs.Instants.{IsStart};
-ghost use Rattle.yp_script.specs.Commands.{HasFew};
+ghost use Rattle.yp_script.specs.Commands.{HasBounds};
 ghost use Rattle.yp_script.specs.Lines.{byte_limit, line_limit, lines_from, pieces_of};
 ghost use Rattle.yp_script.specs.Readings.{Gives};
 ghost use Rattle.yp_script.specs.Script.{AreInOrder, AreReceivers, MayRun, count_commands, script_in, script_of};
@@ -19,7 +19,7 @@ use yp_nacm_text::laws::a_read_policy_is_of_its_schema;
 fn read_text(alloc: Global, text: &[u8]) -> Result<Script, ScriptFault>
     requires { length text.now ≤ byte_limit + 1 }
     ensures read { Gives result (script_of text.now) }
-    ensures few { IfOk result HasFew }
+    ensures bounds { IfOk result HasBounds }
     ensures start { IfOk result (λ script. IsStart script.start) }
     ensures schema { IfOk result (λ script. IsSchema script.schema) }
 {

@@ -2,18 +2,17 @@
 ghost use Rattle.std.specs.Prelude.{◌≡◌, ◌<◌, ◌≤◌, None, IfOk, OnOk, IfSome, length, option_map, codes};
 ghost use Rattle.serde_json.specs.View.{view};
 ghost use Rattle.yp_script.specs.Readings.{Tells};
-ghost use Rattle.yp_script.specs.Values.{is_receiver_name, is_user_name, is_new_name, receiver_number, queue_said, places_said, receiver_said};
+ghost use Rattle.yp_script.specs.Names.{receiver_number};
+ghost use Rattle.yp_script.specs.Values.{is_receiver_name, is_user_name, is_new_name, queue_said, places_said, receiver_said};
 ghost use Rattle.yp_script.specs.Words.{where_true, text_at};
 
 use crate::fault::ScriptKind;
 use crate::halt::{Halt, least};
 use crate::receivers::Receivers;
-use crate::words::{has_count, says, text_in, whole};
+use crate::words::{has_count, says, text_in, text_of, whole};
 use serde_json::Value as Json;
 use std::alloc::Global;
 use yp_base::json::member;
-use yp_base::memory::NoMemory;
-use yp_base::txt::Txt;
 use yp_journal::receiver::ReceiverInfo;
 
 /// The most receivers of a script.
@@ -92,13 +91,6 @@ fn places_of(receivers: &Receivers, json: &Json) -> Result<u64, ScriptKind>
         Ok(_) => Err(ScriptKind::Limit),
         Err(kind) => Err(least(ScriptKind::Limit, kind)),
     }
-}
-
-/// A text of its own.
-fn text_of(alloc: Global, text: &str) -> Result<Txt, NoMemory>
-    ensures { IfOk result (λ made. made ≡ text.now) }
-{
-    Ok(Txt::from_string(String::from_str(alloc, text)?))
 }
 
 /// The receiver that a line declares beside those before it.

@@ -1,6 +1,6 @@
 //! Receivers by name.
 ghost use Rattle.std.specs.Prelude.{◌≡◌, ◌++◌, ◌∷◌, [], ◌<◌, ◌≤◌, length, OnOk, OnErr, IfOk, IfSome, None, option_copied, slice_get};
-ghost use Rattle.yp_script.specs.Values.{receiver_number};
+ghost use Rattle.yp_script.specs.Names.{receiver_number};
 
 use indexmap::IndexMap;
 use std::alloc::Global;
@@ -21,7 +21,7 @@ impl Model for Receivers {
     ghost use Rattle.std.specs.String.{string_bytes};
     ghost use Rattle.indexmap.specs.IndexMap.{keys, values};
     ghost use Rattle.yp_journal.specs.declared.receiver.ReceiverInfo.{ReceiverInfo};
-    ghost use Rattle.yp_script.specs.Values.{names_of};
+    ghost use Rattle.yp_script.specs.Names.{names_of};
 
     ghost Value = { List ReceiverInfo };
 

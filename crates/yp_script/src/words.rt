@@ -1,12 +1,16 @@
 //! The members of a line's JSON.
 ghost use Rattle.std.specs.Prelude.{◌≡◌, ◌≤◌, option_map, is_some, IfOk};
+ghost use Rattle.serde_json.specs.Find.{as_str};
 ghost use Rattle.serde_json.specs.View.{view, members_view};
 ghost use Rattle.serde_json.specs.Events.{members_len};
-ghost use Rattle.yp_script.specs.Words.{seen_member, first_member, sole_member, has_count, text_at, says, has, whole_said, has_terms, has_no_terms, is_yes};
+ghost use Rattle.yp_script.specs.Words.{seen_member, first_member, sole_member, has_count, text_at, says, has, is_text, whole_said, has_terms, is_yes};
 
 use crate::fault::ScriptKind;
 use serde_json::{Map, Value as Json};
+use std::alloc::Global;
 use yp_base::json::member;
+use yp_base::memory::NoMemory;
+use yp_base::txt::Txt;
 
 /// How many members an object has.
 fn count(members: &Map<String, Json>) -> usize
@@ -61,6 +65,23 @@ pub fn text_in<'a>(json: &'a Json, name: &str) -> Option<&'a str>
     }
 }
 
+/// Whether it is this text.
+pub fn is_text(json: &Json, word: &str) -> bool
+    ensures { result ≡ is_text (as_str (view json.now)) word.now }
+{
+    match json.as_str() {
+        Some(text) => text == word,
+        None => false,
+    }
+}
+
+/// A text of its own.
+pub fn text_of(alloc: Global, text: &str) -> Result<Txt, NoMemory>
+    ensures { IfOk result (λ made. made ≡ text.now) }
+{
+    Ok(Txt::from_string(String::from_str(alloc, text)?))
+}
+
 /// Whether a member is this text.
 pub fn says(json: &Json, name: &str, word: &str) -> bool
     ensures { result ≡ says name.now word.now (view json.now) }
@@ -111,16 +132,6 @@ pub fn has_terms(json: Option<&Json>) -> bool
 {
     match json {
         Some(Json::Object(terms)) => count(terms) != 0,
-        _ => false,
-    }
-}
-
-/// Whether a subscription to changes is without terms for them.
-pub fn has_no_terms(json: Option<&Json>) -> bool
-    ensures { result ≡ has_no_terms (option_map (λ terms. view terms.now) json.entry) }
-{
-    match json {
-        Some(Json::Object(terms)) => count(terms) == 0,
         _ => false,
     }
 }

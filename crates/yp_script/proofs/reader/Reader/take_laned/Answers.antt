@@ -24,7 +24,7 @@ returns-in_err-laned c =
     (stops_laned old mid same place request c.in_err-laned.field-0.0
     (λ (nodes : List SchemaNode) known.
     subst (λ (said : Said Laned). Halts c.in_err-laned.field-0.0 said) (sym (laned_read old mid same c.len.result c.whole-lane.result place request nodes many c.whole-lane.ensures.read))
-    (c.in_err-laned.ensures.read (command_said nodes old.receivers old.established request) (c.read_asked-command.ensures.said nodes known))))
+    (c.in_err-laned.ensures.read (command_said nodes old.start old.receivers request) (c.read_asked-command.ensures.said nodes known))))
 
 pub returns : goal.returns
 returns c =
@@ -37,5 +37,5 @@ returns c =
     added_laned old mid _ same place request c.in_ok-laned.laned
     (λ (nodes : List SchemaNode) known.
     laned_read old mid same c.len.result c.whole-lane.result place request nodes many c.whole-lane.ensures.read
-    ∙ c.in_ok-laned.ensures.read (command_said nodes old.receivers old.established request) (c.read_asked-command.ensures.said nodes known)) refl
-    (λ (nodes : List SchemaNode). λ i. record (progress_with mid nodes) { established = c.established_by-self.ensures i; lanes = c.in_ok-push_in.ensures i })
+    ∙ c.in_ok-laned.ensures.read (command_said nodes old.start old.receivers request) (c.read_asked-command.ensures.said nodes known)) refl
+    (λ (nodes : List SchemaNode). λ i. record (progress_with mid nodes) { lanes = c.in_ok-push_in.ensures i })

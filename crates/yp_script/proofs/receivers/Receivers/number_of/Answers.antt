@@ -2,7 +2,7 @@ use Rattle.std.proofs.Common.{ap, ◌∙◌, List}
 use Rattle.std.specs.String.{string_bytes}
 use Rattle.yp_base.specs.Types.{same_text}
 use Rattle.yp_journal.specs.declared.receiver.ReceiverInfo.{ReceiverInfo}
-use Rattle.yp_script.specs.Values.{receiver_number}
+use Rattle.yp_script.specs.Names.{receiver_number}
 use Rattle.yp_script.proofs.NameLaws.{place_of_key}
 use Rattle.yp_script.proofs.receivers.Receivers.number_of.Goals as goal
 

@@ -5,7 +5,7 @@ use Rattle.std.specs.List.{position}
 use Rattle.indexmap.proofs.CallerLemmas.{insert_entry-new}
 use Rattle.yp_base.specs.Types.{same_text}
 use Rattle.yp_journal.specs.declared.receiver.ReceiverInfo.{ReceiverInfo}
-use Rattle.yp_script.specs.Values.{receiver_number, names_of}
+use Rattle.yp_script.specs.Names.{receiver_number, names_of}
 use Rattle.yp_script.proofs.NameLaws.{no_key, names_more, values_more}
 use Rattle.yp_script.proofs.receivers.Receivers.push.Goals as goal
 
