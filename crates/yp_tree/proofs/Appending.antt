@@ -20,11 +20,11 @@ past_all x [] row past less = (less, tt)
 past_all x (y ∷ rows) row past less = (past.0, past_all x rows row past.1 less)
 
 -- a path that the last of rows in order is before is past all of them
-before_last : (x : Row) (rows : List Row) (row : Row) → AreInOrder (x ∷ rows) → is_past row.path (x ∷ rows) ≡ true → path_cmp x.path row.path ≡ Less
+pub before_last : (x : Row) (rows : List Row) (row : Row) → AreInOrder (x ∷ rows) → is_past row.path (x ∷ rows) ≡ true → path_cmp x.path row.path ≡ Less
 before_last x [] row order past = less_told (path_cmp x.path row.path) past
 before_last x (y ∷ rows) row order past = paths_total.trans x.path y.path row.path (first_order x (y ∷ rows) order).0 (before_last y rows row (rest_order x (y ∷ rows) order) past)
 
-past_rest : (x : Row) (rows : List Row) (path : List Seg) → is_past path (x ∷ rows) ≡ true → is_past path rows ≡ true
+pub past_rest : (x : Row) (rows : List Row) (path : List Seg) → is_past path (x ∷ rows) ≡ true → is_past path rows ≡ true
 past_rest x [] path past = refl
 past_rest x (y ∷ rows) path past = past
 

@@ -8,7 +8,7 @@
 //! `of_rows` makes one of many rows, and `into_rows` gives its rows away. What makes a tree, changes it,
 //! gives it away or copies it, and `len`, count none: visits bound what is read for an update, and not what
 //! a patch costs. A `Rising` has rows while they are put, and appends those that come in the order of their
-//! paths.
+//! paths; what else is asked of it is found by path.
 #![tactic(auto)]
 
 pub mod rising;

@@ -1,16 +1,19 @@
 //! Rows while they are put, mostly in the order of their paths.
-ghost use Rattle.std.specs.Prelude.{◌≡◌, [], true, OnOk, IfOk};
-ghost use Rattle.yp_base.specs.Rows.{AreInOrder, put_row, value_at};
+ghost use Rattle.std.specs.Prelude.{◌≡◌, [], true, false, is_some, length, OnOk, OnErr, IfOk};
+ghost use Rattle.yp_base.specs.Rows.{AreInOrder, has_within, put_row, rows_without, value_at};
 ghost use Rattle.yp_tree.specs.Risen.{is_past, kept_rows};
 
 use crate::tree::Tree;
 use std::alloc::Global;
+use std::cmp::Ordering;
 use std::marker::Model;
 use std::mem::replace;
+use std::sync::ledger::Ledger;
 use yp_base::memory::NoMemory;
 use yp_base::path::Path;
 use yp_base::row::{Row, Rows, Value};
 use yp_base::series::Series;
+use yp_base::steps::Steps;
 
 /// How rows are kept.
 #[derive(Drop)]
@@ -51,6 +54,25 @@ fn is_past(path: &Path, rows: &[Row]) -> bool
     }
 }
 
+/// Whether one of rows in order has this path. Half of them are left out at each step.
+fn has_path(rows: &[Row], path: &Path) -> bool
+    requires { AreInOrder rows.now }
+    ensures { result ≡ is_some (value_at path.now rows.now) }
+{
+    let mut rest = rows;
+    loop {
+        let (before, after) = rest.split_at(rest.len() / 2);
+        match after.split_first() {
+            Some((middle, later)) => match path.cmp(&middle.path) {
+                Ordering::Equal => return true,
+                Ordering::Less => rest = before,
+                Ordering::Greater => rest = later,
+            },
+            None => return false,
+        }
+    }
+}
+
 impl Kept {
     /// The rows as a tree.
     fn into_tree(self, alloc: Global) -> Result<Tree, NoMemory>
@@ -88,19 +110,65 @@ impl Rising {
         }
     }
 
-    /// Adds the row, or gives its value to the row that has its path.
+    /// Adds the row, or gives its value to the row that has its path. After `NoMemory` the rows are as
+    /// they were.
     pub fn put(&mut self, alloc: Global, row: Row) -> Result<(), NoMemory>
-        ensures { OnOk result (self.new ≡ put_row row self.old) }
+        ensures rows { OnOk result (self.new ≡ put_row row self.old) }
+        ensures unchanged { OnErr result (self.new ≡ self.old) }
     {
         self.replace(alloc, row)?;
         Ok(())
     }
 
+    /// How many rows there are. They are in order, with no path twice.
+    pub fn len(&self) -> usize
+        ensures count { result ≡ length self.now }
+        ensures order { AreInOrder self.now }
+    {
+        match &self.kept {
+            Kept::Appended(rows) => rows.len(),
+            Kept::Sorted(tree) => tree.len(),
+        }
+    }
+
+    /// Whether there is a row of this path.
+    pub fn has(&self, path: &Path) -> bool
+        ensures { result ≡ is_some (value_at path.now self.now) }
+    {
+        match &self.kept {
+            Kept::Appended(rows) => {
+                !is_past(path, rows.as_slice()) && has_path(rows.as_slice(), path)
+            }
+            Kept::Sorted(tree) => tree.has(path),
+        }
+    }
+
+    /// Whether there are rows at or below a path. The rows stay as they are.
+    pub fn has_within<L: Ledger>(
+        &mut self,
+        alloc: Global,
+        under: &Path,
+        steps: &mut Steps<L>,
+    ) -> Result<bool, NoMemory>
+        ensures found { IfOk result (λ found. found ≡ has_within under.now self.old) }
+        ensures same { self.new ≡ self.old }
+    {
+        if self.is_before(under) {
+            return Ok(false);
+        }
+        let tree = self.take_tree(alloc)?;
+        let found = tree.first_within(under, steps).is_some();
+        self.keep(tree);
+        Ok(found)
+    }
+
     /// Adds the row, or gives its value to the row that has its path. It gives back the value that this
-    /// row had before, and `None` exactly where there was no such row. After `NoMemory` rows may be lost.
+    /// row had before, and `None` exactly where there was no such row. After `NoMemory` the rows are as
+    /// they were.
     pub fn replace(&mut self, alloc: Global, row: Row) -> Result<Option<Value>, NoMemory>
         ensures rows { OnOk result (self.new ≡ put_row row self.old) }
         ensures before { IfOk result (λ before. before ≡ value_at row.path self.old) }
+        ensures unchanged { OnErr result (self.new ≡ self.old) }
     {
         if let Kept::Appended(rows) = &mut self.kept {
             if is_past(&row.path, rows.as_slice()) {
@@ -108,19 +176,69 @@ impl Rising {
                 return Ok(None);
             }
         }
-        self.replace_found(alloc, row)
+        let mut tree = self.take_tree(alloc)?;
+        let before = tree.replace(alloc, row);
+        self.keep(tree);
+        before
     }
 
-    // The same, with the rows in a tree.
-    fn replace_found(&mut self, alloc: Global, row: Row) -> Result<Option<Value>, NoMemory>
-        ensures rows { OnOk result (self.new ≡ put_row row self.old) }
-        ensures before { IfOk result (λ before. before ≡ value_at row.path self.old) }
+    /// Takes out the rows at or below a path. After `NoMemory` the rows are as they were.
+    pub fn cut(&mut self, alloc: Global, path: &Path) -> Result<(), NoMemory>
+        ensures rest { OnOk result (self.new ≡ rows_without path.now self.old) }
+        ensures unchanged { OnErr result (self.new ≡ self.old) }
     {
-        let kept = replace(&mut self.kept, Kept::Appended(Vec::new(alloc)));
-        let mut tree = kept.into_tree(alloc)?;
-        let before = tree.replace(alloc, row)?;
+        if self.is_before(path) {
+            return Ok(());
+        }
+        let mut tree = self.take_tree(alloc)?;
+        let cut = tree.cut(alloc, path);
+        self.keep(tree);
+        cut?;
+        Ok(())
+    }
+
+    // Whether all rows are appended ones that come before this path.
+    fn is_before(&self, path: &Path) -> bool
+        ensures none { result ≡ true → has_within path.now self.now ≡ false }
+        ensures all { result ≡ true → rows_without path.now self.now ≡ self.now }
+    {
+        match &self.kept {
+            Kept::Appended(rows) => is_past(path, rows.as_slice()),
+            Kept::Sorted(_) => false,
+        }
+    }
+
+    // The rows as a tree, which is to be given back. After `NoMemory` they are as they were.
+    fn take_tree(&mut self, alloc: Global) -> Result<Tree, NoMemory>
+        ensures rows { IfOk result (λ tree. tree ≡ self.old) }
+        ensures unchanged { OnErr result (self.new ≡ self.old) }
+    {
+        match replace(&mut self.kept, Kept::Appended(Vec::new(alloc))) {
+            Kept::Sorted(tree) => Ok(tree),
+            Kept::Appended(rows) => {
+                let tree = Tree::of_slice(alloc, rows.as_slice());
+                if tree.is_err() {
+                    self.kept = Kept::Appended(rows);
+                }
+                tree
+            }
+        }
+    }
+
+    // Has the rows of a tree from now on.
+    fn keep(&mut self, tree: Tree)
+        ensures { self.new ≡ tree }
+    {
+        let _rows = tree.len();
         self.kept = Kept::Sorted(tree);
-        Ok(before)
+    }
+
+    /// The rows as a tree, given away.
+    pub fn into_tree(self, alloc: Global) -> Result<Tree, NoMemory>
+        ensures { IfOk result (λ tree. tree ≡ self) }
+    {
+        let Rising { kept } = self;
+        kept.into_tree(alloc)
     }
 
     /// The rows, in order, given away.

@@ -260,6 +260,13 @@ impl Tree {
     pub fn of_rows(alloc: Global, rows: &Rows) -> Result<Tree, NoMemory>
         ensures { IfOk result (λ tree. tree ≡ put_rows rows.now []) }
     {
+        Tree::of_slice(alloc, rows.items())
+    }
+
+    // The same of a slice of rows.
+    pub(crate) fn of_slice(alloc: Global, rows: &[Row]) -> Result<Tree, NoMemory>
+        ensures { IfOk result (λ tree. tree ≡ put_rows rows.now []) }
+    {
         let mut entries = Vec::with_capacity(alloc, rows.len())?;
         add_copies(alloc, rows, &mut entries)?;
         Tree::of_entries(alloc, entries)
@@ -280,7 +287,7 @@ impl Tree {
     {
         let _count = self.len();
         let mut entries = self.others(alloc, under)?;
-        add_copies(alloc, rows, &mut entries)?;
+        add_copies(alloc, rows.items(), &mut entries)?;
         Tree::of_entries(alloc, entries)
     }
 
@@ -370,7 +377,7 @@ impl Tree {
     }
 
     // Whether there is a row of this path.
-    fn has(&self, path: &Path) -> bool
+    pub(crate) fn has(&self, path: &Path) -> bool
         ensures { result ≡ is_some (value_at path.now self.now) }
     {
         let found = self.found(path);
@@ -447,10 +454,10 @@ impl Duplicate for Tree {
 }
 
 // Adds copies of rows to entries.
-fn add_copies(alloc: Global, rows: &Rows, entries: &mut Vec<(Path, Value)>) -> Result<(), NoMemory>
+fn add_copies(alloc: Global, rows: &[Row], entries: &mut Vec<(Path, Value)>) -> Result<(), NoMemory>
     ensures { OnOk result (rows_of entries.new.items ≡ rows_of entries.old.items ++ rows.now) }
 {
-    for row in rows.items() {
+    for row in rows {
         entries.push((row.path.copy(alloc)?, row.value.copy(alloc)?))?;
     }
     Ok(())

@@ -10,5 +10,5 @@ returns c =
     let under = c.args.under.now in
     let old = c.args.self.now in
     let all : rows_of c.add_copies.new.entries.items ≡ rows_without under old ++ c.args.rows.now =
-    c.in_ok-add_copies.ensures ∙ ap (λ (rows : List Row). rows ++ c.args.rows.now) c.in_ok-entries.ensures in
+    c.in_ok-add_copies.ensures ∙ ap (λ (rows : List Row). rows_of c.in_ok-entries.entries.items ++ rows) c.items.ensures ∙ ap (λ (rows : List Row). rows ++ c.args.rows.now) c.in_ok-entries.ensures in
     IfOk-weaker c.of_entries.result _ _ (λ tree is. is ∙ ap (λ (rows : List Row). put_rows rows []) all ∙ puts_behind under old c.args.rows.now c.len-count.ensures.order) c.of_entries.ensures
