@@ -1,5 +1,5 @@
 //! Rows while they are put, mostly in the order of their paths.
-ghost use Rattle.std.specs.Prelude.{◌≡◌, [], true, false, is_some, length, OnOk, OnErr, IfOk};
+ghost use Rattle.std.specs.Prelude.{◌≡◌, ◌<◌, ◌^◌, [], true, false, is_some, length, OnOk, OnErr, IfOk};
 ghost use Rattle.yp_base.specs.Rows.{AreInOrder, has_within, put_row, rows_without, value_at};
 ghost use Rattle.yp_tree.specs.Risen.{is_past, kept_rows};
 
@@ -123,6 +123,7 @@ impl Rising {
     /// How many rows there are. They are in order, with no path twice.
     pub fn len(&self) -> usize
         ensures count { result ≡ length self.now }
+        ensures small { result < 2 ^ 63 }
         ensures order { AreInOrder self.now }
     {
         match &self.kept {
