@@ -2,7 +2,6 @@
 use Rattle.std.proofs.Common.{◌≡◌, ℕ, ◌≤◌, ◌-◌, suc, List, [], ◌∷◌, length, refl, sym, ap, ◌∙◌, cond, Bool, true, false, not, ◌||◌, Option, Some, None, Bor, arith}
 use Rattle.std.specs.Prelude.{filter, is_some, option_copied}
 use Rattle.std.specs.Ordering.{is_eq}
-use Rattle.std.proofs.lemmas.Bool.{or_right}
 use Rattle.yp_base.specs.declared.path.Seg.{Seg}
 use Rattle.yp_base.specs.declared.row.Value.{Value}
 use Rattle.yp_base.specs.declared.row.Row.{Row}
@@ -10,7 +9,7 @@ use Rattle.yp_base.specs.Order.{path_cmp}
 use Rattle.yp_base.specs.Rows.{value_at, has_within, AreInOrder}
 use Rattle.yp_base.specs.RowLaws.{some_keep_order}
 use Rattle.yp_tree.specs.Listed.{without_row}
-use Rattle.yp_edit.specs.Bases.{Touched, is_listed, left, untouched, IsBase, Touches, TouchesWithin}
+use Rattle.yp_edit.specs.Bases.{Touched, is_listed, left, untouched, IsBase, Touches, Loses, TouchesWithin}
 use Rattle.yp_base.specs.PathLaws.{are_one, tie_turned}
 use Rattle.yp_tree.specs.Alike.{same_rows}
 use Rattle.yp_edit.proofs.Taking.{without_row_order, value_at_without_row, one_taken, none_taken, still_none, all_left}
@@ -51,6 +50,13 @@ left_few paths (row ∷ rows) =
 pub none_listed : (rows : List Row) → left [] rows ≡ rows
 none_listed [] = refl
 none_listed (row ∷ rows) = ap (λ (more : List Row). row ∷ more) (none_listed rows)
+
+abbrev no_value : Option Value
+no_value = None
+
+pub none_either : (b : Bool) → cond b no_value no_value ≡ no_value
+none_either true = refl
+none_either false = refl
 
 one_more : (here listed : Bool) (value : Option Value) → cond (not (here || listed)) value None ≡ cond here None (cond (not listed) value None)
 one_more true listed value = refl
@@ -123,8 +129,25 @@ more_bare path rows paths bare more count base grown none = record {
 pub touches_left : (path : List Seg) (old new : Touched) → AreInOrder old.rows → Touches path old new → untouched new ≡ without_row path (untouched old)
 touches_left path old new order touches = ap (left new.paths) touches.rows ∙ touched_left path old.paths new.paths old.rows order touches.paths
 
-pub still_listed : (path : List Seg) (old new : Touched) → Touches path old new → (q : List Seg) → is_listed q old.paths ≡ true → is_listed q new.paths ≡ true
-still_listed path old new touches q h = touches.paths q ∙ or_right (is_eq (path_cmp path q)) (is_listed q old.paths) h
+-- what isn't left isn't left once more is touched
+pub still_gone : (path : List Seg) (old new : Touched) → Touches path old new → (q : List Seg) → value_at q (untouched old) ≡ None → value_at q (untouched new) ≡ None
+still_gone path old new touches q none =
+    value_at_left q new.paths new.rows
+    ∙ (λ i. cond (not (touches.paths q i)) (value_at q (touches.rows i)) None)
+    ∙ one_more (is_eq (path_cmp path q)) (is_listed q old.paths) (value_at q old.rows)
+    ∙ ap (cond (is_eq (path_cmp path q)) None) (sym (value_at_left q old.paths old.rows) ∙ none)
+    ∙ none_either (is_eq (path_cmp path q))
+
+-- where a path is touched, its row is
+pub loses_one : (path : List Seg) (old new : Touched) → AreInOrder old.rows → Touches path old new → Loses path old new
+loses_one path old new order touches = record { rows = touches.rows; others = touches_left path old new order touches }
+
+-- where it has no row that isn't, nothing is touched
+pub loses_none : (path : List Seg) (base : Touched) → value_at path (untouched base) ≡ None → Loses path base base
+loses_none path base none = record { rows = refl; others = sym (none_taken path (untouched base) (ap is_some none)) }
+
+pub none_at_left : (path : List Seg) (paths : List (List Seg)) (rows : List Row) → value_at path rows ≡ None → value_at path (left paths rows) ≡ None
+none_at_left path paths rows none = value_at_left path paths rows ∙ ap (λ (v : Option Value). cond (not (is_listed path paths)) v None) none ∙ none_either (not (is_listed path paths))
 
 -- below a bare path nothing is left to touch
 pub none_to_touch : (target : List Seg) (rows : List Row) (paths bare : List (List Seg)) (count : ℕ) → IsBase rows paths bare count → is_listed target bare ≡ true → TouchesWithin target (record { rows = rows; paths = paths }) (record { rows = rows; paths = paths })

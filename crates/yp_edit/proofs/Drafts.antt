@@ -6,7 +6,6 @@ use Rattle.std.specs.Ordering.{is_eq, match_ordering}
 use Rattle.std.specs.List.{AllByRecursion}
 use Rattle.std.specs.List.Sorted.{IsStrictlySortedBy}
 use Rattle.std.specs.declared.cmp.Ordering.TheVariants.{Less, Equal, Greater}
-use Rattle.std.proofs.lemmas.Bool.{or_parts}
 use Rattle.std.proofs.Math.Bool.{or_self_left}
 use Rattle.yp_base.specs.declared.path.Seg.{Seg}
 use Rattle.yp_base.specs.declared.row.Value.{Value}
@@ -17,11 +16,11 @@ use Rattle.yp_base.specs.Exact.{paths_exact}
 use Rattle.yp_base.specs.PathLaws.{or_turned, tie_turned, ties_itself, IsBefore}
 use Rattle.yp_base.specs.RowLaws.{value_at_put, value_at_puts, value_at_without, put_keeps_order, puts_order, picked-puts}
 use Rattle.yp_tree.specs.Listed.{without_row}
-use Rattle.yp_edit.specs.Bases.{Touched, is_listed, left, untouched, Touches, StaysTouched, TouchesWithin}
+use Rattle.yp_edit.specs.Bases.{Touched, left, untouched, Loses, StaysGone, TouchesWithin}
 use Rattle.yp_edit.specs.Drafts.{drafted, IsDraft}
 use Rattle.yp_tree.specs.Alike.{same_rows}
 use Rattle.yp_edit.proofs.Taking.{value_at_without_row, without_row_order}
-use Rattle.yp_edit.proofs.Bases.{left_order, touched_gone, touches_left}
+use Rattle.yp_edit.proofs.Bases.{left_order, none_either}
 
 some_either : (there other : Option Value) → is_some (option_or there other) ≡ (is_some there || is_some other)
 some_either None other = refl
@@ -134,46 +133,49 @@ each_there (row ∷ rows) order =
 
 apart_from : (base : Touched) (put some : List Row) → IsDraft base put → AllByRecursion (λ (row : Row). is_some (value_at row.path put) ≡ true) some → AreApart some (untouched base)
 apart_from base put [] draft each = tt
-apart_from base put (row ∷ some) draft each = (
-  touched_gone row.path base.paths base.rows (elim (is_listed row.path base.paths) as (λ b. is_listed row.path base.paths ≡ b → b ≡ true) [
-    | true ↦ λ listed. refl
-    | false ↦ λ unlisted. absurd (true≢false (sym each.0 ∙ draft.covered row.path unlisted))
-  ] refl),
-  apart_from base put some draft each.1,
-)
+apart_from base put (row ∷ some) draft each = (draft.apart row.path each.0, apart_from base put some draft each.1)
 
 pub length_drafted : (base : Touched) (put : List Row) → AreInOrder put → IsDraft base put → length put + length (untouched base) ≡ length (drafted base put).after
 length_drafted base put order draft = sym (length_puts put (untouched base) order (apart_from base put put draft (each_there put order)))
 
-pub put_draft : (row : Row) (old new : Touched) (put : List Row) → IsDraft old put → Touches row.path old new → IsDraft new (put_row row put)
-put_draft row old new put draft touches = record {
-  covered = λ q h.
-      let parts = or_parts (is_eq (path_cmp row.path q)) (is_listed q old.paths) (sym (touches.paths q) ∙ h) in
-      ap is_some (value_at_put q row put ∙ ap (λ b. cond b (Some row.value) (value_at q put)) (tie_turned q row.path ∙ parts.0)) ∙ draft.covered q parts.1;
+-- a draft of which one row fewer is left
+pub lost_draft : (path : List Seg) (old new : Touched) (put : List Row) → AreInOrder old.rows → IsDraft old put → Loses path old new → IsDraft new put
+lost_draft path old new put order draft loses = record {
+  apart = λ q h.
+      ap (value_at q) loses.others
+      ∙ value_at_without_row q path (untouched old) (left_order old.paths old.rows order)
+      ∙ ap (cond (is_eq (path_cmp q path)) None) (draft.apart q h)
+      ∙ none_either (is_eq (path_cmp q path));
 }
 
-pub put_drafted : (row : Row) (old new : Touched) (put : List Row) → AreInOrder put → AreInOrder old.rows → Touches row.path old new → drafted new (put_row row put) ≡ record (drafted old put) { after = put_row row (drafted old put).after }
-put_drafted row old new put put_order order touches =
-    let after = ap (put_rows (put_row row put)) (touches_left row.path old new order touches) ∙ put_more row put (untouched old) put_order (left_order old.paths old.rows order) in
-    λ i. record { before = touches.rows i; after = after i }
+pub put_draft : (row : Row) (old new : Touched) (put : List Row) → AreInOrder old.rows → IsDraft old put → Loses row.path old new → IsDraft new (put_row row put)
+put_draft row old new put order draft loses = record {
+  apart = λ q h.
+      ap (value_at q) loses.others
+      ∙ value_at_without_row q row.path (untouched old) (left_order old.paths old.rows order)
+      ∙ elim (is_eq (path_cmp q row.path)) as (λ b. is_some (cond b (Some row.value) (value_at q put)) ≡ true → cond b None (value_at q (untouched old)) ≡ None) [
+        | true ↦ λ k. refl
+        | false ↦ λ k. draft.apart q k
+      ] (ap is_some (sym (value_at_put q row put)) ∙ h);
+}
+
+pub put_drafted : (row : Row) (old new : Touched) (put : List Row) → AreInOrder put → AreInOrder old.rows → Loses row.path old new → drafted new (put_row row put) ≡ record (drafted old put) { after = put_row row (drafted old put).after }
+put_drafted row old new put put_order order loses =
+    let after = ap (put_rows (put_row row put)) loses.others ∙ put_more row put (untouched old) put_order (left_order old.paths old.rows order) in
+    λ i. record { before = loses.rows i; after = after i }
 
 -- a draft of which more is touched
-pub more_touched : (old new : Touched) (put : List Row) → IsDraft old put → StaysTouched old new → IsDraft new put
-more_touched old new put draft stay = record {
-  covered = λ q h. draft.covered q (elim (is_listed q old.paths) as (λ b. is_listed q old.paths ≡ b → b ≡ false) [
-    | true ↦ λ listed. absurd (true≢false (sym (stay q listed) ∙ h))
-    | false ↦ λ listed. refl
-  ] refl);
-}
+pub more_touched : (old new : Touched) (put : List Row) → IsDraft old put → StaysGone old new → IsDraft new put
+more_touched old new put draft stay = record { apart = λ q h. stay q (draft.apart q h) }
 
 pub cut_draft : (target : List Seg) (base : Touched) (put : List Row) → IsDraft base put → IsDraft base (rows_without target put)
 cut_draft target base put draft = record {
-  covered = λ q h. ap is_some (value_at_without q target put) ∙ fewer (is_within target q) (value_at q put) (draft.covered q h);
+  apart = λ q h. draft.apart q (kept (is_within target q) (value_at q put) (ap is_some (sym (value_at_without q target put)) ∙ h));
 }
   where
-    fewer : (b : Bool) (value : Option Value) → is_some value ≡ false → is_some (cond b None value) ≡ false
-    fewer true value h = refl
-    fewer false value h = h
+    kept : (b : Bool) (value : Option Value) → is_some (cond b None value) ≡ true → is_some value ≡ true
+    kept true value h = absurd (true≢false (sym h))
+    kept false value h = h
 
 pub cut_drafted : (target : List Seg) (old new : Touched) (put : List Row) → AreInOrder old.rows → TouchesWithin target old new → drafted new (rows_without target put) ≡ record (drafted old put) { after = rows_without target (drafted old put).after }
 cut_drafted target old new put order touches =

@@ -8,6 +8,7 @@ pub mod Ends
 pub mod Items
 pub mod Keeping
 pub mod Refusals
+pub mod Splitting
 pub mod Taking
 pub mod Touching
 pub mod Trials

@@ -1,67 +1,85 @@
 -- Rows of a tree that are touched one after another.
-use Rattle.std.proofs.Common.{◌≡◌, ◌≤◌, ℕ, List, [], ◌∷◌, length, map, refl, sym, ap, subst, ◌∙◌, cond, Bool, true, false, not, ◌&&◌, ◌||◌, Option, Some, None, Bor, slice_get, arith}
-use Rattle.std.specs.Prelude.{filter, is_some, option_copied, option_map}
-use Rattle.std.specs.BTreeMap.{insert_entry, is_at}
-use Rattle.std.specs.Map.{keys_of, lookup}
+use Rattle.std.proofs.Common.{◌≡◌, ◌≤◌, ◌-◌, ℕ, List, [], ◌∷◌, length, map, refl, sym, ap, subst, ◌∙◌, cond, Bool, true, false, true≢false, not, ◌&&◌, ◌||◌, Option, Some, None, Bor, slice_get, arith}
+use Rattle.std.specs.Prelude.{filter, is_some, option_map}
 use Rattle.std.specs.List.{AllByRecursion}
 use Rattle.std.specs.List.Sorted.{IsStrictlySortedBy}
-use Rattle.std.specs.Ordering.{is_eq, is_lt, match_ordering}
-use Rattle.std.specs.declared.cmp.Ordering.TheVariants.{Less, Equal, Greater}
+use Rattle.std.specs.Ordering.{is_eq, is_lt}
 use Rattle.std.proofs.lemmas.Bool.{or_parts}
 use Rattle.std.proofs.Math.Bool.{or-true, or-false, and-false}
 use Rattle.yp_base.specs.declared.path.Seg.{Seg}
 use Rattle.yp_base.specs.declared.row.Value.{Value}
 use Rattle.yp_base.specs.declared.row.Row.{Row}
 use Rattle.yp_base.specs.Order.{path_cmp, is_within}
-use Rattle.yp_base.specs.Rows.{path_of, value_at, next_row, has_within, rows_within, rows_without, AreInOrder}
-use Rattle.yp_base.specs.Exact.{paths_exact}
-use Rattle.yp_base.specs.RowLaws.{value_at_without, without_keeps_order}
-use Rattle.yp_tree.specs.Listed.{row_of}
-use Rattle.yp_edit.specs.Bases.{Touched, KeepsValues, is_listed, left, untouched, Touches, StaysTouched, TouchesWithin}
+use Rattle.yp_base.specs.Rows.{path_of, value_at, put_row, next_row, has_within, rows_within, rows_without, AreInOrder}
+use Rattle.yp_base.specs.RowLaws.{value_at_put, value_at_without, without_keeps_order}
+use Rattle.yp_tree.specs.Listed.{row_of, without_row}
+use Rattle.yp_edit.specs.Bases.{Touched, IsBase, IsSwept, KeepsValues, is_listed, left, Touches, StaysGone, TouchesWithin}
+use Rattle.yp_edit.specs.Drafts.{is_covered}
 use Rattle.yp_base.specs.PathLaws.{are_one, tie_turned, ties_itself, IsBefore}
 use Rattle.yp_tree.specs.Alike.{same_rows}
-use Rattle.yp_edit.proofs.Taking.{one_taken}
+use Rattle.yp_edit.proofs.Taking.{one_taken, still_none}
 use Rattle.yp_edit.proofs.Walking.{before_picked}
-use Rattle.yp_edit.proofs.Bases.{value_at_picked, value_at_left, left_order, other_there, is_some_copied, still_listed}
+use Rattle.yp_edit.proofs.Bases.{value_at_picked, value_at_left, left_order, other_there, touched_left, one_fewer, still_gone}
 
--- ---- paths with the values that are kept there
+-- ---- rows that are touched
 
--- a path is among the keys where something is kept there
-pub listed_keys : {X : Type 0} → (q : List Seg) (es : List (List Seg × X)) → is_some (lookup (is_at (path_cmp q)) es) ≡ is_listed q (keys_of es)
-listed_keys q [] = refl
-listed_keys q (e ∷ es) =
-    elim (is_eq (path_cmp q e.0)) as (λ b. is_some (cond b (Some e.1) (lookup (is_at (path_cmp q)) es)) ≡ (b || is_listed q (keys_of es))) [
+-- a path is among those of rows where a row has it
+pub listed_there : (q : List Seg) (rows : List Row) → is_listed q (map path_of rows) ≡ is_some (value_at q rows)
+listed_there q [] = refl
+listed_there q (row ∷ rows) =
+    elim (is_eq (path_cmp q row.path)) as (λ b. (b || is_listed q (map path_of rows)) ≡ is_some (cond b (Some row.value) (value_at q rows))) [
       | true ↦ refl
-      | false ↦ listed_keys q es
+      | false ↦ listed_there q rows
     ]
 
 some_or : {X : Type 0} → (b : Bool) (x : X) (other : Option X) → is_some (cond b (Some x) other) ≡ (b || is_some other)
 some_or true x other = refl
 some_or false x other = refl
 
--- with something at one more path, that path is one more
-pub one_more_key : {X : Type 0} → (path : List Seg) (x : X) (old new : List (List Seg × X)) → ((q : List Seg) → lookup (is_at (path_cmp q)) new ≡ cond (is_eq (path_cmp path q)) (Some x) (lookup (is_at (path_cmp q)) old)) → (q : List Seg)
-    → is_listed q (keys_of new) ≡ (is_eq (path_cmp path q) || is_listed q (keys_of old))
-one_more_key path x old new updates q =
-    sym (listed_keys q new) ∙ ap is_some (updates q) ∙ some_or (is_eq (path_cmp path q)) x (lookup (is_at (path_cmp q)) old) ∙ ap (λ b. is_eq (path_cmp path q) || b) (listed_keys q old)
+-- with one more row, its path is one more
+pub one_more_path : (row : Row) (taken : List Row) (q : List Seg) → is_listed q (map path_of (put_row row taken)) ≡ (is_eq (path_cmp row.path q) || is_listed q (map path_of taken))
+one_more_path row taken q =
+    listed_there q (put_row row taken)
+    ∙ ap is_some (value_at_put q row taken)
+    ∙ some_or (is_eq (path_cmp q row.path)) row.value (value_at q taken)
+    ∙ (λ i. tie_turned q row.path i || sym (listed_there q taken) i)
 
-pub one_more_value : (rows : List Row) (path : List Seg) (old : Option (Bor Value)) (es : List (List Seg × Option (Bor Value))) → option_copied old ≡ value_at path rows → KeepsValues rows es → KeepsValues rows (insert_entry path_cmp es path old)
-one_more_value rows path old [] is kept = (is, tt)
-one_more_value rows path old (e ∷ es) is kept =
-    elim (path_cmp path e.0) as (λ o. path_cmp path e.0 ≡ o → KeepsValues rows (match_ordering o ((path, old) ∷ e ∷ es) ((e.0, old) ∷ es) (e ∷ insert_entry path_cmp es path old))) [
-      | Less ↦ λ h. (is, kept)
-      | Equal ↦ λ h. (is ∙ ap (λ p. value_at p rows) (paths_exact path e.0 h), kept.1)
-      | Greater ↦ λ h. (kept.0, one_more_value rows path old es is kept.1)
+one_more_value : (row : Row) (rows taken : List Row) → value_at row.path rows ≡ Some row.value → KeepsValues rows taken → KeepsValues rows (put_row row taken)
+one_more_value row rows taken there kept q h =
+    value_at_put q row taken
+    ∙ elim (is_eq (path_cmp q row.path)) as (λ b. is_eq (path_cmp q row.path) ≡ b → is_some (cond b (Some row.value) (value_at q taken)) ≡ true → cond b (Some row.value) (value_at q taken) ≡ value_at q rows) [
+      | true ↦ λ here k. sym there ∙ ap (λ p. value_at p rows) (sym (are_one q row.path here))
+      | false ↦ λ here k. kept q k
+    ] refl (ap is_some (sym (value_at_put q row taken)) ∙ h)
+
+still_swept : (swept : Option (List Seg)) (path : List Seg) (rows : List Row) → IsSwept swept rows → IsSwept swept (without_row path rows)
+still_swept None path rows none = tt
+still_swept (Some above) path rows none = still_none above path rows none
+
+none_there : (above path : List Seg) (rows : List Row) → has_within above rows ≡ false → is_within above path ≡ true → value_at path rows ≡ None
+none_there above path [] none within = refl
+none_there above path (row ∷ rows) none within =
+    let parts = or_parts (is_within above row.path) (has_within above rows) none in
+    elim (is_eq (path_cmp path row.path)) as (λ b. is_eq (path_cmp path row.path) ≡ b → cond b (Some row.value) (value_at path rows) ≡ None) [
+      | true ↦ λ here. absurd (true≢false (sym (ap (is_within above) (sym (are_one path row.path here)) ∙ within) ∙ parts.0))
+      | false ↦ λ here. none_there above path rows parts.1 within
     ] refl
 
--- whether an untouched row is there, told by the value that is kept
-pub kept_there : (path key : List Seg) (rows : List Row) (paths : List (List Seg)) (old : Option (Bor Value)) (base : Touched) → record { rows = rows; paths = paths } ≡ base → key ≡ path → is_listed path base.paths ≡ false → option_copied old ≡ value_at path base.rows
-    → is_some (value_at key (left paths rows)) ≡ is_some old
-kept_there path key rows paths old base is same unlisted kept =
-    (λ i. is_some (value_at (same i) (untouched (is i))))
-    ∙ ap is_some (other_there path base.paths base.rows unlisted)
-    ∙ ap is_some (sym kept)
-    ∙ is_some_copied old
+-- a path that is swept has no row
+pub none_swept : (swept : Option (List Seg)) (path : List Seg) (rows : List Row) → IsSwept swept rows → is_covered swept path ≡ true → value_at path rows ≡ None
+none_swept None path rows none covered = absurd (true≢false (sym covered))
+none_swept (Some above) path rows none covered = none_there above path rows none covered
+
+-- a base with one more row touched
+abbrev pub Holds : List Row → List Row → List (List Seg) → ℕ → Option (List Seg) → Type 0
+Holds rows taken bare count swept = IsBase rows (map path_of taken) bare count × KeepsValues rows taken × IsSwept swept (left (map path_of taken) rows)
+
+pub one_more_row : (row : Row) (rows taken : List Row) (bare : List (List Seg)) (count : ℕ) (swept : Option (List Seg)) → is_listed row.path (map path_of taken) ≡ false → value_at row.path rows ≡ Some row.value → Holds rows taken bare count swept → Holds rows (put_row row taken) bare (count - 1) swept
+one_more_row row rows taken bare count swept unlisted there base = (
+  one_fewer row.path rows (map path_of taken) (map path_of (put_row row taken)) bare count base.0 (one_more_path row taken) (ap is_some (other_there row.path (map path_of taken) rows unlisted ∙ there)),
+  one_more_value row rows taken there base.1,
+  subst (IsSwept swept) (sym (touched_left row.path (map path_of taken) (map path_of (put_row row taken)) rows base.0.in_order (one_more_path row taken))) (still_swept swept row.path (left (map path_of taken) rows) base.2),
+)
 
 -- where a row is there, it is counted
 pub one_counted : (path : List Seg) (rows : List Row) (count : ℕ) → count ≡ length rows → is_some (value_at path rows) ≡ true → 1 ≤ count
@@ -179,7 +197,7 @@ lent_paths (e ∷ lent) = ap (λ (paths : List (List Seg)). e.0.now ∷ paths) (
 pub record Touching (first now : Touched) (all rest : List Lent) : Type 0 where
   pub rows : now.rows ≡ first.rows
   pub there : AllByRecursion (λ e. HasValue first.rows (lent_row e)) rest
-  pub stay : StaysTouched first now
+  pub stay : StaysGone first now
   pub so_far : (q : List Seg) → (is_listed q now.paths || is_listed q (map lent_path rest)) ≡ (is_listed q first.paths || is_listed q (map lent_path all))
 
 pub none_touched : (target : List Seg) (first : Touched) (all : List Lent) → AreInOrder first.rows → map lent_row all ≡ rows_within target first.rows → Touching first first all all
@@ -199,20 +217,12 @@ pub one_touched : (first now new : Touched) (all : List Lent) (e : Lent) (rest :
 one_touched first now new all e rest touching touches = record {
   rows = touches.rows ∙ touching.rows;
   there = touching.there.1;
-  stay = λ q h. still_listed e.0.now now new touches q (touching.stay q h);
+  stay = λ q h. still_gone e.0.now now new touches q (touching.stay q h);
   so_far = λ q.
       ap (λ b. b || is_listed q (map lent_path rest)) (touches.paths q ∙ ap (λ b. b || is_listed q now.paths) (tie_turned e.0.now q))
       ∙ moved (is_eq (path_cmp q e.0.now)) (is_listed q now.paths) (is_listed q (map lent_path rest))
       ∙ touching.so_far q;
 }
-
-listed_there : (q : List Seg) (rows : List Row) → is_listed q (map path_of rows) ≡ is_some (value_at q rows)
-listed_there q [] = refl
-listed_there q (row ∷ rows) =
-    elim (is_eq (path_cmp q row.path)) as (λ b. (b || is_listed q (map path_of rows)) ≡ is_some (cond b (Some row.value) (value_at q rows))) [
-      | true ↦ refl
-      | false ↦ listed_there q rows
-    ]
 
 either_gone : (listed within : Bool) (value : Option Value) → cond (not (listed || is_some (cond within value None))) value None ≡ cond within None (cond (not listed) value None)
 either_gone true true value = refl

@@ -1,14 +1,13 @@
 -- The tree that a patch is applied to, with the paths that its edits touch.
-use Rattle.std.specs.Prelude.{◌≡◌, ℕ, List, length, Bool, true, false, not, ◌||◌, filter, Option, option_copied}
-use Rattle.std.specs.Borrow.{Bor}
-use Rattle.std.specs.List.{list_any, AllByRecursion}
+use Rattle.std.specs.Prelude.{◌≡◌, ℕ, List, length, map, Bool, true, false, not, ◌||◌, filter, Option, Some, None, is_some}
+use Rattle.std.specs.List.{list_any}
 use Rattle.std.specs.Ordering.{is_eq}
 use Rattle.std.specs.BTreeMap.{is_at}
 use Rattle.yp_base.specs.declared.path.Seg.{Seg}
-use Rattle.yp_base.specs.declared.row.Value.{Value}
 use Rattle.yp_base.specs.declared.row.Row.{Row}
 use Rattle.yp_base.specs.Order.{path_cmp}
-use Rattle.yp_base.specs.Rows.{value_at, has_within, rows_without, AreInOrder}
+use Rattle.yp_base.specs.Rows.{path_of, value_at, has_within, rows_without, AreInOrder}
+use Rattle.yp_tree.specs.Listed.{without_row}
 
 -- the rows of a tree, and the paths that are touched
 pub record Touched : Type 0 where
@@ -33,20 +32,36 @@ pub record IsBase (rows : List Row) (paths bare : List (List Seg)) (count : ℕ)
   pub counted : count ≡ length (left paths rows)
   pub none_below : (path : List Seg) → is_listed path bare ≡ true → has_within path (left paths rows) ≡ false
 
--- the values that are kept at paths are those of the rows
-abbrev pub KeepsValues : List Row → List (List Seg × Option (Bor Value)) → Type 0
-KeepsValues rows kept = AllByRecursion (λ entry. option_copied entry.1 ≡ value_at entry.0 rows) kept
+-- of some rows none is at or below a path, where there is one
+abbrev pub IsSwept : Option (List Seg) → List Row → Type 0
+IsSwept None rows = Unit {0}
+IsSwept (Some path) rows = has_within path rows ≡ false
+
+-- rows that are among others: each has the value that its path has there
+abbrev pub KeepsValues : List Row → List Row → Type 0
+KeepsValues rows kept = (path : List Seg) → is_some (value_at path kept) ≡ true → value_at path kept ≡ value_at path rows
 
 -- one more path is touched
 pub record Touches (path : List Seg) (old new : Touched) : Type 0 where
   pub rows : new.rows ≡ old.rows
   pub paths : (other : List Seg) → is_listed other new.paths ≡ (is_eq (path_cmp path other) || is_listed other old.paths)
 
--- what was touched stays so
-abbrev pub StaysTouched : Touched → Touched → Type 0
-StaysTouched old new = (path : List Seg) → is_listed path old.paths ≡ true → is_listed path new.paths ≡ true
+-- the row of a path is touched, where there is one, and no other row is
+pub record Loses (path : List Seg) (old new : Touched) : Type 0 where
+  pub rows : new.rows ≡ old.rows
+  pub others : untouched new ≡ without_row path (untouched old)
+
+-- no row comes back
+abbrev pub StaysGone : Touched → Touched → Type 0
+StaysGone old new = (path : List Seg) → value_at path (untouched old) ≡ None → value_at path (untouched new) ≡ None
 
 -- the rows at or below a target are touched, and no other row is
 pub record TouchesWithin (target : List Seg) (old new : Touched) : Type 0 where
   pub rows : new.rows ≡ old.rows
   pub others : untouched new ≡ rows_without target (untouched old)
+
+-- the rows that are touched, in order
+pub record AreTouched (base : Touched) (kept : List Row) : Type 0 where
+  pub paths : map path_of kept ≡ base.paths
+  pub values : KeepsValues base.rows kept
+  pub in_order : AreInOrder kept

@@ -152,7 +152,8 @@ module _ (f : List Seg → Option ChangedRow) (of_path : (path : List Seg) (chan
             ] refl
       ] refl
 
-  found_before : (p : List Seg) (paths : List (List Seg)) → IsBefore p paths → IsBefore p (paths_in (filter_map f paths))
+  -- a path that is before some is before what is found there
+  pub found_before : (p : List Seg) (paths : List (List Seg)) → IsBefore p paths → IsBefore p (paths_in (filter_map f paths))
   found_before p [] all = tt
   found_before p (path ∷ paths) all =
       elim (f path) as (λ r. f path ≡ r → IsBefore p (paths_in (cons_option r (filter_map f paths)))) [

@@ -4,7 +4,7 @@ use Rattle.yp_base.specs.declared.path.Seg.{Seg}
 use Rattle.yp_base.specs.declared.row.Row.{Row}
 use Rattle.yp_base.specs.Order.{is_within}
 use Rattle.yp_base.specs.Rows.{value_at, put_rows, rows_without}
-use Rattle.yp_edit.specs.Bases.{Touched, is_listed, untouched}
+use Rattle.yp_edit.specs.Bases.{Touched, untouched}
 
 -- the rows that there are, and those that there are to be
 pub record Drafted : Type 0 where
@@ -14,9 +14,9 @@ pub record Drafted : Type 0 where
 abbrev pub drafted : Touched → List Row → Drafted
 drafted base put = record { before = base.rows; after = put_rows put (untouched base) }
 
--- what is so of a draft: each path of a row that is put is touched
+-- what is so of a draft: no row that is put has the path of one that isn't touched
 pub record IsDraft (base : Touched) (put : List Row) : Type 0 where
-  pub covered : (path : List Seg) → is_listed path base.paths ≡ false → is_some (value_at path put) ≡ false
+  pub apart : (path : List Seg) → is_some (value_at path put) ≡ true → value_at path (untouched base) ≡ None
 
 -- whether a path is at or below another, where there is one
 abbrev pub is_covered : Option (List Seg) → List Seg → Bool

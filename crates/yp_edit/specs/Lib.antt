@@ -3,6 +3,7 @@ pub mod Bases
 pub mod ChangeLaws
 pub mod Changes
 pub mod Commits
+pub mod Differing
 pub mod Drafts
 pub mod PatchLaws
 pub mod Patches

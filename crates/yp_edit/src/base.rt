@@ -1,45 +1,53 @@
 //! The tree that a patch is applied to, and what its edits touch.
-ghost use Rattle.std.specs.Prelude.{◌≡◌, ◌<◌, ◌^◌, [], None, Some, false, length, map, slice_get, is_some, option_map, option_copied, IfOk, OnOk, OnErr};
-ghost use Rattle.std.specs.List.{filter_map};
-ghost use Rattle.std.specs.List.Sorted.{IsStrictlySortedBy};
-ghost use Rattle.yp_base.specs.Order.{path_cmp};
+ghost use Rattle.std.specs.Prelude.{◌≡◌, ◌<◌, ◌^◌, [], Some, false, length, map, slice_get, is_some, option_map, IfOk, OnOk, OnErr};
 ghost use Rattle.yp_base.specs.Rows.{path_of, value_at, next_row, has_within, rows_within, AreInOrder};
 ghost use Rattle.yp_tree.specs.Listed.{row_of};
-ghost use Rattle.yp_edit.specs.Changes.{row_change};
-ghost use Rattle.yp_edit.specs.Bases.{is_listed, untouched, Touches, TouchesWithin, StaysTouched};
+ghost use Rattle.yp_edit.specs.Bases.{is_listed, untouched, Touches, Loses, TouchesWithin, StaysGone, AreTouched};
+ghost use Rattle.yp_edit.specs.Drafts.{is_covered};
 
-use crate::changed::{Changed, change_of};
 use std::alloc::Global;
-use std::collections::{BTreeMap, BTreeSet};
+use std::collections::BTreeSet;
 use std::marker::Model;
 use std::sync::ledger::Ledger;
 use yp_base::memory::{Duplicate, NoMemory};
-use yp_base::path::Path;
-use yp_base::row::Value;
-use yp_base::series::Series;
+use yp_base::path::{Path, is_prefix};
+use yp_base::row::{Row, Rows, Value};
 use yp_base::steps::Steps;
+use yp_tree::rising::Rising;
 use yp_tree::tree::Tree;
 
-/// A tree, which stays as it is, with the paths that edits touch and the value that the tree has at each
-/// of them: a row of the tree whose path is touched counts no more. At or below a bare path each row is
-/// touched, so that no edit walks over them again.
+/// A tree, which stays as it is, with those of its rows that edits touch: they count no more. At or below a
+/// bare path each row is touched, so that no edit walks over them again; the last one that edits made bare
+/// is swept, so that no row put there is looked up.
 #[derive(Drop)]
 pub struct Base<'a> {
     tree: &'a Tree,
-    touched: BTreeMap<Path, Option<&'a Value>>,
+    touched: Rising,
     bare: BTreeSet<Path>,
+    swept: Option<Path>,
     count: usize,
 }
 
 impl<'a> Model for Base<'a> {
-    ghost use Rattle.std.specs.Map.{keys_of};
-    ghost use Rattle.yp_edit.specs.Bases.{Touched, IsBase, KeepsValues};
+    ghost use Rattle.std.specs.Prelude.{map};
+    ghost use Rattle.yp_base.specs.Rows.{path_of};
+    ghost use Rattle.yp_edit.specs.Bases.{Touched, IsBase, IsSwept, KeepsValues, left};
 
     ghost Value = { Touched };
 
-    ghost view = { λ b. record { rows = b.tree.now; paths = keys_of b.touched.entries } };
+    ghost view = { λ b. record { rows = b.tree.now; paths = map path_of b.touched } };
 
-    ghost invariant = { λ b. IsBase b.tree.now (keys_of b.touched.entries) b.bare.keys b.count × KeepsValues b.tree.now b.touched.entries };
+    ghost invariant = { λ b. IsBase b.tree.now (map path_of b.touched) b.bare.keys b.count × KeepsValues b.tree.now b.touched × IsSwept b.swept (left (map path_of b.touched) b.tree.now) };
+}
+
+/// Whether a path is at or below another, where there is one.
+pub fn is_covered(above: &Option<Path>, path: &Path) -> bool
+    ensures { result ≡ is_covered above.now path.now }
+{
+    match above {
+        Some(above) => is_prefix(above, path),
+        None => false,
+    }
 }
 
 impl<'a> Base<'a> {
@@ -49,21 +57,20 @@ impl<'a> Base<'a> {
     {
         Base {
             tree,
-            touched: BTreeMap::new(alloc),
+            touched: Rising::new(alloc),
             bare: BTreeSet::new(alloc),
+            swept: None,
             count: tree.len(),
         }
     }
 
-    /// How many rows aren't touched. The rows are in order, and so are the paths that are touched.
+    /// How many rows aren't touched. The rows are in order.
     pub fn len(&self) -> usize
         ensures count { result ≡ length (untouched self.now) }
         ensures small { result < 2 ^ 63 }
         ensures order { AreInOrder self.now.rows }
-        ensures paths { IsStrictlySortedBy path_cmp self.now.paths }
     {
         let _rows = self.tree.len();
-        let _paths = self.touched.len();
         self.count
     }
 
@@ -71,7 +78,7 @@ impl<'a> Base<'a> {
     pub fn has<L: Ledger>(&self, path: &Path, steps: &mut Steps<L>) -> bool
         ensures { result ≡ is_some (value_at path.now (untouched self.now)) }
     {
-        if self.touched.contains_key(path) {
+        if self.touched.has(path) {
             return false;
         }
         self.tree.get(path, steps).is_some()
@@ -88,7 +95,7 @@ impl<'a> Base<'a> {
     {
         let mut last = after;
         while let Some((path, value)) = self.tree.next(last, under, steps) {
-            if !self.touched.contains_key(path) {
+            if !self.touched.has(path) {
                 return Some((path, value));
             }
             last = path;
@@ -101,7 +108,7 @@ impl<'a> Base<'a> {
         requires { option_map path_of (slice_get (rows_within target.now self.now.rows) 0) ≡ Some first.now }
         ensures { result ≡ has_within target.now (untouched self.now) }
     {
-        if !self.touched.contains_key(first) {
+        if !self.touched.has(first) {
             return true;
         }
         self.next(first, target, steps).is_some()
@@ -133,48 +140,54 @@ impl<'a> Base<'a> {
         }
     }
 
-    /// Touches a path that isn't touched, and keeps the value that the tree has there.
-    fn keep(&mut self, alloc: Global, path: &Path, old: Option<&'a Value>) -> Result<(), NoMemory>
+    /// Touches the path of a row of the tree that isn't touched.
+    fn keep(&mut self, alloc: Global, path: &Path, value: &Value) -> Result<(), NoMemory>
         requires untouched { is_listed path.now self.old.paths ≡ false }
-        requires old { option_copied old ≡ value_at path.now self.old.rows }
+        requires there { value_at path.now self.old.rows ≡ Some value.now }
         ensures touched { OnOk result (Touches path.now self.old self.new) }
         ensures unchanged { OnErr result (self.new ≡ self.old) }
     {
-        let there = old.is_some();
-        self.touched.insert(path.copy(alloc)?, old)?;
-        if there {
-            self.count -= 1;
-        }
+        let row = Row {
+            path: path.copy(alloc)?,
+            value: value.copy(alloc)?,
+        };
+        self.touched.put(alloc, row)?;
+        self.count -= 1;
         Ok(())
     }
 
-    /// Touches a path.
+    /// Touches the row of a path, where there is one that isn't touched.
     pub fn touch<L: Ledger>(
         &mut self,
         alloc: Global,
         path: &Path,
         steps: &mut Steps<L>,
     ) -> Result<(), NoMemory>
-        ensures touched { OnOk result (Touches path.now self.old self.new) }
+        ensures lost { OnOk result (Loses path.now self.old self.new) }
         ensures unchanged { OnErr result (self.new ≡ self.old) }
     {
-        if self.touched.contains_key(path) {
+        if is_covered(&self.swept, path) {
             return Ok(());
         }
-        let old = self.tree.get(path, steps);
-        self.keep(alloc, path, old)
+        if self.touched.has(path) {
+            return Ok(());
+        }
+        if let Some(value) = self.tree.get(path, steps) {
+            self.keep(alloc, path, value)?;
+        }
+        Ok(())
     }
 
     /// Touches the path of a row of the tree.
-    fn touch_row(&mut self, alloc: Global, path: &Path, value: &'a Value) -> Result<(), NoMemory>
+    fn touch_row(&mut self, alloc: Global, path: &Path, value: &Value) -> Result<(), NoMemory>
         requires { value_at path.now self.old.rows ≡ Some value.now }
         ensures touched { OnOk result (Touches path.now self.old self.new) }
         ensures unchanged { OnErr result (self.new ≡ self.old) }
     {
-        if self.touched.contains_key(path) {
+        if self.touched.has(path) {
             return Ok(());
         }
-        self.keep(alloc, path, Some(value))
+        self.keep(alloc, path, value)
     }
 
     /// Touches the paths of the tree's rows at or below a target.
@@ -186,12 +199,23 @@ impl<'a> Base<'a> {
     ) -> Result<(), NoMemory>
         requires { map (λ each. row_of (each.0.now, each.1.now)) rows.items ≡ rows_within target.now self.old.rows }
         ensures touched { OnOk result (TouchesWithin target.now self.old self.new) }
-        ensures stay { StaysTouched self.old self.new }
+        ensures stay { StaysGone self.old self.new }
     {
         let _rows = self.tree.len();
         for row in rows {
             self.touch_row(alloc, row.0, row.1)?;
         }
+        Ok(())
+    }
+
+    /// Makes a path bare, and the one that is swept.
+    fn sweep(&mut self, alloc: Global, target: &Path) -> Result<(), NoMemory>
+        requires { has_within target.now (untouched self.old) ≡ false }
+        ensures same { self.new ≡ self.old }
+    {
+        let swept = target.copy(alloc)?;
+        self.bare.insert(target.copy(alloc)?)?;
+        self.swept = Some(swept);
         Ok(())
     }
 
@@ -203,7 +227,7 @@ impl<'a> Base<'a> {
         steps: &mut Steps<L>,
     ) -> Result<(), NoMemory>
         ensures touched { OnOk result (TouchesWithin target.now self.old self.new) }
-        ensures stay { StaysTouched self.old self.new }
+        ensures stay { StaysGone self.old self.new }
     {
         if self.bare.contains(target) {
             return Ok(());
@@ -212,28 +236,17 @@ impl<'a> Base<'a> {
         let several = 1 < rows.len();
         self.touch_rows(alloc, target, rows)?;
         if several {
-            self.bare.insert(target.copy(alloc)?)?;
+            self.sweep(alloc, target)?;
         }
         Ok(())
     }
 
-    /// The rows of touched paths that differ from those of other rows. The paths are given on, not copied.
-    pub fn changes<L: Ledger>(
-        self,
-        alloc: Global,
-        put: &Tree,
-        steps: &mut Steps<L>,
-    ) -> Result<Changed, NoMemory>
-        ensures { IfOk result (λ changed. changed ≡ filter_map (row_change self.entry.rows put.now) self.entry.paths) }
+    /// The rows that are touched, in order.
+    pub fn into_touched(self, alloc: Global) -> Result<Rows, NoMemory>
+        ensures { IfOk result (AreTouched self.entry) }
     {
-        let mut changed = Vec::new(alloc);
-        for (path, old) in self.touched {
-            let new = put.get(&path, steps);
-            match change_of(alloc, path, old, new)? {
-                Some(change) => changed.push(change)?,
-                None => {}
-            }
-        }
-        Ok(Series::from_vec(changed))
+        let _count = self.touched.len();
+        let Base { touched, .. } = self;
+        touched.into_rows(alloc)
     }
 }

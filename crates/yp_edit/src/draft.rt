@@ -5,6 +5,7 @@ ghost use Rattle.yp_edit.specs.Changes.{changed_rows};
 
 use crate::base::Base;
 use crate::changed::Changed;
+use crate::difference::differing;
 use std::alloc::Global;
 use std::marker::Model;
 use std::sync::ledger::Ledger;
@@ -12,13 +13,14 @@ use yp_base::memory::NoMemory;
 use yp_base::path::Path;
 use yp_base::row::Row;
 use yp_base::steps::Steps;
+use yp_tree::rising::Rising;
 use yp_tree::tree::Tree;
 
 /// The rows of a tree that edits don't touch, and the rows that they put.
 #[derive(Drop)]
 pub struct Draft<'a> {
     base: Base<'a>,
-    put: Tree,
+    put: Rising,
 }
 
 impl<'a> Model for Draft<'a> {
@@ -31,18 +33,6 @@ impl<'a> Model for Draft<'a> {
     ghost invariant = { λ d. IsDraft d.base d.put };
 }
 
-/// Takes the rows at or below a target out of a tree, which mostly has none at all.
-fn cut_within(alloc: Global, tree: &mut Tree, target: &Path) -> Result<(), NoMemory>
-    ensures rest { OnOk result (tree.new ≡ rows_without target.now tree.old) }
-    ensures unchanged { OnErr result (tree.new ≡ tree.old) }
-{
-    if tree.len() == 0 {
-        return Ok(());
-    }
-    let _cut = tree.cut(alloc, target)?;
-    Ok(())
-}
-
 impl<'a> Draft<'a> {
     /// The rows of a tree, as they are.
     pub fn new(alloc: Global, tree: &'a Tree) -> Draft<'a>
@@ -50,7 +40,7 @@ impl<'a> Draft<'a> {
     {
         Draft {
             base: Base::new(alloc, tree),
-            put: Tree::new(alloc),
+            put: Rising::new(alloc),
         }
     }
 
@@ -73,7 +63,7 @@ impl<'a> Draft<'a> {
         ensures { result ≡ is_some (value_at path.now self.now.after) }
     {
         let _rows = (self.put.len(), self.base.len());
-        self.put.get(path, steps).is_some() || self.base.has(path, steps)
+        self.put.has(path) || self.base.has(path, steps)
     }
 
     /// Adds the row, or gives its value to the row that has its path.
@@ -101,7 +91,8 @@ impl<'a> Draft<'a> {
         ensures found { IfOk result (λ found. found ≡ has_within target.now self.old.after) }
         ensures same { self.new ≡ self.old }
     {
-        if self.put.first_within(target, steps).is_some() {
+        let found = self.put.has_within(alloc, target, steps)?;
+        if found {
             return Ok(true);
         }
         self.base.has_within(alloc, target, steps)
@@ -118,19 +109,18 @@ impl<'a> Draft<'a> {
     {
         let _rows = (self.put.len(), self.base.len());
         self.base.touch_within(alloc, target, steps)?;
-        cut_within(alloc, &mut self.put, target)?;
+        self.put.cut(alloc, target)?;
         Ok(())
     }
 
     /// The rows that differ.
-    pub fn changes<L: Ledger>(
-        self,
-        alloc: Global,
-        steps: &mut Steps<L>,
-    ) -> Result<Changed, NoMemory>
+    pub fn changes(self, alloc: Global) -> Result<Changed, NoMemory>
         ensures { IfOk result (λ changed. changed ≡ changed_rows self.entry.before self.entry.after) }
     {
         let _rows = (self.put.len(), self.base.len());
-        self.base.changes(alloc, &self.put, steps)
+        let Draft { base, put } = self;
+        let olds = base.into_touched(alloc)?;
+        let news = put.into_rows(alloc)?;
+        differing(alloc, olds.items(), news.items())
     }
 }

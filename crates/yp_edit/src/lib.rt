@@ -10,6 +10,7 @@ pub mod applying;
 mod base;
 pub mod changed;
 mod commit;
+mod difference;
 mod draft;
 mod edit;
 pub mod fault;

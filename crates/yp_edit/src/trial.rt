@@ -2,8 +2,9 @@
 ghost use Rattle.std.specs.Prelude.{◌≡◌, length, nat_lt, is_some, IfOk, OnOk};
 ghost use Rattle.yp_base.specs.Rows.{value_at, put_row, has_within, rows_without};
 ghost use Rattle.yp_edit.specs.Changes.{changed_rows};
-ghost use Rattle.yp_edit.specs.Drafts.{is_covered, covers, remaining, remains};
+ghost use Rattle.yp_edit.specs.Drafts.{covers, remaining, remains};
 
+use crate::base::is_covered;
 use crate::changed::Changed;
 use crate::draft::Draft;
 use std::alloc::Global;
@@ -30,16 +31,6 @@ impl<'a> Model for Trial<'a> {
     ghost Value = { Drafted };
 
     ghost view = { λ t. remains t.gone t.draft };
-}
-
-/// Whether a path is at or below one that is gone.
-fn is_covered(gone: &Option<Path>, path: &Path) -> bool
-    ensures { result ≡ is_covered gone.now path.now }
-{
-    match gone {
-        Some(above) => is_prefix(above, path),
-        None => false,
-    }
 }
 
 /// Whether a path is at or above the one that is gone.
@@ -203,7 +194,7 @@ impl<'a> Trial<'a> {
         let Trial { draft, gone } = self;
         let mut draft = draft;
         take_out(alloc, &mut draft, gone, steps)?;
-        let changed = draft.changes(alloc, steps)?;
+        let changed = draft.changes(alloc)?;
         Ok(changed)
     }
 }

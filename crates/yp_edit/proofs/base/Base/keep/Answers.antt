@@ -1,57 +1,41 @@
-use Rattle.std.proofs.Common.{◌||◌, ap, sym, subst, refl, ◌∙◌}
+use Rattle.std.proofs.Common.{◌≡◌, ◌-◌, ◌||◌, List, Some, false, map, ap, sym, subst, refl, ◌∙◌}
+use Rattle.std.specs.Prelude.{is_some}
 use Rattle.std.specs.Ordering.{is_eq}
-use Rattle.std.specs.Map.{keys_of}
+use Rattle.yp_base.specs.declared.row.Row.{Row}
+use Rattle.yp_base.specs.declared.row.Value.{Value}
 use Rattle.yp_base.specs.Order.{path_cmp}
-use Rattle.yp_base.specs.Rows.{value_at}
-use Rattle.yp_edit.specs.Bases.{Touched, KeepsValues, is_listed, left, Touches}
-use Rattle.yp_edit.proofs.Bases.{one_fewer, as_many}
-use Rattle.yp_edit.proofs.Touching.{kept_there, one_counted, one_more_key, one_more_value}
+use Rattle.yp_base.specs.Rows.{path_of, value_at}
+use Rattle.yp_edit.specs.Bases.{Touched, is_listed, left, Touches}
+use Rattle.yp_edit.proofs.Bases.{other_there}
+use Rattle.yp_edit.proofs.Touching.{Holds, one_counted, one_more_path, one_more_row}
 use Rattle.yp_edit.proofs.base.Base.keep.Goals as goal
 
 pub overflow_sub-self : goal.overflow_sub-self
 overflow_sub-self c =
-    let key = c.in_ok-copy.field-0 in
     let rows = c.self.inside.tree.now in
-    let paths = keys_of c.self.inside.touched.entries in
-    one_counted key (left paths rows) c.self.inside.count c.self.invariant.0.counted
-    (kept_there c.args.path.now key rows paths c.args.old c.args.self.now c.self.view_is c.in_ok-copy.ensures c.requires.untouched c.requires.old ∙ sym c.is_some-there.ensures ∙ c.if-there.true)
+    let paths = map path_of c.self.inside.touched in
+    let unlisted : is_listed c.args.path.now paths ≡ false = ap (λ (b : Touched). is_listed c.args.path.now b.paths) c.self.view_is ∙ c.requires.untouched in
+    let there : value_at c.args.path.now rows ≡ Some c.args.value.now = ap (λ (b : Touched). value_at c.args.path.now b.rows) c.self.view_is ∙ c.requires.there in
+    one_counted c.args.path.now (left paths rows) c.self.inside.count c.self.invariant.0.counted (ap is_some (other_there c.args.path.now paths rows unlisted ∙ there))
 
-pub invariant_of-self-then-there : goal.invariant_of-self-then-there
-invariant_of-self-then-there c =
-    let key = c.in_ok-copy.field-0 in
+pub invariant_of-self-2 : goal.invariant_of-self-2
+invariant_of-self-2 c =
+    let row : Row = record { path = c.in_ok-copy.field-0; value = c.in_ok-copy-2.field-0 } in
     let rows = c.self.inside.tree.now in
-    let kept = c.self.inside.touched.entries in (
-      one_fewer key rows (keys_of kept) (keys_of c.insert.new.self.entries) c.self.inside.bare.keys c.self.inside.count c.self.invariant.0
-          (one_more_key key c.args.old kept c.insert.new.self.entries (λ q. c.in_ok-insert.ensures.updates.0 q))
-          (kept_there c.args.path.now key rows (keys_of kept) c.args.old c.args.self.now c.self.view_is c.in_ok-copy.ensures c.requires.untouched c.requires.old ∙ sym c.is_some-there.ensures ∙ c.if-there.true),
-      subst (KeepsValues rows) (sym c.in_ok-insert.ensures.entries)
-          (one_more_value rows key c.args.old kept (c.requires.old ∙ (λ i. value_at (sym c.in_ok-copy.ensures i) (sym (ap (λ (b : Touched). b.rows) c.self.view_is) i))) c.self.invariant.1),
-    )
+    let paths = map path_of c.self.inside.touched in
+    let unlisted : is_listed row.path paths ≡ false = ap (λ p. is_listed p paths) c.in_ok-copy.ensures ∙ ap (λ (b : Touched). is_listed c.args.path.now b.paths) c.self.view_is ∙ c.requires.untouched in
+    let there : value_at row.path rows ≡ Some row.value =
+    ap (λ p. value_at p rows) c.in_ok-copy.ensures ∙ ap (λ (b : Touched). value_at c.args.path.now b.rows) c.self.view_is ∙ c.requires.there ∙ ap (λ (v : Value). Some v) (sym c.in_ok-copy-2.ensures) in
+    subst (λ (some : List Row). Holds rows some c.self.inside.bare.keys (c.self.inside.count - 1) c.self.inside.swept) (sym c.in_ok-put.ensures.rows)
+    (one_more_row row rows c.self.inside.touched c.self.inside.bare.keys c.self.inside.count c.self.inside.swept unlisted there c.self.invariant)
 
-pub invariant_of-self-else-there : goal.invariant_of-self-else-there
-invariant_of-self-else-there c =
-    let key = c.in_ok-copy.field-0 in
-    let rows = c.self.inside.tree.now in
-    let kept = c.self.inside.touched.entries in (
-      as_many key rows (keys_of kept) (keys_of c.insert.new.self.entries) c.self.inside.bare.keys c.self.inside.count c.self.invariant.0
-          (one_more_key key c.args.old kept c.insert.new.self.entries (λ q. c.in_ok-insert.ensures.updates.0 q))
-          (kept_there c.args.path.now key rows (keys_of kept) c.args.old c.args.self.now c.self.view_is c.in_ok-copy.ensures c.requires.untouched c.requires.old ∙ sym c.is_some-there.ensures ∙ c.if-there.false),
-      subst (KeepsValues rows) (sym c.in_ok-insert.ensures.entries)
-          (one_more_value rows key c.args.old kept (c.requires.old ∙ (λ i. value_at (sym c.in_ok-copy.ensures i) (sym (ap (λ (b : Touched). b.rows) c.self.view_is) i))) c.self.invariant.1),
-    )
-
-pub returns-then-there-clause-touched : goal.returns-then-there-clause-touched
-returns-then-there-clause-touched c =
-    let kept = c.self.inside.touched.entries in
-    subst (λ (b : Touched). Touches c.args.path.now b (record { rows = c.self.inside.tree.now; paths = keys_of c.insert.new.self.entries })) c.self.view_is (record {
+pub returns-clause-touched : goal.returns-clause-touched
+returns-clause-touched c =
+    let row : Row = record { path = c.in_ok-copy.field-0; value = c.in_ok-copy-2.field-0 } in
+    subst (λ (b : Touched). Touches c.args.path.now b (record { rows = c.self.inside.tree.now; paths = map path_of c.put.new.self })) c.self.view_is (record {
       rows = refl;
-      paths = λ q. one_more_key c.in_ok-copy.field-0 c.args.old kept c.insert.new.self.entries (λ q. c.in_ok-insert.ensures.updates.0 q) q ∙ ap (λ p. is_eq (path_cmp p q) || is_listed q (keys_of kept)) c.in_ok-copy.ensures;
-    })
-
-pub returns-else-there-clause-touched : goal.returns-else-there-clause-touched
-returns-else-there-clause-touched c =
-    let kept = c.self.inside.touched.entries in
-    subst (λ (b : Touched). Touches c.args.path.now b (record { rows = c.self.inside.tree.now; paths = keys_of c.insert.new.self.entries })) c.self.view_is (record {
-      rows = refl;
-      paths = λ q. one_more_key c.in_ok-copy.field-0 c.args.old kept c.insert.new.self.entries (λ q. c.in_ok-insert.ensures.updates.0 q) q ∙ ap (λ p. is_eq (path_cmp p q) || is_listed q (keys_of kept)) c.in_ok-copy.ensures;
+      paths = λ q.
+          ap (λ (some : List Row). is_listed q (map path_of some)) c.in_ok-put.ensures.rows
+          ∙ one_more_path row c.self.inside.touched q
+          ∙ ap (λ p. is_eq (path_cmp p q) || is_listed q (map path_of c.self.inside.touched)) c.in_ok-copy.ensures;
     })

@@ -1,5 +1,5 @@
-use Rattle.std.proofs.Common.{ap, sym, subst, ◌∙◌, length, true≢false}
-use Rattle.std.specs.Map.{keys_of}
+use Rattle.std.proofs.Common.{ap, sym, subst, ◌∙◌, length, map, true≢false}
+use Rattle.yp_base.specs.Rows.{path_of}
 use Rattle.yp_edit.specs.Bases.{KeepsValues, is_listed, left}
 use Rattle.yp_edit.proofs.Bases.{none_listed}
 use Rattle.yp_edit.proofs.base.Base.new.Goals as goal
@@ -8,8 +8,9 @@ pub invariant_of-result : goal.invariant_of-result
 invariant_of-result c = (
   record {
     in_order = c.len.ensures.order;
-    counted = c.len.ensures.count ∙ ap length (sym (none_listed c.args.tree.now) ∙ ap (λ es. left (keys_of es) c.args.tree.now) (sym c.new.ensures.empty));
+    counted = c.len.ensures.count ∙ ap length (sym (none_listed c.args.tree.now) ∙ ap (λ rows. left (map path_of rows) c.args.tree.now) (sym c.new.ensures));
     none_below = λ path h. absurd (true≢false (sym h ∙ ap (is_listed path) c.new-2.ensures.empty));
   },
-  subst (KeepsValues c.args.tree.now) (sym c.new.ensures.empty) tt,
+  subst (KeepsValues c.args.tree.now) (sym c.new.ensures) (λ path h. absurd (true≢false (sym h))),
+  tt,
 )
