@@ -186,11 +186,7 @@ fn kinds_in(items: &[Json]) -> Kinds
 fn is_operation(word: &str) -> bool
     ensures { result ≡ is_among word.now operations }
 {
-    word == "create"
-        || word == "delete"
-        || word == "insert"
-        || word == "move"
-        || word == "replace"
+    word == "create" || word == "delete" || word == "insert" || word == "move" || word == "replace"
 }
 
 /// Whether an item is an operation that isn't among those after it.

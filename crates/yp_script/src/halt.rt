@@ -98,10 +98,7 @@ pub fn holding<X: Drop>(kind: ScriptKind, holds: bool, part: Result<X, Halt>) ->
 }
 
 /// Both of two parts of a line, or what stops them: where both have faults the one that is told.
-pub fn both<X: Drop, Y: Drop>(
-    part: Result<X, Halt>,
-    other: Result<Y, Halt>,
-) -> Result<(X, Y), Halt>
+pub fn both<X: Drop, Y: Drop>(part: Result<X, Halt>, other: Result<Y, Halt>) -> Result<(X, Y), Halt>
     ensures read { (said : Said X) (second : Said Y) → Tells part said → Tells other second → Tells result (both said second) }
     ensures part { IfOk result (λ parts. part ≡ Ok parts.0) }
     ensures other { IfOk result (λ parts. other ≡ Ok parts.1) }
