@@ -1,4 +1,14 @@
+pub mod Absorbing
+pub mod Bounds
 pub mod Edits
+pub mod Enough
+pub mod Finding
+pub mod Lasts
+pub mod Narrow
 pub mod Recorded
 pub mod Selected
+pub mod Standing
+pub mod Telling
 pub mod Topmost
+pub mod Topped
+pub mod Windowed

@@ -14,7 +14,7 @@ use Rattle.yp_base.specs.Paths.{is_above, topmost as roots_of}
 use Rattle.yp_edit.specs.Drafts.{is_covered}
 
 -- what comes before a path isn't at or below it
-outside : (path other : List Seg) → path_cmp path other ≡ Greater → is_within path other ≡ false
+pub outside : (path other : List Seg) → path_cmp path other ≡ Greater → is_within path other ≡ false
 outside path other after =
     elim (is_within path other) as (λ w. is_within path other ≡ w → w ≡ false) [
       | true ↦ λ within. absurd (true≢false (ap is_gt (sym after) ∙ front_not_after segment_cmp path other within))
@@ -22,7 +22,7 @@ outside path other after =
     ] refl
 
 -- a path is neither at nor below one that comes after it
-apart : (path later : List Seg) → path_cmp path later ≡ Less → is_within later path ≡ false
+pub apart : (path later : List Seg) → path_cmp path later ≡ Less → is_within later path ≡ false
 apart path later less = outside later path (paths_total.antisymm later path ∙ ap ordering_reverse less)
 
 above_within : (path later : List Seg) → path_cmp path later ≡ Less → is_above path later ≡ is_within path later

@@ -21,7 +21,7 @@ use Rattle.yp_schema.specs.declared.schema.Kind.{Kind}
 use Rattle.yp_schema.specs.declared.schema.Kind.TheVariants.{Container, Presence, List as Listing, Leaf, LeafList}
 use Rattle.yp_schema.specs.Nodes.{node_at, may_hold}
 use Rattle.yp_schema.specs.WellFormed.{IsSchema}
-use Rattle.yp_schema.specs.Datastore.{goes_down, is_path_of, value_of_kind, is_entry_kind, last_kind_is, has_row, IsRowOf, IsDatastore, AreWritable, goes_to_row}
+use Rattle.yp_schema.specs.Datastore.{goes_down, is_path_of, value_of_kind, is_entry_kind, last_kind_is, has_row, ends_in_entry, IsRowOf, IsDatastore, AreWritable}
 use Rattle.yp_schema.specs.SchemaLaws.{row_node, row_path, row_place, goes_on, node_after, leaf_ends}
 use Rattle.yp_tree.specs.Alike.{same_rows}
 use Rattle.yp_edit.specs.declared.changed.ChangedRow.{ChangedRow}
@@ -34,6 +34,8 @@ use Rattle.yp_nacm.specs.Decision.{IsClosed, visible_rows}
 use Rattle.yp_encode.specs.Sendable.{IsSendableChange}
 use Rattle.yp_select.specs.Concealed.{AllReadable}
 use Rattle.yp_select.specs.SelectionLaws.{value_selected, all_selected, selection_is, selected_readable, selection_in_order, selection_of_schema}
+use Rattle.yp_touch.specs.declared.root.Root.{Root}
+use Rattle.yp_touch.specs.Absorbed.{EndsAsRow, root_change}
 use Rattle.yp_touch.specs.Concealed.{IsReadableChange}
 use Rattle.yp_touch.specs.RootLaws.{has_root, listed_rooted, some_paths}
 
@@ -89,7 +91,7 @@ difference_there path old new change is =
     either None None e = absurd (true≢false e)
 
 -- a changed path has a row before or after
-abbrev IsThere : List Row → List Row → List Seg → Type 0
+abbrev pub IsThere : List Row → List Row → List Seg → Type 0
 IsThere old new path = (has_row path old || has_row path new) ≡ true
 
 -- what holds of the path of each row before and after holds of such a path
@@ -108,10 +110,20 @@ there_all : (old new : List Row) (paths : List (List Seg)) → AllByRecursion (I
 there_all old new [] = tt
 there_all old new (path ∷ paths) = there_at old new path (filter_map (difference_at old new) paths) (there_all old new paths)
 
-roots_there : (old new : List Row) → AllByRecursion (IsThere old new) (roots_of (changed_paths old new))
-roots_there old new =
-    let paths = changed_paths old new in
-    some_paths (λ path. not (list_any (λ above. is_above above path) paths)) (IsThere old new) paths (there_all old new (paths_of_both old new))
+pub changed_there : (old new : List Row) → AllByRecursion (IsThere old new) (changed_paths old new)
+changed_there old new = there_all old new (paths_of_both old new)
+
+there_hold : (P : List Seg → Type 0) (old new : List Row) (paths : List (List Seg)) → AllByRecursion (λ row. P row.path) old → AllByRecursion (λ row. P row.path) new → AllByRecursion (IsThere old new) paths → AllByRecursion P paths
+there_hold P old new [] all_old all_new there = tt
+there_hold P old new (path ∷ paths) all_old all_new there = (one_there P old new path all_old all_new there.0, there_hold P old new paths all_old all_new there.1)
+
+-- what holds of the path of each row before and after holds of each changed path
+pub changed_hold : (P : List Seg → Type 0) (old new : List Row) → AllByRecursion (λ row. P row.path) old → AllByRecursion (λ row. P row.path) new → AllByRecursion P (changed_paths old new)
+changed_hold P old new all_old all_new = there_hold P old new (changed_paths old new) all_old all_new (changed_there old new)
+
+-- what holds of paths holds of the topmost of them
+pub topmost_hold : (P : List Seg → Type 0) (paths : List (List Seg)) → AllByRecursion P paths → AllByRecursion P (roots_of paths)
+topmost_hold P paths all = some_paths (λ path. not (list_any (λ above. is_above above path) paths)) P paths all
 
 -- what isn't changed is alike
 unlisted_none : (path : List Seg) (changes : List ChangedRow) → is_listed path (paths_in changes) ≡ false → change_in path changes ≡ None
@@ -129,19 +141,12 @@ alike_at false old new change alike is = let no : Some change ≡ None = is in c
 none_alike : (path : List Seg) (old new : Option Value) → change_of path old new ≡ None → old ≡ new
 none_alike path old new is = alike_at (are_alike old new) old new (record { path = path; old = old; new = new }) refl is
 
-unchanged : (old new : List Row) (path : List Seg) → is_listed path (changed_paths old new) ≡ false → value_at path old ≡ value_at path new
+pub unchanged : (old new : List Row) (path : List Seg) → is_listed path (changed_paths old new) ≡ false → value_at path old ≡ value_at path new
 unchanged old new path h = none_alike path (value_at path old) (value_at path new) (sym (changed_at old new path) ∙ unlisted_none path (changed_rows old new) h)
-
-unrooted : (old new : List Row) (path : List Seg) → has_root path (roots_of (changed_paths old new)) ≡ false → value_at path old ≡ value_at path new
-unrooted old new path h =
-    elim (is_listed path (changed_paths old new)) as (λ b. is_listed path (changed_paths old new) ≡ b → value_at path old ≡ value_at path new) [
-      | true ↦ λ e. absurd (true≢false (sym (listed_rooted (changed_paths old new) path e) ∙ h))
-      | false ↦ λ e. unchanged old new path e
-    ] refl
 
 -- ---- what is at or below a root that is gone
 
-last_after : (seg : Seg) (path : List Seg) → last_node (seg ∷ path) ≡ node_after None (seg ∷ path)
+pub last_after : (seg : Seg) (path : List Seg) → last_node (seg ∷ path) ≡ node_after None (seg ∷ path)
 last_after seg [] = refl
 last_after seg (next ∷ path) = last_after next path
 
@@ -150,11 +155,7 @@ changed_order : (changes : List Change) (rows : List Row) → AreInOrder rows �
 changed_order [] rows order = order
 changed_order (change ∷ changes) rows order = changed_order changes (put_rows change.rows (rows_without change.target rows)) (puts_order change.rows (rows_without change.target rows) (without_keeps_order change.target rows order))
 
--- a path at which a row of some value may be
-abbrev EndsAsRow : List SchemaNode → List Seg → Type 0
-EndsAsRow nodes path = (value : Value) × (goes_to_row nodes None path value ≡ true)
-
-rows_end : (nodes : List SchemaNode) (rows : List Row) → AllByRecursion (IsRowOf nodes) rows → AllByRecursion (λ row. EndsAsRow nodes row.path) rows
+pub rows_end : (nodes : List SchemaNode) (rows : List Row) → AllByRecursion (IsRowOf nodes) rows → AllByRecursion (λ row. EndsAsRow nodes row.path) rows
 rows_end nodes [] all = tt
 rows_end nodes (row ∷ rows) all = ((row.value, all.0.goes), rows_end nodes rows all.1)
 
@@ -166,55 +167,50 @@ entry_or_leaf Listing ty value h entry leaf = entry refl
 entry_or_leaf Leaf ty value h entry leaf = leaf refl
 entry_or_leaf LeafList ty value h entry leaf = leaf refl
 
-module _ (nodes : List SchemaNode) (schema : IsSchema nodes) (old new : List Row) (before : IsDatastore nodes old) (after : IsDatastore nodes new) where
-  -- where a row is gone, none is left below it
-  none_below : (root rest : List Seg) → has_row root old ≡ true → has_row root new ≡ false → is_path_of nodes (root ++ rest) ≡ true → has_row (root ++ rest) new ≡ true → ⊥
-  none_below [] rest was gone down there =
-      let ends = holds_at (EndsAsRow nodes) old [] (rows_end nodes old before.of_schema) was in true≢false (sym ends.1)
-  none_below (seg ∷ root) rest was gone down there =
-      let ends = holds_at (EndsAsRow nodes) old (seg ∷ root) (rows_end nodes old before.of_schema) was in
+module _ (nodes : List SchemaNode) (schema : IsSchema nodes) (new : List Row) (after : IsDatastore nodes new) where
+  -- below a path that ends as rows do stands nothing, or its own row is there
+  pub below_row : {A : Type 0} (root rest : List Seg) → EndsAsRow nodes root → has_row (root ++ rest) new ≡ true → (rest ≡ [] → A) → (ends_in_entry nodes root ≡ true → has_row root new ≡ true → A) → A
+  below_row [] rest ends there leaf entry = absurd (true≢false (sym ends.1))
+  below_row (seg ∷ root) rest ends there leaf entry =
       let found = row_node nodes None (seg ∷ root) ends.0 ends.1 in
       let n = found.0 in
       let last = found.1.0 in
       entry_or_leaf (node_at n nodes).kind (node_at n nodes).ty ends.0 found.1.1
-      (λ entry. true≢false (sym (after.entries (seg ∷ root) rest refl (ap (last_kind_is is_entry_kind nodes) last ∙ entry) there) ∙ gone))
-      (λ leaf.
+      (λ is. let ends_so = ap (last_kind_is is_entry_kind nodes) last ∙ is in entry ends_so (after.entries (seg ∷ root) rest refl ends_so there))
+      (λ is.
+      let end = holds_at (EndsAsRow nodes) new ((seg ∷ root) ++ rest) (rows_end nodes new after.of_schema) there in
+      let down : is_path_of nodes ((seg ∷ root) ++ rest) ≡ true = row_path nodes (record { path = (seg ∷ root) ++ rest; value = end.0 }) (record { goes = end.1 }) in
       let below : goes_down nodes (Some n) rest ≡ true = subst (λ (o : Option ℕ). goes_down nodes o rest ≡ true) (sym (last_after seg root) ∙ last) (goes_on nodes None (seg ∷ root) rest down) in
-      let none : rest ≡ [] = leaf_ends nodes schema n rest leaf below in
-      let same : (seg ∷ root) ++ rest ≡ seg ∷ root = ap (λ (more : List Seg). (seg ∷ root) ++ more) none ∙ append-nil (seg ∷ root) in
-      true≢false (sym (subst (λ (p : List Seg). has_row p new ≡ true) same there) ∙ gone))
+      leaf (leaf_ends nodes schema n rest is below))
 
-  value_gone : (root path : List Seg) → has_row root old ≡ true → has_row root new ≡ false → is_within root path ≡ true → value_at path new ≡ None
-  value_gone root path was gone within =
+  value_gone : (root path : List Seg) → EndsAsRow nodes root → has_row root new ≡ false → is_within root path ≡ true → value_at path new ≡ None
+  value_gone root path ends gone within =
       elim (value_at path new) as (λ (v : Option Value). value_at path new ≡ v → v ≡ None) [
         | None ↦ λ e. refl
         | Some value ↦ λ e.
             let found = within_rest root path within in
-            let there : has_row path new ≡ true = ap is_some e in
-            let ends = holds_at (EndsAsRow nodes) new path (rows_end nodes new after.of_schema) there in
-            absurd (none_below root found.0 was gone (subst (λ (p : List Seg). is_path_of nodes p ≡ true) found.1 (row_path nodes (record { path = path; value = ends.0 }) (record { goes = ends.1 }))) (subst (λ (p : List Seg). has_row p new ≡ true) found.1 there))
+            let there : has_row (root ++ found.0) new ≡ true = subst (λ (p : List Seg). has_row p new ≡ true) found.1 (ap is_some e) in
+            absurd (below_row root found.0 ends there
+            (λ none. true≢false (sym (subst (λ (p : List Seg). has_row p new ≡ true) (ap (λ (more : List Seg). root ++ more) none ∙ append-nil root) there) ∙ gone))
+            (λ entry is. true≢false (sym is ∙ gone)))
       ] refl
 
-  none_left : (root : List Seg) → has_row root old ≡ true → has_row root new ≡ false → rows_within root new ≡ []
-  none_left root was gone =
+  none_left : (root : List Seg) → EndsAsRow nodes root → has_row root new ≡ false → rows_within root new ≡ []
+  none_left root ends gone =
       same_rows (rows_within root new) [] (within_keeps_order root new after.in_order) none_order (λ path.
       value_selected (is_within root) path new
       ∙ elim (is_within root path) as (λ b. is_within root path ≡ b → cond b (value_at path new) None ≡ None) [
-        | true ↦ λ e. value_gone root path was gone e
+        | true ↦ λ e. value_gone root path ends gone e
         | false ↦ λ e. refl
       ] refl)
 
   -- an edit of a root carries all that is selected at or below it
-  carried : (root : List Seg) → IsThere old new root → carried_rows new root ≡ rows_within root new
-  carried root there =
-      elim (has_row root new) as (λ b. has_row root new ≡ b → (has_row root old || b) ≡ true → cond b (rows_within root new) [] ≡ rows_within root new) [
-        | true ↦ λ e h. refl
-        | false ↦ λ e h. sym (none_left root (left_of (has_row root old) h) e)
-      ] refl there
-    where
-      left_of : (b : Bool) → (b || false) ≡ true → b ≡ true
-      left_of true h = refl
-      left_of false h = h
+  carried : (root : List Seg) → EndsAsRow nodes root → carried_rows new root ≡ rows_within root new
+  carried root ends =
+      elim (has_row root new) as (λ b. has_row root new ≡ b → cond b (rows_within root new) [] ≡ rows_within root new) [
+        | true ↦ λ e. refl
+        | false ↦ λ e. sym (none_left root ends e)
+      ] refl
 
   -- ---- what edits of roots do
 
@@ -230,12 +226,12 @@ module _ (nodes : List SchemaNode) (schema : IsSchema nodes) (old new : List Row
       by_place true one other = or_none one
       by_place false one other = refl
 
-  -- at each path: the value after the step where a root is at or above it, and else the one before
-  led : (path : List Seg) (roots : List (List Seg)) (rows : List Row) → AllByRecursion (IsThere old new) roots
+  -- at each path: the value afterwards where a root is at or above it, and else the one before
+  led : (old : List Row) (path : List Seg) (roots : List (List Seg)) (rows : List Row) → AllByRecursion (EndsAsRow nodes) roots
       → value_at path (changed_by (map (change_at old new) roots) rows) ≡ cond (has_root path roots) (value_at path new) (value_at path rows)
-  led path [] rows all = refl
-  led path (root ∷ roots) rows all =
-      led path roots (put_rows (carried_rows new root) (rows_without root rows)) all.1
+  led old path [] rows all = refl
+  led old path (root ∷ roots) rows all =
+      led old path roots (put_rows (carried_rows new root) (rows_without root rows)) all.1
       ∙ ap (cond (has_root path roots) (value_at path new)) (one_led path root rows (carried root all.0))
       ∙ grouped (is_within root path) (has_root path roots) (value_at path new) (value_at path rows)
     where
@@ -244,16 +240,30 @@ module _ (nodes : List SchemaNode) (schema : IsSchema nodes) (old new : List Row
       grouped true false one other = refl
       grouped false b one other = refl
 
-  -- the record leads from one datastore to the other
-  pub record_leads : changed_by (change_record old new) old ≡ new
-  record_leads =
-      let roots = roots_of (changed_paths old new) in
-      same_rows (changed_by (change_record old new) old) new (changed_order (change_record old new) old before.in_order) after.in_order (λ path.
-      led path roots old (roots_there old new)
+module _ (nodes : List SchemaNode) (schema : IsSchema nodes) (old new : List Row) (before : IsDatastore nodes old) (after : IsDatastore nodes new) where
+  unrooted : (touched : List (List Seg)) → ((path : List Seg) → is_listed path touched ≡ false → value_at path old ≡ value_at path new) → (path : List Seg) → has_root path (roots_of touched) ≡ false → value_at path old ≡ value_at path new
+  unrooted touched stays path h =
+      elim (is_listed path touched) as (λ b. is_listed path touched ≡ b → value_at path old ≡ value_at path new) [
+        | true ↦ λ e. absurd (true≢false (sym (listed_rooted touched path e) ∙ h))
+        | false ↦ λ e. stays path e
+      ] refl
+
+  -- the edits of the topmost of touched paths lead from one datastore to the other, where these differ at touched paths alone
+  pub touched_leads : (touched : List (List Seg)) → AllByRecursion (EndsAsRow nodes) touched → ((path : List Seg) → is_listed path touched ≡ false → value_at path old ≡ value_at path new)
+      → changed_by (map (change_at old new) (roots_of touched)) old ≡ new
+  touched_leads touched ends stays =
+      let roots = roots_of touched in
+      let changes = map (change_at old new) roots in
+      same_rows (changed_by changes old) new (changed_order changes old before.in_order) after.in_order (λ path.
+      led nodes schema new after old path roots old (topmost_hold (EndsAsRow nodes) touched ends)
       ∙ elim (has_root path roots) as (λ b. has_root path roots ≡ b → cond b (value_at path new) (value_at path old) ≡ value_at path new) [
         | true ↦ λ e. refl
-        | false ↦ λ e. unrooted old new path e
+        | false ↦ λ e. unrooted touched stays path e
       ] refl)
+
+  -- the record leads from one datastore to the other
+  pub record_leads : changed_by (change_record old new) old ≡ new
+  record_leads = touched_leads (changed_paths old new) (changed_hold (EndsAsRow nodes) old new (rows_end nodes old before.of_schema) (rows_end nodes new after.of_schema)) (unchanged old new)
 
 -- ---- selections
 
@@ -281,15 +291,16 @@ carried_readable readable new root all =
       | false ↦ tt
     ]
 
-changes_readable : (readable : List Seg → Bool) (old new : List Row) (roots : List (List Seg)) → AllReadable readable old → AllReadable readable new → AllByRecursion (IsThere old new) roots
+-- the edits of paths that may be read name nothing that may not be
+pub changes_readable : (readable : List Seg → Bool) (old new : List Row) (roots : List (List Seg)) → AllReadable readable new → AllByRecursion (λ root. readable root ≡ true) roots
     → AllByRecursion (IsReadableChange readable) (map (change_at old new) roots)
-changes_readable readable old new [] all_old all_new there = tt
-changes_readable readable old new (root ∷ roots) all_old all_new there =
-    ((one_there (λ p. readable p ≡ true) old new root all_old all_new there.0, carried_readable readable new root all_new), changes_readable readable old new roots all_old all_new there.1)
+changes_readable readable old new [] all_new may = tt
+changes_readable readable old new (root ∷ roots) all_new may = ((may.0, carried_readable readable new root all_new), changes_readable readable old new roots all_new may.1)
 
 -- the record of rows that may be read names nothing that may not be read
 pub rows_conceal : (readable : List Seg → Bool) (old new : List Row) → AllReadable readable old → AllReadable readable new → AllByRecursion (IsReadableChange readable) (change_record old new)
-rows_conceal readable old new all_old all_new = changes_readable readable old new (roots_of (changed_paths old new)) all_old all_new (roots_there old new)
+rows_conceal readable old new all_old all_new =
+    changes_readable readable old new (roots_of (changed_paths old new)) all_new (topmost_hold (λ root. readable root ≡ true) (changed_paths old new) (changed_hold (λ root. readable root ≡ true) old new all_old all_new))
 
 pub record_conceals : (readable : List Seg → Bool) (before after : List Row) → AllByRecursion (IsReadableChange readable) (change_record (visible_rows readable before) (visible_rows readable after))
 record_conceals readable before after = rows_conceal readable (visible_rows readable before) (visible_rows readable after) (selected_readable readable before) (selected_readable readable after)
@@ -302,7 +313,7 @@ have_paths nodes [] all = tt
 have_paths nodes (row ∷ rows) all = (row_path nodes row all.0, have_paths nodes rows all.1)
 
 -- the row that has a path is of the schema
-there_of_schema : (nodes : List SchemaNode) (path : List Seg) (value : Value) (rows : List Row) → AllByRecursion (IsRowOf nodes) rows → value_at path rows ≡ Some value → IsRowOf nodes (record { path = path; value = value })
+pub there_of_schema : (nodes : List SchemaNode) (path : List Seg) (value : Value) (rows : List Row) → AllByRecursion (IsRowOf nodes) rows → value_at path rows ≡ Some value → IsRowOf nodes (record { path = path; value = value })
 there_of_schema nodes path value [] all there = let no : None ≡ Some value = there in cc
 there_of_schema nodes path value (row ∷ rows) all there =
     elim (is_eq (path_cmp path row.path)) as (λ b. is_eq (path_cmp path row.path) ≡ b → cond b (Some row.value) (value_at path rows) ≡ Some value → IsRowOf nodes (record { path = path; value = value })) [
@@ -323,32 +334,33 @@ writable_below nodes path value rows order all there = record {
   leaf = λ ends. ap is_some (value_selected (is_within path) path rows ∙ ap (λ b. cond b (value_at path rows) None) (within_itself path) ∙ there);
 }
 
-module _ (nodes : List SchemaNode) (old new : List Row) (all_old : AllByRecursion (IsRowOf nodes) old) (order : AreInOrder new) (all_new : AllByRecursion (IsRowOf nodes) new) where
-  -- the edit of a path that has a row before or after can be sent
-  root_sendable : (root : List Seg) → IsThere old new root → IsSendableChange nodes (change_at old new root)
-  root_sendable root there =
-      let path : is_path_of nodes root ≡ true = one_there (λ p. is_path_of nodes p ≡ true) old new root (have_paths nodes old all_old) (have_paths nodes new all_new) there in
-      elim (value_at root new) as (λ (v : Option Value). value_at root new ≡ v
-      → IsSendableChange nodes (record { kind = cond (is_some v) (cond (has_row root old) kinds.Replace kinds.Create) kinds.Delete; target = root; rows = cond (is_some v) (rows_within root new) []; after = None })) [
+module _ (nodes : List SchemaNode) (new : List Row) (order : AreInOrder new) (all_new : AllByRecursion (IsRowOf nodes) new) where
+  -- the edit of a root can be sent
+  pub root_sendable : (root : Root) → is_path_of nodes root.path ≡ true → IsSendableChange nodes (root_change new root)
+  root_sendable root path =
+      elim (value_at root.path new) as (λ (v : Option Value). value_at root.path new ≡ v
+      → IsSendableChange nodes (record { kind = cond (is_some v) (cond root.was kinds.Replace kinds.Create) kinds.Delete; target = root.path; rows = cond (is_some v) (rows_within root.path new) []; after = None })) [
         | None ↦ λ is. record { served = refl; target = path; rows = refl; after = refl }
-        | Some value ↦ λ is. elim (has_row root old) as (λ b. IsSendableChange nodes (record { kind = cond b kinds.Replace kinds.Create; target = root; rows = rows_within root new; after = None })) [
-          | true ↦ record { served = refl; target = path; rows = writable_below nodes root value new order all_new is; after = refl }
-          | false ↦ record { served = refl; target = path; rows = writable_below nodes root value new order all_new is; after = refl }
+        | Some value ↦ λ is. elim root.was as (λ b. IsSendableChange nodes (record { kind = cond b kinds.Replace kinds.Create; target = root.path; rows = rows_within root.path new; after = None })) [
+          | true ↦ record { served = refl; target = path; rows = writable_below nodes root.path value new order all_new is; after = refl }
+          | false ↦ record { served = refl; target = path; rows = writable_below nodes root.path value new order all_new is; after = refl }
         ]
       ] refl
 
-  roots_sendable : (roots : List (List Seg)) → AllByRecursion (IsThere old new) roots → AllByRecursion (IsSendableChange nodes) (map (change_at old new) roots)
-  roots_sendable [] there = tt
-  roots_sendable (root ∷ roots) there = (root_sendable root there.0, roots_sendable roots there.1)
+  -- so can the edits of paths of the schema
+  pub roots_sendable : (old : List Row) (roots : List (List Seg)) → AllByRecursion (λ root. is_path_of nodes root ≡ true) roots → AllByRecursion (IsSendableChange nodes) (map (change_at old new) roots)
+  roots_sendable old [] paths = tt
+  roots_sendable old (root ∷ roots) paths = (root_sendable (record { path = root; was = has_row root old }) paths.0, roots_sendable old roots paths.1)
 
   -- each edit of the record of rows of a schema can be sent
-  rows_sendable : AllByRecursion (IsSendableChange nodes) (change_record old new)
-  rows_sendable = roots_sendable (roots_of (changed_paths old new)) (roots_there old new)
+  rows_sendable : (old : List Row) → AllByRecursion (IsRowOf nodes) old → AllByRecursion (IsSendableChange nodes) (change_record old new)
+  rows_sendable old all_old =
+      roots_sendable old (roots_of (changed_paths old new)) (topmost_hold (λ p. is_path_of nodes p ≡ true) (changed_paths old new) (changed_hold (λ p. is_path_of nodes p ≡ true) old new (have_paths nodes old all_old) (have_paths nodes new all_new)))
 
 pub datastores_sendable : DatastoresCanBeSent
-datastores_sendable nodes before after old new = rows_sendable nodes before after old.of_schema new.in_order new.of_schema
+datastores_sendable nodes before after old new = rows_sendable nodes after new.in_order new.of_schema before old.of_schema
 
 -- so can each edit of the record of a step
 pub record_sendable : SelectionsCanBeSent
 record_sendable nodes readable before after old new =
-    rows_sendable nodes (visible_rows readable before) (visible_rows readable after) (selection_of_schema nodes readable before old.of_schema) (selection_in_order readable after new.in_order) (selection_of_schema nodes readable after new.of_schema)
+    rows_sendable nodes (visible_rows readable after) (selection_in_order readable after new.in_order) (selection_of_schema nodes readable after new.of_schema) (visible_rows readable before) (selection_of_schema nodes readable before old.of_schema)

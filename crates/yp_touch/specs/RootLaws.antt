@@ -24,7 +24,7 @@ rooted_on above path (root ∷ roots) lower h =
     ] refl h
 
 -- one that passes a test is found
-found_one : (t : List Seg → Bool) (paths : List (List Seg)) → list_any t paths ≡ true → (path : List Seg) × (is_listed path paths ≡ true) × (t path ≡ true)
+pub found_one : (t : List Seg → Bool) (paths : List (List Seg)) → list_any t paths ≡ true → (path : List Seg) × (is_listed path paths ≡ true) × (t path ≡ true)
 found_one t [] h = absurd (true≢false (sym h))
 found_one t (path ∷ paths) h =
     elim (t path) as (λ b. t path ≡ b → (b || list_any t paths) ≡ true → (one : List Seg) × (is_listed one (path ∷ paths) ≡ true) × (t one ≡ true)) [

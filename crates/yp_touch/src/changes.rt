@@ -8,12 +8,16 @@ ghost use Rattle.yp_edit.specs.Changes.{changed_rows};
 ghost use Rattle.yp_edit.specs.Drafts.{is_covered};
 ghost use Rattle.yp_edit.specs.Records.{change_record};
 ghost use Rattle.yp_encode.specs.Sendable.{IsSendableChange};
+ghost use Rattle.yp_filter.specs.Fits.{filter_fits};
+ghost use Rattle.yp_filter.specs.View.{filter_view};
+ghost use Rattle.yp_select.specs.Selection.{selection};
 ghost use Rattle.yp_touch.specs.Roots.{kind_of, carried_below, row_edit, visits_at, record_visits};
 
+use crate::touched::Touched;
 use std::alloc::Global;
 use std::sync::ledger::Ledger;
 use yp_base::memory::{Duplicate, NoMemory};
-use yp_base::notice::{Change, ChangeKind, Changes};
+use yp_base::notice::{Change, ChangeKind, Changes, Kinds};
 use yp_base::path::{Path, is_prefix};
 use yp_base::row::Rows;
 use yp_base::series::Series;
@@ -128,4 +132,39 @@ pub fn record_of<R: Readable, L: Ledger>(
         }
     }
     Ok(Series::from_vec(changes))
+}
+
+/// The edits by which what a filter selects for a reader before a step becomes what it selects after it
+/// (RFC 8641 section 3.7), from the rows that the step changed. It counts the visits of `Touched::absorb`
+/// and `Touched::record`.
+pub fn record_of_step<R: Readable, L: Ledger>(
+    alloc: Global,
+    schema: &Schema,
+    filter: &Filter,
+    readable: &R,
+    before: &Tree,
+    after: &Tree,
+    changed: &[ChangedRow],
+    steps: &mut Steps<L>,
+) -> Result<Changes, NoMemory>
+    requires old { IsDatastore schema.now before.now }
+    requires new { IsDatastore schema.now after.now }
+    requires changed { changed.now ≡ changed_rows before.now after.now }
+    requires fits { filter_fits schema.now (filter_view filter.now) ≡ true }
+    ensures changes { IfOk result (λ changes. changes ≡ change_record (selection schema.now (filter_view filter.now) (R.may readable.now schema.now) before.now) (selection schema.now (filter_view filter.now) (R.may readable.now schema.now) after.now)) }
+    ensures sendable { IfOk result (λ changes. AllByRecursion (IsSendableChange schema.now) changes) }
+{
+    let none = Kinds {
+        create: false,
+        delete: false,
+        insert: false,
+        moved: false,
+        replace: false,
+    };
+    let mut touched = Touched::new(alloc);
+    touched.absorb(
+        alloc, schema, filter, readable, before, after, changed, steps,
+    )?;
+    let changes = touched.record(alloc, schema, filter, readable, after, &none, steps)?;
+    Ok(changes)
 }
