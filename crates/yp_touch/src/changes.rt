@@ -1,5 +1,5 @@
 //! The record of a step, from the rows that it changed.
-ghost use Rattle.std.specs.Prelude.{◌≡◌, ◌+◌, ◌≤◌, ◌&&◌, List, true, not, option_copied, IfOk, OnOk};
+ghost use Rattle.std.specs.Prelude.{◌≡◌, ◌+◌, ◌≤◌, ◌&&◌, [], List, true, not, option_copied, IfOk, OnOk};
 ghost use Rattle.std.specs.List.{AllByRecursion};
 ghost use Rattle.yp_base.specs.declared.row.Row.{Row};
 ghost use Rattle.yp_schema.specs.Datastore.{is_path_of, IsRowOf, IsDatastore};
@@ -11,6 +11,8 @@ ghost use Rattle.yp_encode.specs.Sendable.{IsSendableChange};
 ghost use Rattle.yp_filter.specs.Fits.{filter_fits};
 ghost use Rattle.yp_filter.specs.View.{filter_view};
 ghost use Rattle.yp_select.specs.Selection.{selection};
+ghost use Rattle.yp_touch.specs.Absorbed.{absorbed};
+ghost use Rattle.yp_touch.specs.Looked.{step_visits, window_visits};
 ghost use Rattle.yp_touch.specs.Roots.{kind_of, carried_below, row_edit, visits_at, record_visits};
 
 use crate::touched::Touched;
@@ -153,6 +155,7 @@ pub fn record_of_step<R: Readable, L: Ledger>(
     requires fits { filter_fits schema.now (filter_view filter.now) ≡ true }
     ensures changes { IfOk result (λ changes. changes ≡ change_record (selection schema.now (filter_view filter.now) (R.may readable.now schema.now) before.now) (selection schema.now (filter_view filter.now) (R.may readable.now schema.now) after.now)) }
     ensures sendable { IfOk result (λ changes. AllByRecursion (IsSendableChange schema.now) changes) }
+    ensures visits { OnOk result (steps.new ≤ steps.old + (step_visits schema.now (filter_view filter.now) before.now after.now changed.now + window_visits (filter_view filter.now) after.now (absorbed [] (selection schema.now (filter_view filter.now) (R.may readable.now schema.now) before.now) (selection schema.now (filter_view filter.now) (R.may readable.now schema.now) after.now)))) }
 {
     let none = Kinds {
         create: false,
