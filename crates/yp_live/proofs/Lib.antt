@@ -1,9 +1,9 @@
 pub mod Desks
+pub mod FeedLaws
 pub mod Held
 pub mod Journals
+pub mod Lines
 pub mod Promises
-pub mod Replies
 pub mod RunLaws
-pub mod Steps
-pub mod Tellings
+pub mod StepLaws
 pub mod TurnLaws

@@ -1,7 +1,10 @@
 pub mod Desks
+pub mod Feeds
 pub mod Journal
 pub mod Promise
 pub mod Readers
+pub mod Records
 pub mod Report
 pub mod Runs
+pub mod Selections
 pub mod Turns

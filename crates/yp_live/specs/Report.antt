@@ -12,14 +12,31 @@ use Rattle.yp_encode.specs.Lines.{line_of}
 use Rattle.yp_journal.specs.declared.entry.Entry.{Entry}
 use Rattle.yp_journal.specs.declared.receiver.ReceiverInfo.{ReceiverInfo}
 use Rattle.yp_journal.specs.declared.reply.Reply.{Reply}
-use Rattle.yp_journal.specs.declared.reply.Reply.TheVariants.{Id, Done, Denied, Edit}
+use Rattle.yp_journal.specs.declared.reply.Reply.TheVariants.{Id, Done, Registry, Edit}
+use Rattle.yp_registry.specs.declared.refused.Refused.{Refused}
+use Rattle.yp_registry.specs.declared.refused.Refused.TheVariants.{AccessDenied, EncodingUnsupported, DatastoreNotSubscribable, FilterUnsupported, PeriodUnsupported, InsufficientResources, Memory}
 use Rattle.yp_core.specs.declared.made.Made.{Made}
-use Rattle.yp_live.specs.declared.report.ReceiverReport.{ReceiverReport}
-use Rattle.yp_live.specs.declared.report.ReplyLine.{ReplyLine}
-use Rattle.yp_live.specs.declared.report.Report.{Report}
 use Rattle.yp_core.specs.Received.{received}
 
 -- ---- the value
+
+-- the reply to the command at a position, by its lane and its number there
+pub record ReplyLine : Type 0 where
+  pub position : ℕ
+  pub lane : ℕ
+  pub index : ℕ
+  pub reply : Reply
+
+-- what is told of a receiver: what it was sent, and what it holds of each subscription
+pub record ReceiverReport : Type 0 where
+  pub name : List ℕ
+  pub sent : List Made
+  pub trees : List (ℕ × List Row)
+
+-- the replies by position, and what is told of each receiver, in the order of their declaration
+pub record Report : Type 0 where
+  pub replies : List ReplyLine
+  pub receivers : List ReceiverReport
 
 -- the replies of entries, the first of which has this position
 abbrev pub reply_lines : ℕ → List Entry → List ReplyLine
@@ -53,10 +70,30 @@ abbrev pub path_member : Option (List ℕ) → Members
 path_member None = no_members
 path_member (Some text) = member (codes "path") (string text) no_members
 
+-- the word of a refusal; that memory ran out stands in no reply
+abbrev pub refusal_word : Refused → List ℕ
+refusal_word AccessDenied = codes "access-denied"
+refusal_word EncodingUnsupported = codes "encoding-unsupported"
+refusal_word DatastoreNotSubscribable = codes "datastore-not-subscribable"
+refusal_word FilterUnsupported = codes "filter-unsupported"
+refusal_word (PeriodUnsupported hint) = codes "period-unsupported"
+refusal_word InsufficientResources = codes "insufficient-resources"
+refusal_word Memory = codes "insufficient-resources"
+
+-- the shortest period, where the one that was asked for is too short (RFC 8641 section 4.4.2)
+abbrev pub hint_member : Refused → Members
+hint_member AccessDenied = no_members
+hint_member EncodingUnsupported = no_members
+hint_member DatastoreNotSubscribable = no_members
+hint_member FilterUnsupported = no_members
+hint_member (PeriodUnsupported hint) = member (codes "period-hint") (number (unsigned hint)) no_members
+hint_member InsufficientResources = no_members
+hint_member Memory = no_members
+
 abbrev pub reply_data : Reply → Data
 reply_data (Id id) = object (member (codes "id") (number (unsigned id)) no_members)
 reply_data Done = object (member (codes "ok") (boolean true) no_members)
-reply_data Denied = object (member (codes "error") (string (codes "access-denied")) no_members)
+reply_data (Registry refusal) = object (member (codes "error") (string (refusal_word refusal)) (hint_member refusal))
 reply_data (Edit edit_id tag path) = object (member (codes "edit-id") (string edit_id) (member (codes "error") (string (tag_word tag)) (path_member path)))
 
 -- the line of a reply

@@ -1,16 +1,17 @@
 //! What a receiver holds: the fold of its notices (RFC 8641 section 3.7).
-ghost use Rattle.std.specs.Prelude.{◌≡◌, [], IfOk, OnOk, map, unwrap_or};
+ghost use Rattle.std.specs.Prelude.{◌≡◌, ℕ, [], Bool, OnOk, unwrap_or};
 ghost use Rattle.std.specs.BTreeMap.{insert_entry};
 ghost use Rattle.std.specs.Ordering.{nat_cmp};
 ghost use Rattle.yp_base.specs.Rows.{put_rows, rows_without, changed_by};
-ghost use Rattle.yp_core.specs.Received.{held_of, heard, received};
+ghost use Rattle.yp_base.specs.declared.notice.Notice.TheVariants.{Full, Changes as ChangeUpdate};
+ghost use Rattle.yp_core.specs.Received.{held_of, heard};
 
 use std::alloc::Global;
 use std::collections::BTreeMap;
 use std::marker::Model;
 use yp_base::memory::NoMemory;
-use yp_base::notice::{Change, Notice};
-use yp_core::made::Made;
+use yp_base::notice::{Change, Changes};
+use yp_base::row::Rows;
 use yp_tree::tree::Tree;
 
 /// The rows that a receiver holds of each subscription that it had an update of. Contracts see the list
@@ -84,25 +85,22 @@ impl Holdings {
         self.set(id, rows)
     }
 
-    /// Hears a notice.
-    pub fn hear(&mut self, alloc: Global, notice: &Notice) -> Result<(), NoMemory>
-        ensures { OnOk result (self.new ≡ heard notice.now self.old) }
+    /// Hears a full update of a subscription.
+    pub fn hear_full(&mut self, alloc: Global, id: u32, rows: &Rows) -> Result<(), NoMemory>
+        ensures { OnOk result (self.new ≡ heard (Full id rows.now) self.old) }
     {
-        match notice {
-            Notice::Full { id, rows } => self.set(*id, Tree::of_rows(alloc, rows)?),
-            Notice::Changes { id, changes, .. } => self.change(alloc, *id, changes.items()),
-            _ => Ok(()),
-        }
+        self.set(id, Tree::of_rows(alloc, rows)?)
     }
-}
 
-/// What a receiver holds of all that it was sent.
-pub fn holdings_of(alloc: Global, sent: &[Made]) -> Result<Holdings, NoMemory>
-    ensures { IfOk result (λ holdings. holdings ≡ received [] sent.now) }
-{
-    let mut holdings = Holdings::new(alloc);
-    for made in sent {
-        holdings.hear(alloc, &made.notice)?;
+    /// Hears a change update of a subscription.
+    pub fn hear_changes(
+        &mut self,
+        alloc: Global,
+        id: u32,
+        changes: &Changes,
+    ) -> Result<(), NoMemory>
+        ensures { OnOk result ((patch_id : ℕ) (incomplete : Bool) → self.new ≡ heard (ChangeUpdate id patch_id changes.now incomplete) self.old) }
+    {
+        self.change(alloc, id, changes.items())
     }
-    Ok(holdings)
 }

@@ -3,21 +3,28 @@
 //! `script::report_of_script` is the one call: it takes the commands of a script in their order, and
 //! gives the text of the report, which tells of a legal journal of them and of all that each receiver is
 //! made by it (`specs/Promise.antt`). In between all is values: `turns` puts the commands in order, `run`
-//! takes them one after another, `updates` sends what a step makes to the `desk` of each receiver, `report`
-//! gathers replies, notices and what `holdings` makes of these, and `text` writes it down. Each receiver
-//! is told what its user may read (RFC 8341), by `readers`, and of what a patch changed there is one record
-//! for users with the same rules (`records`).
+//! takes them one after another, and `steps` tells what each of them makes. `feeds` has the live
+//! subscriptions, each for one of its receivers, and which of them have a full update; `updates` sends
+//! these, and `records` what a patch changed. What a filter selects (`selections`) and what a patch changed
+//! is made once, with its text, for all users with the same rules (`readers`, RFC 8341). The `desk` of each
+//! receiver keeps the lines that it is sent, and what it holds by them (`holdings`); `text` puts the report
+//! together.
 #![tactic(auto)]
 
 mod desk;
+mod feeds;
 mod holdings;
 mod moment;
+mod outbox;
 mod readers;
 mod records;
-mod report;
+mod replies;
 mod run;
 pub mod script;
+mod selections;
+mod setting;
+mod steps;
 mod text;
-mod told;
+mod trees;
 mod turns;
 mod updates;

@@ -4,8 +4,8 @@ ghost use Rattle.yp_script.specs.Lines.{line_limit};
 ghost use Rattle.yp_script.specs.Script.{script_in, MayRun, count_commands};
 ghost use Rattle.yp_live.specs.Promise.{Tells};
 
-use crate::report::report_of;
-use crate::run::run_turns;
+use crate::run::{Run, run_turns};
+use crate::setting::Setting;
 use crate::text::text_of;
 use crate::turns::serial_turns;
 use std::alloc::Global;
@@ -37,11 +37,20 @@ fn run_script<L: Ledger>(alloc: Global, script: Script, blank: Blank) -> Result<
     let mut steps = Steps::<L>::open(blank);
     let receivers = receivers.list(alloc)?;
     let turns = serial_turns(alloc, before, lanes, after)?;
-    let run = run_turns(alloc, &schema, receivers.items(), turns, &mut steps)?;
+    let setting = Setting {
+        schema: &schema,
+        start: &start,
+        receivers: receivers.items(),
+    };
+    let run = run_turns(alloc, &setting, turns, &mut steps)?;
     what_a_journal_makes_serves();
     what_a_journal_makes_can_be_sent();
-    let report = report_of(alloc, receivers.items(), run)?;
-    text_of(alloc, &schema, &start, &report, &mut steps)
+    let Run {
+        entries,
+        outbox,
+        ..
+    } = run;
+    text_of(alloc, &schema, entries, outbox.desks, &mut steps)
 }
 
 /// The text of the report of a script's run: the replies by position, then what each receiver was sent and

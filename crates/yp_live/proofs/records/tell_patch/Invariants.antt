@@ -1,18 +1,20 @@
-use Rattle.std.proofs.Common.{◌≡◌, List, length}
-use Rattle.yp_base.specs.declared.row.Row.{Row}
-use Rattle.yp_schema.specs.Datastore.{IsDatastore}
-use Rattle.yp_edit.specs.Changes.{changed_rows}
-use Rattle.yp_live.specs.declared.told.Told.TheVariants.{Changes}
-use Rattle.yp_live.specs.Desks.{sent_each, told_by, record_from, AreRecords}
-use Rattle.yp_live.proofs.Desks.{sent_so_far}
+use Rattle.std.proofs.Common.{◌≡◌, drop, length}
+use Rattle.std.specs.List.{flat_map}
+use Rattle.yp_journal.specs.History.{JournalState}
+use Rattle.yp_core.specs.Steps.{attempts_of_changes, changes_for}
+use Rattle.yp_live.specs.Desks.{sent}
+use Rattle.yp_live.specs.Feeds.{feeds_in, AreFeedsOf}
+use Rattle.yp_live.specs.Records.{AreRecords, IsPatchOf}
 use Rattle.yp_live.proofs.records.tell_patch.Given as goal
 
--- the receivers so far were sent theirs, and the records that were made are those of the patch
-abbrev pub invariant-loop-number : goal.invariant-loop-number
-invariant-loop-number g l = record {
-  count : length l.desks ≡ length l.fn.desks;
+-- what was sent and what is left to send are all, and the records that were made are those of the patch
+abbrev pub invariant-loop-feed : goal.invariant-loop-feed
+invariant-loop-feed g l = record {
+  count : length l.outbox.desks.items ≡ length l.moment.readers.now;
+  feeds : AreFeedsOf l.moment.schema.now (length l.moment.readers.now) (feeds_in (drop l.feed-index l.feed-items));
   records : AreRecords l.moment.schema.now l.moment.state.now l.changed l.records.items;
-  sent : (before : List Row) → IsDatastore l.moment.schema.now before → l.changed ≡ changed_rows before l.moment.state.now.rows
-      → sent_so_far (λ number. told_by l.moment.state.now number (Changes (record_from l.moment.schema.now l.moment.state.now number before)) l.moment.state.now.subscriptions) l.number l.desks
-      ≡ sent_each (λ number. told_by l.moment.state.now number (Changes (record_from l.moment.schema.now l.moment.state.now number before)) l.moment.state.now.subscriptions) 0 l.fn.desks;
+  selections : l.outbox.selections ≡ l.fn.outbox.selections;
+  sent : (before : JournalState) → IsPatchOf l.moment.schema.now before l.moment.state.now l.changed
+      → sent l.moment.schema.now l.moment.start.now (flat_map (changes_for l.moment.schema.now before l.moment.state.now) (feeds_in (drop l.feed-index l.feed-items))) l.outbox.desks.items
+      ≡ sent l.moment.schema.now l.moment.start.now (attempts_of_changes l.moment.schema.now before l.moment.state.now) l.fn.outbox.desks.items;
 }

@@ -1,27 +1,36 @@
-use Rattle.std.proofs.Common.{◌≡◌, ◌∷◌, ◌++◌, [], List, refl, sym, ap, ◌∙◌}
+use Rattle.std.proofs.Common.{◌≡◌, ◌∷◌, ◌++◌, [], List, refl, sym, ap, subst, ◌∙◌}
 use Rattle.yp_journal.specs.declared.entry.Entry.{Entry}
 use Rattle.yp_journal.specs.declared.receiver.ReceiverInfo.{ReceiverInfo}
-use Rattle.yp_journal.specs.History.{JournalState, first_state}
-use Rattle.yp_core.specs.Updates.{attempts_at, made_for}
+use Rattle.yp_journal.specs.History.{JournalState, first_state, MayCome}
+use Rattle.yp_core.specs.Updates.{attempts_at}
 use Rattle.yp_live.specs.declared.run.Run.{Run}
-use Rattle.yp_live.specs.Desks.{sent_each}
+use Rattle.yp_live.specs.Desks.{sent}
 use Rattle.yp_live.specs.Readers.{rules_of_each}
 use Rattle.yp_live.specs.Runs.{IsStep}
+use Rattle.yp_live.specs.Selections.{AreSelected}
 use Rattle.yp_live.proofs.RunLaws.{desks_length, follows, run_on}
 use Rattle.yp_live.proofs.run.run_turn.Goals as goal
 
 pub tell_step-requires-clause-step : goal.tell_step-requires-clause-step
 tell_step-requires-clause-step g c =
-    let run : Run = c.args.run.now in
-    (run.state, record { fits = c.requires.run.fits; declared = c.requires.run.declared; rules = c.requires.run.rules; may = c.requires.may; state = c.in_ok-outcome.ensures.state; reply = c.in_ok-outcome.ensures.reply; changed = c.in_ok-outcome.ensures.changed })
+    let run : Run = c.args.run.now in (
+      run.state,
+      record { fits = c.requires.run.fits; declared = c.requires.run.declared; rules = c.requires.run.rules; may = c.requires.may; state = c.in_ok-outcome.ensures.state; reply = c.in_ok-outcome.ensures.reply; changed = c.in_ok-outcome.ensures.changed },
+      c.requires.run.selections,
+      c.stamp-before.ensures.value,
+    )
 
 pub tell_step-requires-clause-desks : goal.tell_step-requires-clause-desks
-tell_step-requires-clause-desks g c = desks_length c.args.schema.now c.args.receivers.now c.args.run.now c.requires.run
+tell_step-requires-clause-desks g c =
+    let setting = c.args.setting.now in
+    desks_length setting.schema.now setting.start.now setting.receivers.now c.args.run.now c.requires.run
 
 pub returns-clause-run : goal.returns-clause-run
 returns-clause-run g c =
-    let nodes = c.args.schema.now in
-    let receivers : List ReceiverInfo = c.args.receivers.now in
+    let setting = c.args.setting.now in
+    let nodes = setting.schema.now in
+    let start = setting.start.now in
+    let receivers : List ReceiverInfo = setting.receivers.now in
     let run : Run = c.args.run.now in
     let turn = c.args.turn in
     let is = c.requires.run in
@@ -33,12 +42,13 @@ returns-clause-run g c =
     let entries : c.push.new.self.items ≡ run.entries.items ++ entry ∷ [] = c.in_ok-push.ensures.items ∙ ap (λ (kept : List Entry). kept ++ entry ∷ []) (ap (λ es. es.items) c.tell_step.ensures.entries) in
     let step : IsStep nodes receivers run.readers run.state turn.command c.in_ok-outcome.outcome c.accept.new.self =
     record { fits = is.fits; declared = is.declared; rules = is.rules; may = c.requires.may; state = c.in_ok-outcome.ensures.state; reply = c.in_ok-outcome.ensures.reply; changed = c.in_ok-outcome.ensures.changed } in
-    run_on nodes receivers run after turn entry is
-    (c.a_journal_keeps_its_state.ensures.command nodes run.state turn.command is.fits)
+    run_on nodes start receivers run after turn entry is
+    (c.a_journal_keeps_its_state.ensures.command nodes run.state turn.command (subst (λ (rs : List ReceiverInfo). MayCome nodes rs turn.command) (sym is.declared) c.requires.may) is.fits)
     (c.a_journal_goes_on_entry_by_entry.ensures.entries nodes first run.entries.items entry)
     (c.a_journal_goes_on_entry_by_entry.ensures.receivers nodes first (run.entries.items ++ entry ∷ []))
-    (c.a_legal_journal_goes_on.ensures.legal_more nodes first run.entries.items entry is.legal (follows nodes receivers run turn entry is c.requires.may refl c.in_ok-outcome.ensures.reply (c.in_ok-outcome.ensures.stamp ∙ ap (λ (s : JournalState). s.stamp) c.in_ok-outcome.ensures.state)))
+    (c.a_legal_journal_goes_on.ensures.legal_more nodes first run.entries.items entry is.legal (follows nodes start receivers run turn entry is c.requires.may refl c.in_ok-outcome.ensures.reply (c.in_ok-outcome.ensures.stamp ∙ ap (λ (s : JournalState). s.stamp) c.in_ok-outcome.ensures.state)))
     (λ receiver. c.what_a_journal_makes_goes_on.ensures.more nodes receivers run.entries.items entry receiver)
     (stays ∙ c.in_ok-outcome.ensures.state) refl entries
     (c.in_ok-tell_step.ensures.readers ∙ ap (λ (s : JournalState). rules_of_each s.policy receivers) (sym stays))
-    (c.in_ok-tell_step.ensures.desks run.state step ∙ ap (λ (s : JournalState). sent_each (λ receiver. made_for receiver (attempts_at nodes run.state s)) 0 run.desks.items) (sym stays))
+    (subst (λ (s : JournalState). AreSelected nodes s told.outbox.selections.items) (sym stays) c.in_ok-tell_step.ensures.selections)
+    (c.in_ok-tell_step.ensures.desks run.state step c.stamp-before.ensures.value ∙ ap (λ (s : JournalState). sent nodes start (attempts_at nodes run.state s) run.outbox.desks.items) (sym stays))

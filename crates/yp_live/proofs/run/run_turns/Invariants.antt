@@ -9,8 +9,8 @@ use Rattle.yp_live.proofs.run.run_turns.Given as goal
 -- the turns so far and those that are left are all
 abbrev pub invariant-loop-turn : goal.invariant-loop-turn
 invariant-loop-turn g l = record {
-  run : IsRun l.schema l.receivers l.run;
-  may : AllByRecursion (MayTake l.schema l.receivers) (into_iter_items l.turn-iterator);
+  run : IsRun l.setting.schema.now l.setting.start.now l.setting.receivers.now l.run;
+  may : AllByRecursion (MayTake l.setting.schema.now l.setting.receivers.now) (into_iter_items l.turn-iterator);
   position : l.run.state.position + length (into_iter_items l.turn-iterator) ≡ length l.fn.turns.items;
   turns : map turn_of l.run.entries.items ++ into_iter_items l.turn-iterator ≡ l.fn.turns.items;
 }

@@ -1,0 +1,18 @@
+use Rattle.std.proofs.Common.{rules, ◌≡◌, ◌++◌, length, sym, ap, subst, ◌∙◌}
+use Rattle.std.specs.Prelude.{filter}
+use Rattle.std.specs.Vec.Iter.{into_iter_items}
+use Rattle.yp_core.specs.Updates.{Feed, all_feeds, is_due_between}
+use Rattle.yp_live.specs.Feeds.{feeds_in, AreFeedsOf}
+use Rattle.yp_live.proofs.FeedLaws.{of_moment}
+use Rattle.yp_live.proofs.feeds.due_feeds.Goals as goal
+
+pub loop-feed-init : goal.loop-feed-init
+loop-feed-init c =
+    let moment = c.args.moment.now in
+    let state = moment.state.now in
+    let gives : into_iter_items c.into_iter-feed-iterator.result ≡ c.in_ok-feed-items.feed-items.items = search rules in
+    let all : feeds_in (into_iter_items c.into_iter-feed-iterator.result) ≡ all_feeds state = ap feeds_in gives ∙ c.in_ok-feed-items.ensures in
+    record {
+      feeds = subst (AreFeedsOf moment.schema.now (length moment.readers.now)) (sym all) (of_moment moment.schema.now state moment.readers.now c.requires.moment);
+      due = λ i. feeds_in (c.new-due.ensures.items i) ++ filter (λ (feed : Feed). is_due_between feed.terms.trigger c.args.first state.stamp) (all i);
+    }

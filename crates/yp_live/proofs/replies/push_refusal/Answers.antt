@@ -1,0 +1,37 @@
+use Rattle.std.proofs.Common.{◌≡◌, ℕ, List, ◌++◌, sym, ap, ◌∙◌, refl, codes, string_bytes}
+use Rattle.std.specs.Prelude.{Result, Ok, Err, OnOk, is_ok, if◌then◌else◌}
+use Rattle.json.specs.Print.{escape_byte}
+use Rattle.serde_json.specs.Written.{compact_text}
+use Rattle.yp_registry.specs.declared.refused.Refused.{Refused}
+use Rattle.yp_registry.specs.declared.refused.Refused.TheVariants.{AccessDenied, DatastoreNotSubscribable}
+use Rattle.yp_journal.specs.declared.reply.Reply.TheVariants.{Registry}
+use Rattle.yp_live.specs.Report.{reply_data}
+use Rattle.yp_live.proofs.replies.push_refusal.Goals as goal
+
+denied : compact_text (reply_data (Registry AccessDenied)) ≡ codes "{\"error\":\"access-denied\"}"
+unfolding escape_byte
+denied = refl
+
+elsewhere : compact_text (reply_data (Registry DatastoreNotSubscribable)) ≡ codes "{\"error\":\"datastore-not-subscribable\"}"
+unfolding escape_byte
+elsewhere = refl
+
+told_as : (old text : List ℕ) (refusal one : Refused) → refusal ≡ one → compact_text (reply_data (Registry one)) ≡ text → old ++ text ≡ old ++ compact_text (reply_data (Registry refusal))
+told_as old text refusal one is told = ap (λ (x : List ℕ). old ++ x) (sym told ∙ ap (λ (r : Refused). compact_text (reply_data (Registry r))) (sym is))
+
+pushed : {X E : Type 0} (result : Result X E) (new old text wanted : List ℕ) → new ≡ (if is_ok result then old ++ text else old) → old ++ text ≡ wanted → OnOk result (new ≡ wanted)
+pushed (Ok x) new old text wanted is told = is ∙ told
+pushed (Err e) new old text wanted is told = tt
+
+pub returns-in-AccessDenied : goal.returns-in-AccessDenied
+returns-in-AccessDenied c =
+    let old = string_bytes c.args.text.now in
+    let text = codes "{\"error\":\"access-denied\"}" in
+    pushed c.push_str.result (string_bytes c.push_str.new.self) old text (old ++ compact_text (reply_data (Registry c.args.refusal))) c.push_str.ensures.bytes (told_as old text c.args.refusal AccessDenied c.in-AccessDenied.is denied)
+
+pub returns-in-DatastoreNotSubscribable : goal.returns-in-DatastoreNotSubscribable
+returns-in-DatastoreNotSubscribable c =
+    let old = string_bytes c.args.text.now in
+    let text = codes "{\"error\":\"datastore-not-subscribable\"}" in
+    pushed c.push_str-in-DatastoreNotSubscribable.result (string_bytes c.push_str-in-DatastoreNotSubscribable.new.self) old text (old ++ compact_text (reply_data (Registry c.args.refusal)))
+    c.push_str-in-DatastoreNotSubscribable.ensures.bytes (told_as old text c.args.refusal DatastoreNotSubscribable c.in-DatastoreNotSubscribable.is elsewhere)
