@@ -1,4 +1,4 @@
-"""What access control costs, by scripts that differ in one thing alone."""
+"""What access control and subscriptions cost, by scripts that differ in one thing alone."""
 
 from __future__ import annotations
 
@@ -12,19 +12,20 @@ from measuring import MADE, RUNS, Cost, Limit, best, held, line, made, run_once
 class Comparing:
     """The ratio of two costs, each that of a script, or of what a script has over another.
 
-    A cost is named by the words of make_access.py: `renewed-fulls` is what `renewed` takes over `fulls`.
+    A cost is named by the words of a maker: ("renewed", "fulls") is what `renewed` takes over `fulls`.
     """
 
     name: str
     cost: tuple[str, ...]
     beside: tuple[str, ...]
     most_ratio: float
+    maker: str = "make_access.py"
 
     def measure(self, program: pathlib.Path) -> dict[str, Cost]:
         """By shape what the program took; all scripts take turns, so that a ratio is fair."""
         output = MADE / "output"
         shapes = sorted({*self.cost, *self.beside})
-        scripts = {shape: made(f"access {shape}", "make_access.py", [shape]) for shape in shapes}
+        scripts = {shape: made(f"comparing {shape}", self.maker, shape.split()) for shape in shapes}
         runs: dict[str, list[Cost]] = {shape: [] for shape in shapes}
         for _ in range(RUNS):
             for shape, script in scripts.items():

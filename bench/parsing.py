@@ -18,14 +18,14 @@ class Parsing:
     """A script of some size, beside the floor (crates/parse_floor): a program that parses the same script's lines,
     and parses and writes again the lines of its report, by the same JSON reader and writer.
 
-    Where `is_judged`, the script may take three times the floor's time, and as much memory as six times script
-    and report together.
+    The script may take `most_over_floor` times the floor's time, and as much memory as six times script and report
+    together.
     """
 
     name: str
     maker: str
     words: list[str] = field(default_factory=list)
-    is_judged: bool = True
+    most_over_floor: float = MOST_OVER_FLOOR
 
     def measure(self, program: pathlib.Path) -> tuple[int, Cost, Cost | None]:
         """The bytes of script and report, and what the program and the floor took, in turns."""
@@ -47,7 +47,7 @@ class Parsing:
             yield f"{self.name}: the time over the floor's is NOT MEASURED, since {UNBUILT}", False
         else:
             over = cost.processors / floor.processors
-            yield held(f"{self.name}: the time over the floor's is", over, MOST_OVER_FLOOR)
+            yield held(f"{self.name}: the time over the floor's is", over, self.most_over_floor)
         memory = cost.memory * MIB / size
         yield held(f"{self.name}: the memory over the bytes of script and report is", memory, MOST_MEMORY)
 
@@ -55,4 +55,4 @@ class Parsing:
         """Writes the line of the workload; gives what came of its limits."""
         size, cost, floor = self.measure(program)
         print(line(self.name, size, cost, None, floor), flush=True)
-        return list(self.limits(size, cost, floor)) if self.is_judged else []
+        return list(self.limits(size, cost, floor))

@@ -25,7 +25,7 @@ GROUPS = (
     '{"path":"/acme:groups/group","kind":"list","keys":["id"]},'
     '{"path":"/acme:groups/group/id","kind":"leaf","type":"uint16"},'
     '{"path":"/acme:groups/group/member","kind":"leaf-list","type":"uint8"}]}\n')
-TOO_LONG, NOT_JSON, UNKNOWN_COMMAND, MEMBER, IN_SCHEMA, IN_POLICY, LIMIT = 1, 2, 3, 4, 5, 6, 9
+TOO_LONG, NOT_JSON, MEMBER, IN_SCHEMA, IN_POLICY, LIMIT = 1, 2, 4, 5, 6, 9
 FIRST_ID = 2_147_483_648
 
 
@@ -91,6 +91,12 @@ def subscribed(count: int = 1, data: object = None, *, before: str = "", past: i
     sent = "".join(full("r1", number, data) for number in ids)
     trees = "".join(tree("r1", number, data) for number in ids)
     return f"{before}{replies}{sent}{trees}end\n".encode()
+
+
+def after_replies(report: bytes, more: str) -> bytes:
+    """The report with one more reply behind those that it has."""
+    replies, sent, rest = report.decode().partition("to r1 ")
+    return f"{replies}{more}{sent}{rest}".encode()
 
 
 NOTHING = b"end\n"
@@ -175,9 +181,11 @@ def many_receivers() -> Iterator[tuple[str, bytes, Wanted]]:
     yield "a receiver again after 16", (sixteen + receiver("n" * 16, "u", 32)).encode(), (19, MEMBER)
     many = START + SCHEMA + receiver("r1") + establish() * 256
     yield "256 subscriptions", many.encode(), subscribed(256)
-    yield "257 subscriptions", (many + establish()).encode(), (260, UNKNOWN_COMMAND)
-    laned = '{"lanes":1}\n{"lane":1,"do":' + establish().strip() + "}\n"
-    yield "257 subscriptions, the last in a lane", (many + laned).encode(), (261, UNKNOWN_COMMAND)
+    full_registry = '{"error":"insufficient-resources"}'
+    yield "257 subscriptions", (many + establish()).encode(), after_replies(subscribed(256), reply(257, full_registry))
+    laned = '{"lanes":1}\n{"lane":1,"do":' + establish().strip() + '}\n{"join":true}\n'
+    wanted = after_replies(subscribed(256), reply(257, full_registry, lane=1, number=1))
+    yield "257 subscriptions, the last in a lane", (many + laned).encode(), wanted
 
 
 def long_keys() -> Iterator[tuple[str, bytes, Wanted]]:
