@@ -8,8 +8,10 @@ pub mod Ends
 pub mod Items
 pub mod Keeping
 pub mod Refusals
+pub mod Renewals
 pub mod Splitting
 pub mod Taking
 pub mod Touching
 pub mod Trials
+pub mod Turning
 pub mod Walking

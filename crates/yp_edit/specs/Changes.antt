@@ -52,3 +52,7 @@ paths_of_both old new = map path_of (put_rows new old)
 -- the rows that differ, in the order of their paths, once each
 abbrev pub changed_rows : List Row → List Row → List ChangedRow
 changed_rows old new = filter_map (row_change old new) (paths_of_both old new)
+
+-- a change the other way round
+abbrev pub turned : ChangedRow → ChangedRow
+turned change = record { path = change.path; old = change.new; new = change.old }

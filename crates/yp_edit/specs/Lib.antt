@@ -8,5 +8,6 @@ pub mod Drafts
 pub mod PatchLaws
 pub mod Patches
 pub mod Records
+pub mod Renewals
 pub mod Shapes
 pub mod WindowLaws

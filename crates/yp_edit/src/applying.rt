@@ -106,6 +106,6 @@ pub fn apply<L: Ledger>(
     a_patch_keeps_a_datastore();
     let _rows = tree.len();
     let changed = changes_of(alloc, schema, tree, patch, steps)?;
-    commit(alloc, tree, &changed)?;
+    commit(alloc, tree, &changed, steps)?;
     Ok(changed)
 }

@@ -6,11 +6,18 @@ ghost use Rattle.yp_base.specs.Rows.{put_rows};
 ghost use Rattle.yp_edit.specs.Commits.{added_row, given_row, given_value, set_rows, without_missing, Differ, KeepsOthers};
 
 use crate::changed::Changed;
+use crate::renewal::renewed;
 use std::alloc::Global;
+use std::sync::ledger::Ledger;
 use yp_base::memory::{Duplicate, NoMemory};
 use yp_base::row::{Row, Rows, Value};
 use yp_base::series::Series;
+use yp_base::steps::Steps;
 use yp_tree::tree::Tree;
+
+// Where the rows of a tree are at most so many times the changes, the tree is made again; else its rows are
+// changed one by one.
+const SHARE: usize = 4;
 
 /// Copies of the new rows of the paths that had none.
 fn added_rows(alloc: Global, changed: &Changed) -> Result<Rows, NoMemory>
@@ -89,10 +96,10 @@ fn take_out(tree: &mut Tree, changed: &Changed)
     }
 }
 
-/// Makes changes of a tree's rows. What takes memory comes first: the rows of new paths and the new values
-/// of the others are copied, and then the rows are put, and taken out again where it runs out. After
-/// `NoMemory` the tree is as it was.
-pub fn commit(alloc: Global, tree: &mut Tree, changed: &Changed) -> Result<(), NoMemory>
+/// Makes changes of a tree's rows, path by path. What takes memory comes first: the rows of new paths and
+/// the new values of the others are copied, and then the rows are put, and taken out again where it runs
+/// out. After `NoMemory` the tree is as it was.
+fn change_rows(alloc: Global, tree: &mut Tree, changed: &Changed) -> Result<(), NoMemory>
     requires { (after : List Row) × Differ changed.now tree.old after }
     ensures made { OnOk result (Differ changed.now tree.old tree.new) }
     ensures unchanged { OnErr result (tree.new ≡ tree.old) }
@@ -108,4 +115,22 @@ pub fn commit(alloc: Global, tree: &mut Tree, changed: &Changed) -> Result<(), N
     give(tree, changed, given);
     take_out(tree, changed);
     Ok(())
+}
+
+/// Makes changes of a tree's rows. After `NoMemory` the tree is as it was.
+pub fn commit<L: Ledger>(
+    alloc: Global,
+    tree: &mut Tree,
+    changed: &Changed,
+    steps: &mut Steps<L>,
+) -> Result<(), NoMemory>
+    requires { (after : List Row) × Differ changed.now tree.old after }
+    ensures made { OnOk result (Differ changed.now tree.old tree.new) }
+    ensures unchanged { OnErr result (tree.new ≡ tree.old) }
+{
+    if tree.len() / SHARE <= changed.len() {
+        *tree = renewed(alloc, tree, changed, steps)?;
+        return Ok(());
+    }
+    change_rows(alloc, tree, changed)
 }

@@ -14,3 +14,5 @@ mod reasons;
 pub mod refused;
 pub mod registry;
 pub mod terms;
+#[cfg(test)]
+mod tests;

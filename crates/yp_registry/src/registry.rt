@@ -84,6 +84,17 @@ impl Registry {
         }
     }
 
+    /// The registry of these receivers after so many ids were given, of which none is live any more.
+    #[cfg(test)]
+    pub(crate) fn after(alloc: Global, users: Names, names: Names, given: u32) -> Registry {
+        Registry {
+            users,
+            names,
+            given,
+            live: Vec::new(alloc),
+        }
+    }
+
     /// Establishes a dynamic subscription for the receiver of this number at this tick (RFC 8639 section
     /// 2.4.2, RFC 8641 section 4.4.1), and gives its id. The call is refused where its user may not make it,
     /// where the encoding isn't JSON, the datastore isn't the operational one, the filter can't be read or

@@ -3,7 +3,7 @@ use Rattle.std.specs.List.{filter_map}
 use Rattle.yp_base.specs.declared.row.Row.{Row}
 use Rattle.yp_edit.specs.Commits.{KeepsOthers, given_row, set_rows, without_missing}
 use Rattle.yp_edit.proofs.Committing.{all_made, taken_back, new_value}
-use Rattle.yp_edit.proofs.commit.commit.Goals as goal
+use Rattle.yp_edit.proofs.commit.change_rows.Goals as goal
 
 pub returns-in-Err-clause-unchanged : goal.returns-in-Err-clause-unchanged
 returns-in-Err-clause-unchanged c =
