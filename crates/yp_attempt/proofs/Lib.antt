@@ -1,0 +1,12 @@
+pub mod Lists
+pub mod Owners
+pub mod Offers
+pub mod Replays
+pub mod OwnRuns
+pub mod OwnAttempts
+pub mod AlikeRuns
+pub mod Looks
+pub mod WorkerSteps
+pub mod StepLaws
+pub mod Ids
+pub mod Examples

@@ -1,0 +1,24 @@
+-- What feeds know of rows: the record of a window of selections, and its size (RFC 8641 sections 3.7 and 3.9).
+use Rattle.std.specs.Prelude.{◌≡◌, ℕ, ◌<◌, true, List, [], ◌∷◌}
+use Rattle.yp_base.specs.declared.row.Row.{Row}
+use Rattle.yp_base.specs.declared.notice.Change.{Change}
+use Rattle.yp_base.specs.declared.notice.Kinds.{Kinds}
+use Rattle.yp_feed.specs.Machine.{excludes_none}
+
+-- of a window, its first selection and the later ones: the number of changed places, and the record without edits of excluded kinds; the number of edits of a record; the rows that a receiver has after a record
+pub record Content : Type 0 where
+  pub roots : List Row → List (List Row) → ℕ
+  pub window_record : Kinds → List Row → List (List Row) → List Change
+  pub edits : List Change → ℕ
+  pub received : List Row → List Change → List Row
+
+-- the last selection of a window
+abbrev pub last_of : List Row → List (List Row) → List Row
+last_of first [] = first
+last_of first (next ∷ later) = last_of next later
+
+-- where no kind is excluded, a record leads from the first selection to the last, and has an edit where a place changed; in one selection alone no place changed
+pub record IsLawful (c : Content) : Type 0 where
+  pub leads : (kinds : Kinds) → excludes_none kinds ≡ true → (first : List Row) (later : List (List Row)) → c.received first (c.window_record kinds first later) ≡ last_of first later
+  pub still : (first : List Row) → c.roots first [] ≡ 0
+  pub edited : (kinds : Kinds) → excludes_none kinds ≡ true → (first : List Row) (later : List (List Row)) → 0 < c.roots first later → 0 < c.edits (c.window_record kinds first later)
