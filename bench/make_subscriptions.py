@@ -5,12 +5,20 @@
     make_subscriptions.py bare N       the same without a subscription
     make_subscriptions.py feeds N      256 periodic subscriptions of one filter over N entries: 20 updates each
     make_subscriptions.py whole N      a periodic subscription of everything over N entries of four rows: 40 updates
+    make_subscriptions.py idle N       2,000 patches, each of one counter among N entries, without a subscription
+    make_subscriptions.py alike N      the same with 64 subscriptions on change of one filter that doesn't select counters
+    make_subscriptions.py apart N      the same with 64 subscriptions on change, each of another entry by its key
+    make_subscriptions.py counted N    the same with 4 subscriptions on change of the counters of enabled entries
+    make_subscriptions.py toggled N    2,000 patches, each of which enables or disables an entry, with 4 such
+                                       subscriptions of enabled entries, so that each patch has one enter or leave
 
-Before each update a patch changes one leaf. A tick meets what is due of all subscriptions.
+With `before-` before its name a shape of the last five ends before its patches. Before each update of the others a
+patch changes one leaf, and a tick meets what is due of all subscriptions.
 """
 
 from __future__ import annotations
 
+import functools
 import sys
 from collections.abc import Callable, Iterator
 from typing import Any
@@ -22,6 +30,8 @@ from names import escaped, interface_name
 Line = dict[str, Any]
 PERIOD = 100
 FEEDS = 256
+FOLLOWERS = 64
+PATCHES = 2_000
 
 
 def device(count: int) -> Iterator[Line]:
@@ -39,11 +49,36 @@ def of_entry(inner: Line) -> Line:
     return {"datastore-subtree-filter": {"acme:interfaces": {"interface": [inner]}}}
 
 
+def on_change(terms: Line) -> Line:
+    return {"establish": {"by": RECEIVER, "datastore": "ietf-datastores:operational", **terms, "on-change": {}}}
+
+
+def counter(number: int, count: int) -> tuple[str, str, Line]:
+    """An edit of one counter."""
+    name = interface_name(number * 7 % count)
+    return "replace", f"/acme:interfaces/interface={escaped(name)}/stats/in", {"acme:in": str(1_000_000 + number)}
+
+
+def switch(number: int, count: int) -> tuple[str, str, Line]:
+    """An edit that disables an enabled entry, or enables a disabled one."""
+    place = number % count
+    enabled = (place % 2 == 0) != (number // count % 2 == 0)
+    return "replace", f"/acme:interfaces/interface={escaped(interface_name(place))}/enabled", {"acme:enabled": enabled}
+
+
+def followed(asked: list[Line], edit: Callable[[int, int], tuple[str, str, Line]]) -> Callable[[int, bool], Iterator[Line]]:
+    """A device of so many entries with subscriptions, and patches of one edit where they are wanted."""
+    def lines(count: int, patched: bool) -> Iterator[Line]:
+        yield from device(count)
+        yield from asked
+        for number in range(PATCHES if patched else 0):
+            yield patch(number, [edit(number, count)])
+    return lines
+
+
 def ticks(count: int, updates: int) -> Iterator[Line]:
     for number in range(updates):
-        name = interface_name(number * 7 % count)
-        target = f"/acme:interfaces/interface={escaped(name)}/stats/in"
-        yield patch(number, [("replace", target, {"acme:in": str(1_000_000 + number)})])
+        yield patch(number, [counter(number, count)])
         yield {"tick": PERIOD * (number + 1)}
 
 
@@ -72,11 +107,21 @@ def whole(count: int) -> Iterator[Line]:
     yield from ticks(count, 40)
 
 
+ENABLED = of_entry({"enabled": True, "mtu": [None]})
+FOLLOWED: dict[str, Callable[[int, bool], Iterator[Line]]] = {
+    "idle": followed([], counter),
+    "alike": followed([on_change(ENABLED)] * FOLLOWERS, counter),
+    "apart": followed([on_change(of_entry({"name": interface_name(2 * number), "mtu": [None]})) for number in range(FOLLOWERS)], counter),
+    "counted": followed([on_change(of_entry({"enabled": True, "stats": [None]}))] * 4, counter),
+    "toggled": followed([on_change(of_entry({"enabled": True}))] * 4, switch),
+}
 SHAPES: dict[str, Callable[[int], Iterator[Line]]] = {
     "keyed": lambda count: keyed(count, True),
     "bare": lambda count: keyed(count, False),
     "feeds": feeds,
     "whole": whole,
+    **{name: functools.partial(lines, patched=True) for name, lines in FOLLOWED.items()},
+    **{f"before-{name}": functools.partial(lines, patched=False) for name, lines in FOLLOWED.items()},
 }
 
 

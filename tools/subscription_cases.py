@@ -197,7 +197,7 @@ class Subscribing(Drawing):
         refusals += ["encoding-unsupported"] * (asked.get("encoding") == "encode-xml")
         refusals += ["datastore-not-subscribable"] * (asked["datastore"] != OPERATIONAL)
         period = 0 if draw.random() < 0.3 else draw.choice([10, 10, 11, 25, 100, 1_000, 4_294_967_295, 9])
-        kind = draw.randrange(10) if period else draw.choice([0, 9])
+        kind = draw.randrange(10)
         if kind == 9:
             asked["datastore-xpath-filter"] = "/acme:ports"
         elif kind == 8:

@@ -1,29 +1,25 @@
 -- What commands leave fits.
-use Rattle.std.proofs.Common.{◌≡◌, ℕ, ◌<◌, ◌≤◌, List, [], ◌∷◌, length, map, Option, Some, None, refl, sym, ap, ◌∙◌, subst, arith}
+use Rattle.std.proofs.Common.{◌≡◌, ℕ, ◌<◌, ◌≤◌, List, [], ◌∷◌, length, map, refl, sym, ap, ◌∙◌, subst, arith}
 use Rattle.std.specs.List.{AllByRecursion}
 use Rattle.std.proofs.lemmas.List.{length-map}
-use Rattle.yp_base.specs.declared.notice.Trigger.{Trigger}
-use Rattle.yp_base.specs.declared.notice.Trigger.TheVariants.{Periodic, OnChange}
 use Rattle.yp_schema.specs.declared.schema.SchemaNode.{SchemaNode}
 use Rattle.yp_schema.specs.WellFormed.{IsSchema}
 use Rattle.yp_nacm.specs.declared.policy.Policy.{Policy}
 use Rattle.yp_registry.specs.declared.ask.Ask.{Ask}
-use Rattle.yp_registry.specs.declared.ask.FilterAsk.{FilterAsk}
-use Rattle.yp_registry.specs.declared.refused.Refused.{Refused}
 use Rattle.yp_registry.specs.Ids.{HasRisingIds}
-use Rattle.yp_registry.specs.Registry.{Subscriptions, IsRegistryOf, asked_for, established, first_refusal, no_subscriptions, reasons_against, terms_for}
-use Rattle.yp_registry.specs.Terms.{Terms, AreTermsOf, HasAnchor, with_anchor}
+use Rattle.yp_registry.specs.Registry.{Subscriptions, IsRegistryOf, established, no_subscriptions}
+use Rattle.yp_registry.specs.Terms.{Terms, AreTermsOf, HasAnchor}
 use Rattle.yp_time.specs.Ticks.{tick_limit}
 use Rattle.yp_journal.specs.declared.command.Command.{Command}
 use Rattle.yp_journal.specs.declared.command.Command.TheVariants.{Tick, Edit, Rules, Establish}
 use Rattle.yp_journal.specs.declared.entry.Entry.{Entry}
 use Rattle.yp_journal.specs.declared.receiver.ReceiverInfo.{ReceiverInfo}
-use Rattle.yp_journal.specs.History.{JournalState, first_state, next_state, state_of, IsServed, MayCome, IsLegal}
-use Rattle.yp_journal.specs.JournalLaws.{all_selected, next_users, opening_datastore, receivers_stay, CommandsKeepDatastores}
-use Rattle.yp_core.specs.States.{Fits, HasNoFilter, HaveOwners, IsServedBy}
+use Rattle.yp_journal.specs.History.{JournalState, first_state, next_state, state_of, MayCome, IsLegal}
+use Rattle.yp_journal.specs.JournalLaws.{next_users, opening_datastore, receivers_stay, CommandsKeepDatastores}
+use Rattle.yp_core.specs.States.{Fits, HaveOwners}
 use Rattle.yp_core.specs.Updates.{all_feeds}
-use Rattle.yp_core.proofs.Each.{all_joined, all_weaker}
-use Rattle.yp_core.proofs.Feeds.{added, each_feed, live_next, where_given}
+use Rattle.yp_core.proofs.Each.{all_weaker}
+use Rattle.yp_core.proofs.Feeds.{each_feed}
 
 -- the laws of registries that are rested on
 pub record RegistriesAreKept : Type 0 where
@@ -44,7 +40,6 @@ fits_first laws nodes receivers schema =
       registry = laws.first nodes users names;
       users = refl;
       ids = laws.rising_first users names;
-      served = tt;
       time = omega arith;
     }
 
@@ -67,20 +62,6 @@ ids_next laws nodes state (Edit patch) ids = ids
 ids_next laws nodes state (Rules policy) ids = ids
 ids_next laws nodes state (Establish by ask) ids = laws.rising nodes state.policy state.registry by ask state.stamp ids
 
-served_by : (nodes : List SchemaNode) (filter : FilterAsk) (trigger : Trigger) (now : ℕ) → IsServed filter trigger → HasNoFilter (asked_for nodes filter) (with_anchor now trigger)
-served_by nodes filter (Periodic period anchor) now served = tt
-served_by nodes filter (OnChange dampening sync excluded) now served = all_selected nodes filter served.0
-
-added_served : (nodes : List SchemaNode) (state : JournalState) (command : Command) → MayCome nodes state.receivers command → AllByRecursion IsServedBy (added nodes state command)
-added_served nodes state (Tick tick) may = tt
-added_served nodes state (Edit patch) may = tt
-added_served nodes state (Rules policy) may = tt
-added_served nodes state (Establish by ask) may =
-    elim (first_refusal (reasons_against nodes state.policy state.registry by ask)) as (λ (refusal : Option Refused). AllByRecursion IsServedBy (where_given refusal (terms_for nodes state.registry by ask state.stamp))) [
-      | Some refusal ↦ tt
-      | None ↦ (served_by nodes ask.filter ask.trigger state.stamp may.2, tt)
-    ]
-
 time_next : (nodes : List SchemaNode) (receivers : List ReceiverInfo) (state : JournalState) (command : Command) → MayCome nodes receivers command → state.stamp ≤ tick_limit → (next_state nodes state command).stamp ≤ tick_limit
 time_next nodes receivers state (Tick tick) may less = omega (arith, may, less)
 time_next nodes receivers state (Edit patch) may less = less
@@ -94,7 +75,6 @@ fits_next keeps laws nodes state command may fits = record {
   registry = registry_next laws nodes state command may fits;
   users = next_users nodes state command ∙ fits.users ∙ ap (λ (receivers : List ReceiverInfo). map (λ (receiver : ReceiverInfo). receiver.user) receivers) (sym (receivers_next nodes state command));
   ids = ids_next laws nodes state command fits.ids;
-  served = subst (λ (live : List Terms). AllByRecursion IsServedBy live) (sym (live_next nodes state command)) (all_joined IsServedBy state.registry.live (added nodes state command) fits.served (added_served nodes state command may));
   time = time_next nodes state.receivers state command may fits.time;
 }
   where

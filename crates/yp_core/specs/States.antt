@@ -4,24 +4,11 @@ use Rattle.std.specs.List.{AllByRecursion}
 use Rattle.yp_schema.specs.declared.schema.SchemaNode.{SchemaNode}
 use Rattle.yp_schema.specs.Datastore.{IsDatastore}
 use Rattle.yp_schema.specs.WellFormed.{IsSchema}
-use Rattle.yp_base.specs.declared.notice.Trigger.{Trigger}
-use Rattle.yp_base.specs.declared.notice.Trigger.TheVariants.{Periodic, OnChange}
-use Rattle.yp_filter.specs.Filters.{Asked, all_rows}
 use Rattle.yp_registry.specs.Ids.{HasRisingIds}
-use Rattle.yp_registry.specs.Terms.{Terms}
 use Rattle.yp_registry.specs.Registry.{IsRegistryOf}
 use Rattle.yp_time.specs.Ticks.{tick_limit}
 use Rattle.yp_journal.specs.History.{JournalState}
 use Rattle.yp_core.specs.Updates.{Feed}
-
--- a trigger with this filter is served so far: on change there is none
-abbrev pub HasNoFilter : Asked → Trigger → Type 0
-HasNoFilter asked (Periodic period anchor) = Unit {0}
-HasNoFilter asked (OnChange dampening sync excluded) = asked ≡ all_rows
-
--- terms as they are served so far
-abbrev pub IsServedBy : Terms → Type 0
-IsServedBy terms = HasNoFilter terms.asked terms.trigger
 
 -- a state that commands leave: its rows are a datastore, its registry is one of the schema, for the users of the receivers, its ids rise, and its tick is no later than the last
 pub record Fits (nodes : List SchemaNode) (state : JournalState) : Type 0 where
@@ -30,7 +17,6 @@ pub record Fits (nodes : List SchemaNode) (state : JournalState) : Type 0 where
   pub registry : IsRegistryOf nodes state.registry
   pub users : state.registry.users ≡ map (λ receiver. receiver.user) state.receivers
   pub ids : HasRisingIds state.registry
-  pub served : AllByRecursion IsServedBy state.registry.live
   pub time : state.stamp ≤ tick_limit
 
 -- feeds of so many receivers

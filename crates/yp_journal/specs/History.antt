@@ -13,8 +13,6 @@ use Rattle.yp_nacm.specs.Policies.{opening_policy, IsPolicyOf}
 use Rattle.yp_base.specs.declared.notice.Trigger.{Trigger}
 use Rattle.yp_base.specs.declared.notice.Trigger.TheVariants.{Periodic, OnChange}
 use Rattle.yp_registry.specs.declared.ask.Ask.{Ask}
-use Rattle.yp_registry.specs.declared.ask.FilterAsk.{FilterAsk}
-use Rattle.yp_registry.specs.declared.ask.FilterAsk.TheVariants.{Subtree}
 use Rattle.yp_registry.specs.declared.refused.Refused.{Refused}
 use Rattle.yp_registry.specs.Registry.{Subscriptions, no_subscriptions, established, establish_answer}
 use Rattle.yp_registry.specs.Terms.{HasAnchor}
@@ -161,22 +159,17 @@ pub record IsRead (patch : Patch) : Type 0 where
 abbrev pub at_once : Trigger
 at_once = OnChange 0 true (record { create = false; delete = false; insert = false; moved = false; replace = false })
 
--- whether a subtree filter is asked for
-abbrev pub is_subtree : FilterAsk → Bool
-is_subtree (Subtree json) = true
-is_subtree other = false
-
--- a subscription as it is served so far: one on change has no subtree filter, and is told at once
-abbrev pub IsServed : FilterAsk → Trigger → Type 0
-IsServed filter (Periodic period anchor) = Unit {0}
-IsServed filter (OnChange dampening sync excluded) = (is_subtree filter ≡ false) × (OnChange dampening sync excluded ≡ at_once)
+-- a trigger as it is served so far: one on change is told at once
+abbrev pub IsServed : Trigger → Type 0
+IsServed (Periodic period anchor) = Unit {0}
+IsServed (OnChange dampening sync excluded) = OnChange dampening sync excluded ≡ at_once
 
 -- a command that can come of a script that declares these receivers
 abbrev pub MayCome : List SchemaNode → List ReceiverInfo → Command → Type 0
 MayCome nodes receivers (Tick tick) = tick ≤ tick_limit
 MayCome nodes receivers (Edit patch) = IsRead patch
 MayCome nodes receivers (Rules policy) = IsPolicyOf nodes policy
-MayCome nodes receivers (Establish by ask) = (by < length receivers) × HasAnchor ask.trigger × IsServed ask.filter ask.trigger
+MayCome nodes receivers (Establish by ask) = (by < length receivers) × HasAnchor ask.trigger × IsServed ask.trigger
 
 -- an entry that may follow where the journal has this state: its command may come, and its reply and its stamp are those of the fold
 pub record MayFollow (nodes : List SchemaNode) (state : JournalState) (entry : Entry) : Type 0 where

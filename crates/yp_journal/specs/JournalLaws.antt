@@ -6,17 +6,14 @@ use Rattle.yp_schema.specs.declared.schema.SchemaNode.{SchemaNode}
 use Rattle.yp_schema.specs.Datastore.{IsDatastore}
 use Rattle.yp_registry.specs.declared.ask.Ask.{Ask}
 use Rattle.yp_registry.specs.declared.refused.Refused.{Refused}
-use Rattle.yp_registry.specs.declared.ask.FilterAsk.{FilterAsk}
-use Rattle.yp_registry.specs.declared.ask.FilterAsk.TheVariants.{All, Subtree, XPath}
-use Rattle.yp_registry.specs.Registry.{Subscriptions, established, first_refusal, reasons_against, asked_for, terms_for, after_refusal, or_refused}
-use Rattle.yp_filter.specs.Filters.{all_rows}
+use Rattle.yp_registry.specs.Registry.{Subscriptions, established, first_refusal, reasons_against, terms_for, after_refusal, or_refused}
 use Rattle.yp_nacm.specs.declared.policy.Policy.{Policy}
 use Rattle.yp_edit.specs.Patches.{RefusedEdit, applied}
 use Rattle.yp_journal.specs.declared.command.Command.{Command}
 use Rattle.yp_journal.specs.declared.command.Command.TheVariants.{Tick, Edit, Rules, Establish}
 use Rattle.yp_journal.specs.declared.entry.Entry.{Entry}
 use Rattle.yp_journal.specs.declared.receiver.ReceiverInfo.{ReceiverInfo}
-use Rattle.yp_journal.specs.History.{JournalState, first_state, one_further, rows_after, patch_reply, reply_by, is_subtree, with_registry, next_state, reply_to, is_refusal, state_after, state_of, MayFollow, IsLegal}
+use Rattle.yp_journal.specs.History.{JournalState, first_state, one_further, rows_after, patch_reply, reply_by, with_registry, next_state, reply_to, is_refusal, state_after, state_of, MayFollow, IsLegal}
 
 -- a refused command leaves all but the position
 pub refusal_alone : (nodes : List SchemaNode) (state : JournalState) (command : Command) → is_refusal (reply_to nodes state command) ≡ true → next_state nodes state command ≡ one_further state
@@ -109,12 +106,6 @@ users_stay nodes state (entry ∷ entries) = users_stay nodes (next_state nodes 
 pub names_stay : (nodes : List SchemaNode) (state : JournalState) (entries : List Entry) → (state_of nodes state entries).registry.names ≡ state.registry.names
 names_stay nodes state [] = refl
 names_stay nodes state (entry ∷ entries) = names_stay nodes (next_state nodes state entry.command) entries ∙ next_names nodes state entry.command
-
--- without a subtree filter everything is selected
-pub all_selected : (nodes : List SchemaNode) (filter : FilterAsk) → is_subtree filter ≡ false → asked_for nodes filter ≡ all_rows
-all_selected nodes All h = refl
-all_selected nodes (Subtree json) h = absurd (true≢false h)
-all_selected nodes XPath h = refl
 
 -- a command other than a policy leaves the policy
 pub policy_stays : (nodes : List SchemaNode) (state : JournalState) (command : Command) → ((policy : Policy) → command ≢ Rules policy) → (next_state nodes state command).policy ≡ state.policy

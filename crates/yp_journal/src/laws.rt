@@ -1,16 +1,13 @@
 //! Laws of journals, which the definitions keep; nothing runs.
-ghost use Rattle.std.specs.Prelude.{◌≡◌, ◌+◌, ◌++◌, ◌∷◌, [], List, length, map, true, false, ◌≢◌};
-ghost use Rattle.yp_filter.specs.Filters.{all_rows};
+ghost use Rattle.std.specs.Prelude.{◌≡◌, ◌+◌, ◌++◌, ◌∷◌, [], List, length, map, true, ◌≢◌};
 ghost use Rattle.yp_schema.specs.declared.schema.SchemaNode.{SchemaNode};
 ghost use Rattle.yp_schema.specs.Datastore.{IsDatastore};
 ghost use Rattle.yp_nacm.specs.declared.policy.Policy.{Policy};
-ghost use Rattle.yp_registry.specs.declared.ask.FilterAsk.{FilterAsk};
-ghost use Rattle.yp_registry.specs.Registry.{asked_for};
 ghost use Rattle.yp_journal.specs.declared.command.Command.{Command};
 ghost use Rattle.yp_journal.specs.declared.command.Command.TheVariants.{Rules};
 ghost use Rattle.yp_journal.specs.declared.entry.Entry.{Entry};
 ghost use Rattle.yp_journal.specs.declared.receiver.ReceiverInfo.{ReceiverInfo};
-ghost use Rattle.yp_journal.specs.History.{JournalState, first_state, one_further, is_subtree, next_state, reply_to, is_refusal, state_after, state_of, MayFollow, IsLegal};
+ghost use Rattle.yp_journal.specs.History.{JournalState, first_state, one_further, next_state, reply_to, is_refusal, state_after, state_of, MayFollow, IsLegal};
 
 use yp_edit::laws::a_patch_keeps_a_datastore;
 
@@ -59,13 +56,6 @@ pub fn a_journal_keeps_users_and_names()
         → (state_of nodes state entries).registry.users ≡ state.registry.users }
     ensures names { (nodes : List SchemaNode) (state : JournalState) (entries : List Entry)
         → (state_of nodes state entries).registry.names ≡ state.registry.names }
-{}
-
-/// Without a subtree filter everything is selected, also where an XPath filter is asked for, which is
-/// refused.
-#[tactic(auto, using(crate::specs::JournalLaws::all_selected))]
-pub fn without_a_subtree_everything_is_selected()
-    ensures { (nodes : List SchemaNode) (filter : FilterAsk) → is_subtree filter ≡ false → asked_for nodes filter ≡ all_rows }
 {}
 
 /// A legal journal stays legal with one entry more that may follow.

@@ -5,17 +5,15 @@ use Rattle.std.specs.Prelude.{filter}
 use Rattle.std.specs.List.{AllByRecursion, flat_map}
 use Rattle.yp_base.specs.declared.notice.Trigger.{Trigger}
 use Rattle.yp_base.specs.declared.notice.Trigger.TheVariants.{Periodic, OnChange}
-use Rattle.yp_base.specs.declared.path.Seg.{Seg}
 use Rattle.yp_base.specs.declared.row.Row.{Row}
 use Rattle.yp_schema.specs.declared.schema.SchemaNode.{SchemaNode}
 use Rattle.yp_nacm.specs.declared.compile.UserRules.{UserRules}
-use Rattle.yp_nacm.specs.Decision.{is_readable, visible_rows}
+use Rattle.yp_nacm.specs.Decision.{is_readable}
 use Rattle.yp_edit.specs.Records.{change_record}
-use Rattle.yp_filter.specs.Filters.{Asked, all_rows}
+use Rattle.yp_filter.specs.Filters.{Asked}
 use Rattle.yp_registry.specs.Terms.{Terms, AreTermsOf}
 use Rattle.yp_select.specs.Selection.{selection}
-use Rattle.yp_journal.specs.History.{JournalState, rules_at, may_read}
-use Rattle.yp_core.specs.States.{HasNoFilter, IsServedBy}
+use Rattle.yp_journal.specs.History.{JournalState, rules_at}
 use Rattle.yp_core.specs.Steps.{changes_for, first_attempts, full_attempt}
 use Rattle.yp_core.specs.Updates.{Feed, all_feeds, attempt_of, change_update, feeds_of, full_update, first_updates, is_due_between, is_on_change, want}
 use Rattle.yp_live.specs.declared.feeds.Feed.{Feed as FeedHere}
@@ -28,15 +26,14 @@ use Rattle.yp_live.proofs.TurnLaws.{all_joined}
 -- ---- feeds of a moment
 
 module _ (nodes : List SchemaNode) (count : ℕ) where
-  of_receivers : (terms : Terms) → AreTermsOf nodes count terms → IsServedBy terms → (receivers : List ℕ) → AllByRecursion (λ receiver. receiver < count) receivers
+  of_receivers : (terms : Terms) → AreTermsOf nodes count terms → (receivers : List ℕ) → AllByRecursion (λ receiver. receiver < count) receivers
       → AreFeedsOf nodes count (map (λ receiver. record { terms = terms; receiver = receiver }) receivers)
-  of_receivers terms are served [] all = tt
-  of_receivers terms are served (receiver ∷ receivers) all = (record { filter = are.filter; trigger = are.trigger; receiver = all.0; served = served }, of_receivers terms are served receivers all.1)
+  of_receivers terms are [] all = tt
+  of_receivers terms are (receiver ∷ receivers) all = (record { filter = are.filter; trigger = are.trigger; receiver = all.0 }, of_receivers terms are receivers all.1)
 
-  of_terms : (live : List Terms) → AllByRecursion (AreTermsOf nodes count) live → AllByRecursion IsServedBy live → AreFeedsOf nodes count (flat_map feeds_of live)
-  of_terms [] all served = tt
-  of_terms (terms ∷ live) all served =
-      all_joined (IsFeedOf nodes count) (feeds_of terms) (flat_map feeds_of live) (of_receivers terms all.0 served.0 terms.receivers all.0.receivers) (of_terms live all.1 served.1)
+  of_terms : (live : List Terms) → AllByRecursion (AreTermsOf nodes count) live → AreFeedsOf nodes count (flat_map feeds_of live)
+  of_terms [] all = tt
+  of_terms (terms ∷ live) all = all_joined (IsFeedOf nodes count) (feeds_of terms) (flat_map feeds_of live) (of_receivers terms all.0 terms.receivers all.0.receivers) (of_terms live all.1)
 
   -- what is picked of feeds are feeds
   pub picked : (test : Feed → Bool) (feeds : List Feed) → AreFeedsOf nodes count feeds → AreFeedsOf nodes count (filter test feeds)
@@ -48,7 +45,7 @@ module _ (nodes : List SchemaNode) (count : ℕ) where
       at false rest = rest
 
 pub of_moment : (nodes : List SchemaNode) (state : JournalState) (readers : List UserRules) → IsMoment nodes state readers → AreFeedsOf nodes (length readers) (all_feeds state)
-of_moment nodes state readers is = of_terms nodes (length readers) state.registry.live is.terms is.served
+of_moment nodes state readers is = of_terms nodes (length readers) state.registry.live is.terms
 
 -- ---- new feeds
 
@@ -74,31 +71,22 @@ first_full nodes after feed = first_at nodes after feed feed.terms.trigger refl
 
 -- ---- feeds on change
 
-unfiltered_by : (asked : Asked) (trigger : Trigger) → HasNoFilter asked trigger → is_on_change trigger ≡ true → asked ≡ all_rows
-unfiltered_by asked (Periodic period anchor) none on = absurd (true≢false (sym on))
-unfiltered_by asked (OnChange dampening sync excluded) none on = none
-
--- what is selected by a feed on change is what its user may read
-pub wants : (nodes : List SchemaNode) (state : JournalState) (feed : Feed) → IsServedBy feed.terms → is_on_change feed.terms.trigger ≡ true
-    → ((readable : List Seg → Bool) (rows : List Row) → selection nodes all_rows readable rows ≡ visible_rows readable rows)
-    → want nodes state feed ≡ visible_rows (may_read nodes state feed.receiver) state.rows
-wants nodes state feed served on all =
-    ap (λ (asked : Asked). selection nodes asked (may_read nodes state feed.receiver) state.rows) (unfiltered_by feed.terms.asked feed.terms.trigger served on)
-    ∙ all (may_read nodes state feed.receiver) state.rows
-
 -- a feed that isn't on change is told no changes
 pub quiet : (nodes : List SchemaNode) (before after : JournalState) (feed : Feed) → is_on_change feed.terms.trigger ≡ false → changes_for nodes before after feed ≡ []
 quiet nodes before after feed off = ap (λ b. cond b (map (attempt_of after feed) (change_update feed.terms.id after.position (change_record (want nodes before feed) (want nodes after feed)))) []) off
 
--- one that is on change is told the record of what its receiver's user may read
-pub changed : (nodes : List SchemaNode) (before after : JournalState) (feed : Feed) → IsServedBy feed.terms → is_on_change feed.terms.trigger ≡ true
-    → ((readable : List Seg → Bool) (rows : List Row) → selection nodes all_rows readable rows ≡ visible_rows readable rows)
-    → rules_at before feed.receiver ≡ rules_at after feed.receiver
-    → changes_for nodes before after feed ≡ map (attempt_of after feed) (change_update feed.terms.id after.position (record_from nodes after feed.receiver before.rows))
-changed nodes before after feed served on all same =
+-- one that is on change is told the record of what it selects
+pub changed : (nodes : List SchemaNode) (before after : JournalState) (feed : Feed) → is_on_change feed.terms.trigger ≡ true → rules_at before feed.receiver ≡ rules_at after feed.receiver
+    → changes_for nodes before after feed ≡ map (attempt_of after feed) (change_update feed.terms.id after.position (record_from nodes after feed.terms.asked feed.receiver before.rows))
+changed nodes before after feed on same =
     ap (λ b. cond b (map (attempt_of after feed) (change_update feed.terms.id after.position (change_record (want nodes before feed) (want nodes after feed)))) []) on
-    ∙ (λ i. map (attempt_of after feed) (change_update feed.terms.id after.position (change_record (wants nodes before feed served on all i) (wants nodes after feed served on all i))))
-    ∙ ap (λ (rules : UserRules). map (attempt_of after feed) (change_update feed.terms.id after.position (change_record (visible_rows (λ path. is_readable nodes rules path) before.rows) (visible_rows (may_read nodes after feed.receiver) after.rows)))) same
+    ∙ ap (λ (rules : UserRules). map (attempt_of after feed) (change_update feed.terms.id after.position (change_record (selection nodes feed.terms.asked (λ path. is_readable nodes rules path) before.rows) (want nodes after feed)))) same
+
+-- filters that say the same have one record for users with the same rules
+pub record_for : (nodes : List SchemaNode) (state : JournalState) (asked other : Asked) (first number : ℕ) (before : List Row) → asked ≡ other → rules_at state first ≡ rules_at state number
+    → record_from nodes state asked first before ≡ record_from nodes state other number before
+record_for nodes state asked other first number before said same =
+    λ i. change_record (selection nodes (said i) (λ path. is_readable nodes (same i) path) before) (selection nodes (said i) (λ path. is_readable nodes (same i) path) state.rows)
 
 -- ---- what is selected for a feed
 
@@ -130,5 +118,4 @@ last_feed nodes state readers before terms by is live only =
       filter = are.filter;
       trigger = are.trigger;
       receiver = (subst (AllByRecursion (λ receiver. receiver < length readers)) only are.receivers).0;
-      served = last_of IsServedBy before terms (subst (AllByRecursion IsServedBy) live is.served);
     }

@@ -1,5 +1,6 @@
 -- A run, as far as it has come.
 use Rattle.std.proofs.Common.{◌≡◌, ℕ, true, false, true≢false, refl, List, [], ◌∷◌, ◌++◌, length, map, sym, ap, ◌∙◌, subst}
+use Rattle.std.specs.Prelude.{Option}
 use Rattle.std.specs.List.{AllByRecursion}
 use Rattle.std.proofs.lemmas.List.{length-map}
 use Rattle.yp_schema.specs.declared.schema.SchemaNode.{SchemaNode}
@@ -32,7 +33,7 @@ use Rattle.yp_live.specs.declared.turns.Turn.{Turn}
 use Rattle.yp_live.specs.Desks.{DeskState, bare_desk, told_each, sent}
 use Rattle.yp_live.specs.Journal.{turn_of}
 use Rattle.yp_live.specs.Readers.{rules_of_each, IsMoment}
-use Rattle.yp_live.specs.Records.{IsPatchOf}
+use Rattle.yp_live.specs.Records.{IsFormer, AreFound, IsPatchOf}
 use Rattle.yp_live.specs.Runs.{is_policy, is_quiet, IsRun, IsStep}
 use Rattle.yp_live.specs.Selections.{IsContent, selected, AreSelected}
 use Rattle.yp_live.specs.Turns.{MayTake}
@@ -52,7 +53,6 @@ moment_of nodes state readers fits are =
       datastore = fits.datastore;
       rules = are;
       terms = subst (λ (n : ℕ). AllByRecursion (AreTermsOf nodes n) state.registry.live) count fits.registry.terms;
-      served = fits.served;
     }
 
 -- ---- one turn
@@ -81,10 +81,10 @@ pub run_on : (nodes : List SchemaNode) (start : ℕ) (receivers : List ReceiverI
     → ((receiver : ℕ) → made_by nodes receivers (before.entries.items ++ entry ∷ []) receiver
     ≡ made_by nodes receivers before.entries.items receiver ++ of_step nodes (state_of nodes (first_state receivers) before.entries.items) entry.command receiver)
     → after.state ≡ next_state nodes before.state turn.command → turn_of entry ≡ turn → after.entries.items ≡ before.entries.items ++ entry ∷ []
-    → after.readers ≡ rules_of_each after.state.policy receivers → AreSelected nodes after.state after.outbox.selections.items
+    → after.readers ≡ rules_of_each after.state.policy receivers → AreSelected nodes after.state after.outbox.selections.items → IsFormer after.state.rows after.outbox.former
     → after.outbox.desks.items ≡ sent nodes start (attempts_at nodes before.state after.state) before.outbox.desks.items
     → IsRun nodes start receivers after
-run_on nodes start receivers before after turn entry is fits further declared legal made state of_turn entries readers selections desks =
+run_on nodes start receivers before after turn entry is fits further declared legal made state of_turn entries readers selections former desks =
     let first : JournalState = first_state receivers in
     let command : turn.command ≡ entry.command = ap (λ (t : Turn). t.command) (sym of_turn) in
     let found : JournalState = state_of nodes first before.entries.items in
@@ -97,6 +97,7 @@ run_on nodes start receivers before after turn entry is fits further declared le
       legal = subst (λ (es : List Entry). IsLegal nodes first es) (sym entries) legal;
       state = left ∙ ap (state_of nodes first) (sym entries);
       selections = selections;
+      former = former;
       desks =
           desks
           ∙ (λ i. sent nodes start (attempts_at nodes (is.state i) (next i)) (is.desks i))
@@ -119,6 +120,21 @@ selected_still nodes state kept (Tick tick) quiet all = all
 selected_still nodes state kept (Edit patch) quiet all = absurd (true≢false (sym quiet))
 selected_still nodes state kept (Rules policy) quiet all = absurd (true≢false (sym quiet))
 selected_still nodes state kept (Establish by ask) quiet all = all
+
+-- a former tree of the rows before a command that leaves the rows and the policy is one of the rows after it
+pub former_still : (nodes : List SchemaNode) (state : JournalState) (former : Option (List Row)) (command : Command) → is_quiet command ≡ true → IsFormer state.rows former → IsFormer (next_state nodes state command).rows former
+former_still nodes state former (Tick tick) quiet is = is
+former_still nodes state former (Edit patch) quiet is = absurd (true≢false (sym quiet))
+former_still nodes state former (Rules policy) quiet is = absurd (true≢false (sym quiet))
+former_still nodes state former (Establish by ask) quiet is = is
+
+-- the rows that a patch found
+pub found_by : (nodes : List SchemaNode) (before after : JournalState) (those : List ChangedRow) (former : Option (List Row)) → IsPatchOf nodes before after those → IsFormer before.rows former → AreFound nodes after those former before.rows
+found_by nodes before after those former patch is = record { datastore = patch.datastore; changed = patch.changed; former = is }
+
+-- a former tree that stays is one of rows that stay
+pub same_former : (before after : List Row) (former kept : Option (List Row)) → after ≡ before → kept ≡ former → IsFormer before former → IsFormer after kept
+same_former before after former kept rows same is = subst (λ (rows : List Row). IsFormer rows kept) (sym rows) (subst (λ (tree : Option (List Row)). IsFormer before tree) (sym same) is)
 
 -- rows of which none is changed are the same
 unchanged : (before after : List Row) → changed_rows before after ≡ [] → changed_by (change_record before after) before ≡ after → before ≡ after
@@ -151,6 +167,9 @@ module _ (nodes : List SchemaNode) (receivers : List ReceiverInfo) (readers : Li
   -- the rules that users have after a step, by the policy there
   pub moment_after : Fits nodes after → (own : List UserRules) → own ≡ rules_of_each after.policy receivers → IsMoment nodes after own
   moment_after fits own are = moment_of nodes after own fits (are ∙ ap (rules_of_each after.policy) (sym declared_after))
+
+  pub former_after : is_quiet command ≡ true → (former kept : Option (List Row)) → kept ≡ former → IsFormer before.rows former → IsFormer after.rows kept
+  former_after quiet former kept same old = same_former (next_state nodes before command).rows after.rows former kept (ap (λ (s : JournalState). s.rows) is.state) same (former_still nodes before former command quiet old)
 
   pub rules_after : is_policy command ≡ false → readers ≡ rules_of_each after.policy receivers
   rules_after other = is.rules ∙ ap (λ (policy : Policy). rules_of_each policy receivers) (sym (ap (λ (s : JournalState). s.policy) is.state ∙ same_policy nodes before command other))

@@ -1,5 +1,5 @@
 -- What a step of a command makes for each receiver.
-use Rattle.std.proofs.Common.{◌≡◌, ℕ, ◌<◌, zero, suc, List, [], ◌∷◌, ◌++◌, length, true, refl, sym, ap, ◌∙◌, arith, Option, Some, None}
+use Rattle.std.proofs.Common.{◌≡◌, ◌==◌, ℕ, ◌<◌, zero, suc, Bool, List, [], ◌∷◌, ◌++◌, length, true, refl, sym, ap, ◌∙◌, arith, Option, Some, None}
 use Rattle.std.specs.Prelude.{Result, Ok, Err, IfOk, OnOk}
 use Rattle.std.specs.List.{slice_get}
 use Rattle.yp_schema.specs.declared.schema.SchemaNode.{SchemaNode}
@@ -54,6 +54,11 @@ refused_reply nodes before by ask other =
       | Some refusal ↦ λ h. refl
       | None ↦ λ h. absurd (h terms.id refl)
     ] other
+
+-- a list that is empty has nothing in it
+pub nothing : {X : Type 0} (xs : List X) (empty : Bool) → empty ≡ (length xs == 0) → empty ≡ true → xs ≡ []
+nothing [] empty is holds = refl
+nothing (x ∷ xs) empty is holds = let none : length (x ∷ xs) ≡ 0 = grind (arith, is, holds) in absurd (omega (arith, none))
 
 pub when_ok : {X E : Type 0} {A C : Type 0} (r : Result X E) → OnOk r A → (A → C) → OnOk r C
 when_ok (Ok x) a f = f a

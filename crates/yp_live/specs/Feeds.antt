@@ -6,7 +6,6 @@ use Rattle.yp_base.specs.declared.notice.Trigger.TheVariants.{Periodic, OnChange
 use Rattle.yp_schema.specs.declared.schema.SchemaNode.{SchemaNode}
 use Rattle.yp_filter.specs.Fits.{filter_fits}
 use Rattle.yp_registry.specs.Terms.{IsFollowed}
-use Rattle.yp_core.specs.States.{IsServedBy}
 use Rattle.yp_core.specs.Updates.{Feed, is_due_between}
 use Rattle.yp_live.specs.declared.feeds.Feed.{Feed as FeedHere}
 
@@ -16,12 +15,11 @@ feed_of feed = record { terms = feed.terms.now; receiver = feed.receiver }
 abbrev pub feeds_in : List FeedHere → List Feed
 feeds_in feeds = map feed_of feeds
 
--- a feed for one of so many receivers: its filter is of the schema, its trigger can be followed, and it is served
+-- a feed for one of so many receivers: its filter is of the schema, and its trigger can be followed
 pub record IsFeedOf (nodes : List SchemaNode) (count : ℕ) (feed : Feed) : Type 0 where
   pub filter : filter_fits nodes feed.terms.asked ≡ true
   pub trigger : IsFollowed feed.terms.trigger
   pub receiver : feed.receiver < count
-  pub served : IsServedBy feed.terms
 
 abbrev pub AreFeedsOf : List SchemaNode → ℕ → List Feed → Type 0
 AreFeedsOf nodes count feeds = AllByRecursion (IsFeedOf nodes count) feeds

@@ -1,5 +1,6 @@
 pub mod Desks
 pub mod Feeds
+pub mod Holdings
 pub mod Journal
 pub mod Promise
 pub mod Readers

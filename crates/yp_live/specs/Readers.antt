@@ -9,7 +9,6 @@ use Rattle.yp_nacm.specs.Own.{own_rules}
 use Rattle.yp_journal.specs.declared.receiver.ReceiverInfo.{ReceiverInfo}
 use Rattle.yp_registry.specs.Terms.{AreTermsOf}
 use Rattle.yp_journal.specs.History.{JournalState}
-use Rattle.yp_core.specs.States.{IsServedBy}
 
 -- the own rules of each receiver's user by a policy
 abbrev pub rules_of_each : Policy → List ReceiverInfo → List UserRules
@@ -24,4 +23,3 @@ pub record IsMoment (nodes : List SchemaNode) (state : JournalState) (readers : 
   pub datastore : IsDatastore nodes state.rows
   pub rules : readers ≡ rules_of_each state.policy state.receivers
   pub terms : AllByRecursion (AreTermsOf nodes (length readers)) state.registry.live
-  pub served : AllByRecursion IsServedBy state.registry.live

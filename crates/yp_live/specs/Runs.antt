@@ -16,6 +16,7 @@ use Rattle.yp_core.specs.Updates.{made_by}
 use Rattle.yp_live.specs.declared.run.Run.{Run}
 use Rattle.yp_live.specs.Desks.{DeskState, bare_desk, told_each}
 use Rattle.yp_live.specs.Readers.{rules_of_each}
+use Rattle.yp_live.specs.Records.{IsFormer}
 use Rattle.yp_live.specs.Report.{reply_lines, reply_text, tree_text}
 use Rattle.yp_live.specs.Selections.{AreSelected}
 
@@ -47,7 +48,7 @@ is_policy (Establish by ask) = false
 
 -- ---- runs
 
--- a run of these receivers so far: a legal journal, the state that it leaves, the own rules of each receiver's user there, selections at that state, and each receiver after all that the journal makes for it
+-- a run of these receivers so far: a legal journal, the state that it leaves, the own rules of each receiver's user there, selections at that state, a former tree of its rows where there is one, and each receiver after all that the journal makes for it
 pub record IsRun (nodes : List SchemaNode) (start : ℕ) (receivers : List ReceiverInfo) (run : Run) : Type 0 where
   pub fits : Fits nodes run.state
   pub declared : run.state.receivers ≡ receivers
@@ -55,6 +56,7 @@ pub record IsRun (nodes : List SchemaNode) (start : ℕ) (receivers : List Recei
   pub legal : IsLegal nodes (first_state receivers) run.entries.items
   pub state : run.state ≡ state_of nodes (first_state receivers) run.entries.items
   pub selections : AreSelected nodes run.state run.outbox.selections.items
+  pub former : IsFormer run.state.rows run.outbox.former
   pub desks : run.outbox.desks.items ≡ told_each nodes start (made_by nodes receivers run.entries.items) 0 (map bare_desk receivers)
 
 -- ---- what is told in the end

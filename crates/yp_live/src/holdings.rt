@@ -6,10 +6,11 @@ ghost use Rattle.yp_base.specs.Rows.{put_rows, rows_without, changed_by};
 ghost use Rattle.yp_base.specs.declared.notice.Notice.TheVariants.{Full, Changes as ChangeUpdate};
 ghost use Rattle.yp_core.specs.Received.{held_of, heard};
 
+use crate::holding::Holding;
 use std::alloc::Global;
 use std::collections::BTreeMap;
 use std::marker::Model;
-use yp_base::memory::NoMemory;
+use yp_base::memory::{Duplicate, NoMemory};
 use yp_base::notice::{Change, Changes};
 use yp_base::row::Rows;
 use yp_tree::tree::Tree;
@@ -18,7 +19,7 @@ use yp_tree::tree::Tree;
 /// of them, in the order of ids.
 #[derive(Drop)]
 pub struct Holdings {
-    kept: BTreeMap<u32, Tree>,
+    kept: BTreeMap<u32, Holding>,
 }
 
 impl Model for Holdings {
@@ -58,14 +59,14 @@ impl Holdings {
     }
 
     /// What is held of each subscription.
-    pub fn kept(&self) -> &BTreeMap<u32, Tree>
+    pub fn kept(&self) -> &BTreeMap<u32, Holding>
         ensures { result.now.entries ≡ self.now }
     {
         &self.kept
     }
 
     /// Sets the rows of a subscription.
-    fn set(&mut self, id: u32, rows: Tree) -> Result<(), NoMemory>
+    fn set(&mut self, id: u32, rows: Holding) -> Result<(), NoMemory>
         ensures { OnOk result (self.new ≡ insert_entry nat_cmp self.old id rows) }
     {
         self.kept.insert(id, rows)?;
@@ -77,19 +78,20 @@ impl Holdings {
         ensures { OnOk result (self.new ≡ insert_entry nat_cmp self.old id (changed_by changes.now (unwrap_or (held_of id self.old) []))) }
     {
         let _count = self.kept.len();
-        let mut rows = match self.kept.remove(&id) {
-            Some(rows) => rows,
-            None => Tree::new(alloc),
+        let held = match self.kept.remove(&id) {
+            Some(held) => held,
+            None => Holding::changed(Tree::new(alloc)),
         };
+        let mut rows = held.into_tree(alloc)?;
         hear_changes(alloc, changes, &mut rows)?;
-        self.set(id, rows)
+        self.set(id, Holding::changed(rows))
     }
 
     /// Hears a full update of a subscription.
     pub fn hear_full(&mut self, alloc: Global, id: u32, rows: &Rows) -> Result<(), NoMemory>
         ensures { OnOk result (self.new ≡ heard (Full id rows.now) self.old) }
     {
-        self.set(id, Tree::of_rows(alloc, rows)?)
+        self.set(id, Holding::told(rows.copy(alloc)?))
     }
 
     /// Hears a change update of a subscription.

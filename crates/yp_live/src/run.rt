@@ -103,6 +103,7 @@ fn opening(alloc: Global, setting: &Setting) -> Result<Run, NoMemory>
         entries: Vec::new(alloc),
         outbox: Outbox {
             selections: Vec::new(alloc),
+            former: None,
             desks: bare_desks(alloc, setting.receivers)?,
         },
     })

@@ -8,11 +8,12 @@ ghost use Rattle.yp_core.specs.Updates.{attempts_at};
 ghost use Rattle.yp_live.specs.Desks.{sent};
 ghost use Rattle.yp_live.specs.Feeds.{feeds_in, AreFeedsOf};
 ghost use Rattle.yp_live.specs.Readers.{rules_of_each, IsMoment};
-ghost use Rattle.yp_live.specs.Records.{IsPatchOf};
+ghost use Rattle.yp_live.specs.Records.{IsFormer, IsPatchOf};
 ghost use Rattle.yp_live.specs.Runs.{is_quiet, IsStep};
 ghost use Rattle.yp_live.specs.Selections.{AreSelected};
 
 use crate::feeds::{Feed, due_feeds, first_feeds, renewed_feeds};
+use crate::former::follow_patch;
 use crate::moment::Moment;
 use crate::outbox::Outbox;
 use crate::readers::Readers;
@@ -25,7 +26,7 @@ use std::sync::ledger::Ledger;
 use yp_base::memory::NoMemory;
 use yp_base::steps::Steps;
 use yp_core::laws::{a_journal_keeps_its_state, what_a_step_makes};
-use yp_edit::changed::ChangedRow;
+use yp_edit::changed::Changed;
 use yp_journal::command::Command;
 use yp_journal::reply::Reply;
 use yp_journal::state::Outcome;
@@ -40,37 +41,40 @@ pub struct Step<'a> {
 }
 
 /// Lets go what was selected before a patch, where that changed any row.
-fn forget(alloc: Global, moment: &Moment, changed: &[ChangedRow], outbox: &mut Outbox)
+fn forget(alloc: Global, moment: &Moment, changed: &Changed, outbox: &mut Outbox)
     requires datastore { IsDatastore moment.now.schema.now moment.now.state.now.rows }
     requires patch { (before : JournalState) × IsPatchOf moment.now.schema.now before moment.now.state.now changed.now × AreSelected moment.now.schema.now before outbox.old.selections.items }
     ensures selections { AreSelected moment.now.schema.now moment.now.state.now outbox.new.selections.items }
+    ensures former { outbox.new.former ≡ outbox.old.former }
     ensures desks { outbox.new.desks ≡ outbox.old.desks }
 {
     moment.schema.stands();
     the_record_leads();
-    if changed.is_empty() {
+    if changed.items().is_empty() {
         return;
     }
     outbox.selections = Vec::new(alloc);
 }
 
-/// Sends what a patch makes.
+/// Sends what a patch makes. The rows that are kept go on to those that it left.
 fn tell_edit<L: Ledger>(
     alloc: Global,
     moment: &Moment,
-    changed: &[ChangedRow],
+    changed: &Changed,
     outbox: &mut Outbox,
     steps: &mut Steps<L>,
 ) -> Result<(), NoMemory>
     requires moment { IsMoment moment.now.schema.now moment.now.state.now moment.now.readers.now }
-    requires patch { (before : JournalState) × IsPatchOf moment.now.schema.now before moment.now.state.now changed.now × AreSelected moment.now.schema.now before outbox.old.selections.items }
+    requires patch { (before : JournalState) × IsPatchOf moment.now.schema.now before moment.now.state.now changed.now × AreSelected moment.now.schema.now before outbox.old.selections.items × IsFormer before.rows outbox.old.former }
     requires desks { length outbox.old.desks.items ≡ length moment.now.readers.now }
     ensures selections { OnOk result (AreSelected moment.now.schema.now moment.now.state.now outbox.new.selections.items) }
-    ensures desks { OnOk result ((before : JournalState) → IsPatchOf moment.now.schema.now before moment.now.state.now changed.now
+    ensures former { OnOk result (IsFormer moment.now.state.now.rows outbox.new.former) }
+    ensures desks { OnOk result ((before : JournalState) → IsPatchOf moment.now.schema.now before moment.now.state.now changed.now → IsFormer before.rows outbox.old.former
         → outbox.new.desks.items ≡ sent moment.now.schema.now moment.now.start.now (attempts_of_changes moment.now.schema.now before moment.now.state.now) outbox.old.desks.items) }
 {
     forget(alloc, moment, changed, outbox);
-    tell_patch(alloc, moment, changed, outbox, steps)
+    tell_patch(alloc, moment, changed, outbox, steps)?;
+    follow_patch(alloc, moment, changed, &mut outbox.former, steps)
 }
 
 /// Sends what another policy makes; from now on users may read what it gives them. What was selected by the
@@ -90,6 +94,7 @@ fn tell_rules<L: Ledger>(
     ensures entries { run.new.entries ≡ run.old.entries }
     ensures readers { OnOk result (run.new.readers ≡ rules_of_each run.old.state.policy setting.now.receivers.now) }
     ensures selections { OnOk result (AreSelected setting.now.schema.now run.old.state run.new.outbox.selections.items) }
+    ensures former { run.new.outbox.former ≡ run.old.outbox.former }
     ensures desks { OnOk result ((before : JournalState) → run.old.readers ≡ rules_of_each before.policy before.receivers
         → run.new.outbox.desks.items ≡ sent setting.now.schema.now setting.now.start.now (attempts_of_renewal setting.now.schema.now before run.old.state) run.old.outbox.desks.items) }
 {
@@ -144,15 +149,16 @@ pub fn tell_step<L: Ledger>(
     run: &mut Run,
     steps: &mut Steps<L>,
 ) -> Result<(), NoMemory>
-    requires step { (before : JournalState) × IsStep setting.now.schema.now setting.now.receivers.now run.old.readers before step.now.command.now step.now.outcome.now run.old.state × AreSelected setting.now.schema.now before run.old.outbox.selections.items × (step.now.before ≡ before.stamp) }
+    requires step { (before : JournalState) × IsStep setting.now.schema.now setting.now.receivers.now run.old.readers before step.now.command.now step.now.outcome.now run.old.state × AreSelected setting.now.schema.now before run.old.outbox.selections.items × IsFormer before.rows run.old.outbox.former × (step.now.before ≡ before.stamp) }
     requires before { step.now.before ≤ tick_limit }
     requires desks { length run.old.outbox.desks.items ≡ length setting.now.receivers.now }
     ensures state { run.new.state ≡ run.old.state }
     ensures entries { run.new.entries ≡ run.old.entries }
     ensures readers { OnOk result (run.new.readers ≡ rules_of_each run.old.state.policy setting.now.receivers.now) }
     ensures selections { OnOk result (AreSelected setting.now.schema.now run.old.state run.new.outbox.selections.items) }
+    ensures former { OnOk result (IsFormer run.old.state.rows run.new.outbox.former) }
     ensures desks { OnOk result ((before : JournalState) → IsStep setting.now.schema.now setting.now.receivers.now run.old.readers before step.now.command.now step.now.outcome.now run.old.state → step.now.before ≡ before.stamp
-        → run.new.outbox.desks.items ≡ sent setting.now.schema.now setting.now.start.now (attempts_at setting.now.schema.now before run.old.state) run.old.outbox.desks.items) }
+        → IsFormer before.rows run.old.outbox.former → run.new.outbox.desks.items ≡ sent setting.now.schema.now setting.now.start.now (attempts_at setting.now.schema.now before run.old.state) run.old.outbox.desks.items) }
 {
     what_a_step_makes();
     a_journal_keeps_its_state();
@@ -166,7 +172,7 @@ pub fn tell_step<L: Ledger>(
         readers: &run.readers,
     };
     if let Command::Edit(_) = step.command {
-        let changed = step.outcome.changed.items();
+        let changed = &step.outcome.changed;
         return tell_edit(alloc, &moment, changed, &mut run.outbox, steps);
     }
     let feeds = feeds_to_tell(alloc, &moment, step)?;

@@ -132,7 +132,7 @@ abbrev pub IsOf : List SchemaNode → List ReceiverInfo → Command → Type 0
 IsOf nodes receivers (commands.Tick tick) = tick ≤ tick_limit
 IsOf nodes receivers (commands.Edit patch) = (json : Data) × (patch_in json ≡ Some patch)
 IsOf nodes receivers (commands.Rules policy) = (json : Data) × (policy_in nodes json ≡ Ok policy)
-IsOf nodes receivers (commands.Establish by ask) = (by < length receivers) × IsServed ask.filter ask.trigger
+IsOf nodes receivers (commands.Establish by ask) = (by < length receivers) × IsServed ask.trigger
 
 of_more : (nodes : List SchemaNode) (receivers : List ReceiverInfo) (receiver : ReceiverInfo) (command : Command) → IsOf nodes receivers command → IsOf nodes (receivers ++ receiver ∷ []) command
 of_more nodes receivers receiver (commands.Tick tick) is = is

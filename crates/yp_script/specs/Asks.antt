@@ -20,7 +20,7 @@ use Rattle.yp_script.specs.declared.ask.AskPart.TheVariants as parts
 use Rattle.yp_script.specs.declared.fault.ScriptKind.TheVariants as kinds
 use Rattle.yp_script.specs.Faults.{Said, said_map, holding, both}
 use Rattle.yp_script.specs.Names.{receiver_number}
-use Rattle.yp_script.specs.Words.{has, has_terms, is_text, text_at, whole_said}
+use Rattle.yp_script.specs.Words.{has_terms, is_text, text_at, whole_said}
 
 -- ---- members
 
@@ -174,9 +174,9 @@ call_said start receivers json = said_map (λ said. Establish said.0 said.1) (ho
 
 -- ---- later forms
 
--- whether updates on change are asked for with a subtree filter or with terms of their own, which isn't served yet
+-- whether updates on change are asked for with terms of their own, which isn't served yet
 abbrev pub is_later : Data → Bool
-is_later json = has (codes "on-change") json && (has (codes "datastore-subtree-filter") json || has_terms (member_of (codes "on-change") json))
+is_later json = has_terms (member_of (codes "on-change") json)
 
 -- a line of a later form is of no known form, where it has no other fault
 abbrev pub unless_later : Bool → Command → Said Command

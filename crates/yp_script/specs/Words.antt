@@ -42,10 +42,6 @@ is_text (Some text) word = same_text text word
 abbrev pub says : List ℕ → List ℕ → Data → Bool
 says name word json = is_text (text_at name json) word
 
--- whether there is a member of this name
-abbrev pub has : List ℕ → Data → Bool
-has name json = is_some (member_of name json)
-
 -- what passes a test
 abbrev pub where_true : {X : Type 0} → (X → Bool) → Option X → Option X
 where_true test None = None

@@ -12,7 +12,7 @@ ghost use Rattle.yp_script.specs.Readings.{Tells};
 use crate::fault::ScriptKind;
 use crate::halt::{Halt, both, holding};
 use crate::receivers::Receivers;
-use crate::words::{has, has_terms, is_text, text_in, text_of, whole};
+use crate::words::{has_terms, is_text, text_in, text_of, whole};
 use serde_json::{Map, Value as Json};
 use std::alloc::Global;
 use yp_base::json::member;
@@ -362,12 +362,11 @@ fn read_call(
     Ok(Command::Establish { by, ask })
 }
 
-/// Whether updates on change are asked for in a way in which they aren't served yet.
+/// Whether updates on change are asked for with terms of their own, which isn't served yet.
 fn is_later(json: &Json) -> bool
     ensures { result ≡ is_later (view json.now) }
 {
-    has(json, "on-change")
-        && (has(json, "datastore-subtree-filter") || has_terms(member(json, "on-change")))
+    has_terms(member(json, "on-change"))
 }
 
 /// The subscription that a line asks for, by the start and the receivers so far. A line of a form that

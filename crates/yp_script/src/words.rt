@@ -3,7 +3,7 @@ ghost use Rattle.std.specs.Prelude.{◌≡◌, ◌≤◌, option_map, is_some, I
 ghost use Rattle.serde_json.specs.Find.{as_str};
 ghost use Rattle.serde_json.specs.View.{view, members_view};
 ghost use Rattle.serde_json.specs.Events.{members_len};
-ghost use Rattle.yp_script.specs.Words.{seen_member, first_member, sole_member, has_count, text_at, says, has, is_text, whole_said, has_terms, is_yes};
+ghost use Rattle.yp_script.specs.Words.{seen_member, first_member, sole_member, has_count, text_at, says, is_text, whole_said, has_terms, is_yes};
 
 use crate::fault::ScriptKind;
 use serde_json::{Map, Value as Json};
@@ -90,13 +90,6 @@ pub fn says(json: &Json, name: &str, word: &str) -> bool
         Some(text) => text == word,
         None => false,
     }
-}
-
-/// Whether there is a member of this name.
-pub fn has(json: &Json, name: &str) -> bool
-    ensures { result ≡ has name.now (view json.now) }
-{
-    member(json, name).is_some()
 }
 
 /// A whole number within bounds: `Limit` where it lies outside, `Member` where it is none.

@@ -9,6 +9,7 @@ use Rattle.yp_live.specs.Feeds.{feed_of, feeds_in, AreFeedsOf}
 use Rattle.yp_live.specs.Records.{AreRecords}
 use Rattle.yp_live.proofs.Desks.{sent_joined, sent_length, sent_none}
 use Rattle.yp_live.proofs.FeedLaws.{feeds_left, none_left, of_moment}
+use Rattle.yp_live.proofs.RunLaws.{found_by}
 use Rattle.yp_live.proofs.records.tell_patch.Goals as goal
 
 pub tell_change-requires-clause-feed : goal.tell_change-requires-clause-feed
@@ -16,8 +17,12 @@ tell_change-requires-clause-feed g c =
     let moment = c.args.moment.now in
     (subst (AreFeedsOf moment.schema.now (length moment.readers.now)) (feeds_left c.loop-feed.feed-index _ c.feed-item.result c.loop-feed-test.true c.feed-item.is) c.loop-feed.invariant.feeds).0
 
-pub tell_change-requires-clause-changed : goal.tell_change-requires-clause-changed
-tell_change-requires-clause-changed g c = (c.requires.patch.0.rows, c.requires.patch.1.datastore, c.requires.patch.1.changed)
+pub tell_change-requires-clause-found : goal.tell_change-requires-clause-found
+tell_change-requires-clause-found g c =
+    let before : JournalState = c.requires.patch.0 in
+    let patch = c.requires.patch.1 in
+    let old = c.requires.patch.2 in
+    (before.rows, found_by _ before c.args.moment.now.state.now c.args.changed.now c.loop-feed.outbox.former patch (c.loop-feed.invariant.former before patch old), c.loop-feed.invariant.records before patch old)
 
 pub loop-feed-init : goal.loop-feed-init
 loop-feed-init g c =
@@ -29,9 +34,10 @@ loop-feed-init g c =
     record {
       count = c.requires.desks;
       feeds = subst (AreFeedsOf nodes (length moment.readers.now)) (sym all) (of_moment nodes state moment.readers.now c.requires.moment);
-      records = subst (λ (records : List Kept). AreRecords nodes state c.args.changed.now records) (sym c.new-records.ensures.items) tt;
+      records = λ before patch old. subst (λ (records : List Kept). AreRecords nodes state before.rows records) (sym c.new-records.ensures.items) tt;
+      former = λ before patch old. old;
       selections = refl;
-      sent = λ before patch. ap (λ (feeds : List Feed). sent nodes start (flat_map (changes_for nodes before state) feeds) c.args.outbox.now.desks.items) all;
+      sent = λ before patch old. ap (λ (feeds : List Feed). sent nodes start (flat_map (changes_for nodes before state) feeds) c.args.outbox.now.desks.items) all;
     }
 
 pub loop-feed-preserved : goal.loop-feed-preserved
@@ -45,23 +51,27 @@ loop-feed-preserved g c =
     let feeds = c.as_slice-feed-items.result.now in
     let rest = feeds_in (drop (c.loop-feed.feed-index + 1) feeds) in
     let left = feeds_left c.loop-feed.feed-index feeds c.feed-item.result c.loop-feed-test.true c.feed-item.is in
+    let is = c.loop-feed.invariant in
+    let here = c.requires.patch in
+    let told = c.in_ok-tell_change.ensures in
     record {
       count =
-          ap (λ (desks : List DeskState). length desks) (c.in_ok-tell_change.ensures.desks c.requires.patch.0 c.requires.patch.1)
-          ∙ sent_length nodes start (changes_for nodes c.requires.patch.0 state feed) was
-          ∙ c.loop-feed.invariant.count;
-      feeds = (subst (AreFeedsOf nodes (length moment.readers.now)) left c.loop-feed.invariant.feeds).1;
-      records = c.in_ok-tell_change.ensures.records;
-      selections = c.tell_change.ensures.selections ∙ c.loop-feed.invariant.selections;
-      sent = λ before patch.
-          ap (sent nodes start (flat_map (changes_for nodes before state) rest)) (c.in_ok-tell_change.ensures.desks before patch)
+          ap (λ (desks : List DeskState). length desks) (told.desks here.0 here.1 (is.former here.0 here.1 here.2) (is.records here.0 here.1 here.2))
+          ∙ sent_length nodes start (changes_for nodes here.0 state feed) was
+          ∙ is.count;
+      feeds = (subst (AreFeedsOf nodes (length moment.readers.now)) left is.feeds).1;
+      records = λ before patch old. told.records before.rows (found_by nodes before state c.args.changed.now c.loop-feed.outbox.former patch (is.former before patch old)) (is.records before patch old);
+      former = λ before patch old. told.former before.rows (found_by nodes before state c.args.changed.now c.loop-feed.outbox.former patch (is.former before patch old));
+      selections = c.tell_change.ensures.selections ∙ is.selections;
+      sent = λ before patch old.
+          ap (sent nodes start (flat_map (changes_for nodes before state) rest)) (told.desks before patch (is.former before patch old) (is.records before patch old))
           ∙ sym (sent_joined nodes start (changes_for nodes before state feed) (flat_map (changes_for nodes before state) rest) was)
           ∙ ap (λ (those : List Feed). sent nodes start (flat_map (changes_for nodes before state) those) was) (sym left)
-          ∙ c.loop-feed.invariant.sent before patch;
+          ∙ is.sent before patch old;
     }
 
 pub returns-clause-desks : goal.returns-clause-desks
-returns-clause-desks g c = λ before patch.
+returns-clause-desks g c = λ before patch old.
     let moment = c.args.moment.now in
     let nodes = moment.schema.now in
     let start = moment.start.now in
@@ -69,4 +79,4 @@ returns-clause-desks g c = λ before patch.
     let desks = c.loop-feed.outbox.desks.items in
     sym (sent_none nodes start desks)
     ∙ ap (λ (feeds : List Feed). sent nodes start (flat_map (changes_for nodes before state) feeds) desks) (sym (none_left c.loop-feed.feed-index c.as_slice-feed-items.result.now c.loop-feed-test.false))
-    ∙ c.loop-feed.invariant.sent before patch
+    ∙ c.loop-feed.invariant.sent before patch old

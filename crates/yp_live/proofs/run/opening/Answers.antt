@@ -26,6 +26,7 @@ returns-clause-run c =
       legal = subst (λ (es : List Entry). IsLegal nodes (first_state receivers) es) (sym c.new-2.ensures.items) tt;
       state = state ∙ ap (state_of nodes (first_state receivers)) (sym c.new-2.ensures.items);
       selections = subst (λ (kept : List Selected). AreSelected nodes (the_view c.state.inside) kept) (sym c.new-3.ensures.items) tt;
+      former = tt;
       desks =
           c.in_ok-bare_desks.ensures
           ∙ sym (each_none nodes start (made_by nodes receivers []) (c.what_a_journal_makes_goes_on.ensures.none nodes receivers) 0 (map bare_desk receivers))

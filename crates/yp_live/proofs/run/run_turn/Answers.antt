@@ -6,6 +6,7 @@ use Rattle.yp_core.specs.Updates.{attempts_at}
 use Rattle.yp_live.specs.declared.run.Run.{Run}
 use Rattle.yp_live.specs.Desks.{sent}
 use Rattle.yp_live.specs.Readers.{rules_of_each}
+use Rattle.yp_live.specs.Records.{IsFormer}
 use Rattle.yp_live.specs.Runs.{IsStep}
 use Rattle.yp_live.specs.Selections.{AreSelected}
 use Rattle.yp_live.proofs.RunLaws.{desks_length, follows, run_on}
@@ -17,6 +18,7 @@ tell_step-requires-clause-step g c =
       run.state,
       record { fits = c.requires.run.fits; declared = c.requires.run.declared; rules = c.requires.run.rules; may = c.requires.may; state = c.in_ok-outcome.ensures.state; reply = c.in_ok-outcome.ensures.reply; changed = c.in_ok-outcome.ensures.changed },
       c.requires.run.selections,
+      c.requires.run.former,
       c.stamp-before.ensures.value,
     )
 
@@ -51,4 +53,5 @@ returns-clause-run g c =
     (stays ∙ c.in_ok-outcome.ensures.state) refl entries
     (c.in_ok-tell_step.ensures.readers ∙ ap (λ (s : JournalState). rules_of_each s.policy receivers) (sym stays))
     (subst (λ (s : JournalState). AreSelected nodes s told.outbox.selections.items) (sym stays) c.in_ok-tell_step.ensures.selections)
-    (c.in_ok-tell_step.ensures.desks run.state step c.stamp-before.ensures.value ∙ ap (λ (s : JournalState). sent nodes start (attempts_at nodes run.state s) run.outbox.desks.items) (sym stays))
+    (subst (λ (s : JournalState). IsFormer s.rows told.outbox.former) (sym stays) c.in_ok-tell_step.ensures.former)
+    (c.in_ok-tell_step.ensures.desks run.state step c.stamp-before.ensures.value is.former ∙ ap (λ (s : JournalState). sent nodes start (attempts_at nodes run.state s) run.outbox.desks.items) (sym stays))

@@ -14,13 +14,13 @@ returns c =
     let held = c.args.self.now in
     let id = c.args.id in
     let before : List (ℕ × List Row) = c.self.inside.kept.entries in
-    let rows : c.match-remove.rows ≡ unwrap_or (held_of id held) [] =
+    let rows : c.match-remove.held ≡ unwrap_or (held_of id held) [] =
     elim c.match-remove.branch [
-      | in-Some w ↦ w.rows-is ∙ ap (λ (o : Option (List Row)). unwrap_or o []) w.in-Some.ensures.value ∙ ap (λ es. unwrap_or (held_of id es) []) c.self.view_is
-      | in-None w ↦ w.rows-is ∙ w.new-rows.ensures ∙ ap (λ (o : Option (List Row)). unwrap_or o []) w.in-None.ensures.value ∙ ap (λ es. unwrap_or (held_of id es) []) c.self.view_is
+      | in-Some w ↦ w.held-is ∙ ap (λ (o : Option (List Row)). unwrap_or o []) w.in-Some.ensures.value ∙ ap (λ es. unwrap_or (held_of id es) []) c.self.view_is
+      | in-None w ↦ w.held-is ∙ w.changed-held.ensures ∙ w.new.ensures ∙ ap (λ (o : Option (List Row)). unwrap_or o []) w.in-None.ensures.value ∙ ap (λ es. unwrap_or (held_of id es) []) c.self.view_is
     ] in
     when_ok c.set.result c.set.ensures (λ set.
     set
-    ∙ (λ i. insert_entry nat_cmp (c.remove.ensures.entries i) id ((c.in_ok-hear_changes.ensures ∙ ap (changed_by c.args.changes.now) rows) i))
+    ∙ (λ i. insert_entry nat_cmp (c.remove.ensures.entries i) id ((c.changed.ensures ∙ c.in_ok-hear_changes.ensures ∙ ap (changed_by c.args.changes.now) (c.in_ok-rows.ensures ∙ rows)) i))
     ∙ set_again id (changed_by c.args.changes.now (unwrap_or (held_of id held) [])) before c.len-count.ensures.ordered
     ∙ ap (λ es. insert_entry nat_cmp es id (changed_by c.args.changes.now (unwrap_or (held_of id held) []))) c.self.view_is)
