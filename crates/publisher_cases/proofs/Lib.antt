@@ -1,3 +1,4 @@
--- Lemmas on rows.
+-- Lemmas on rows and on roots.
 pub mod Datastores
+pub mod Roots
 pub mod Writable

@@ -1,7 +1,7 @@
 //! The calls that cases name, library by library.
 use crate::given::items;
 use crate::shown::Answer;
-use crate::{filters, notices, patches, policies, registries, selections};
+use crate::{filters, notices, patches, policies, registries, selections, windows};
 use serde_json::Value as Json;
 use std::alloc::Global;
 use yp_nacm::policy::Policy;
@@ -70,6 +70,9 @@ pub fn answer(
         return Ok(given);
     }
     if let Some(given) = selections::answer(alloc, setting, call, arguments)? {
+        return Ok(given);
+    }
+    if let Some(given) = windows::answer(alloc, setting, call, arguments)? {
         return Ok(given);
     }
     if let Some(given) = patches::answer(alloc, &setting.schema, call, arguments)? {

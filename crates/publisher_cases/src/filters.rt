@@ -1,15 +1,22 @@
 //! Calls of `yp_filter`: subtree filters.
-use crate::shown::{Answer, atom, push_comma, push_quoted, quoted};
+ghost use Rattle.std.specs.Prelude.{◌≡◌, IfOk, true};
+ghost use Rattle.yp_filter.specs.Fits.{filter_fits};
+ghost use Rattle.yp_filter.specs.View.{filter_view};
+
+use crate::given::part;
+use crate::shown::{Answer, atom, push_comma, push_quoted, quoted, truth};
 use serde_json::Value as Json;
 use std::alloc::Global;
 use yp_base::row::Value;
 use yp_filter::fault::FilterFault;
 use yp_filter::filter::{Filter, FilterNode, FilterSet};
+use yp_filter::same::same_filter;
 use yp_schema::schema::Schema;
 
 pub fn answer(alloc: Global, schema: &Schema, call: &str, arguments: &Json) -> Answer {
     Ok(match call {
         "filter" => Some(read(alloc, schema, arguments)?),
+        "same_filter" => Some(truth(alloc, is_same(alloc, schema, arguments)?)?),
         _ => None,
     })
 }
@@ -21,6 +28,23 @@ fn read(alloc: Global, schema: &Schema, json: &Json) -> anyhow::Result<String> {
         Err(FilterFault::Memory) => Ok(Err(FilterFault::Memory)?),
         Err(fault) => quoted(alloc, format!(in alloc; "{fault}")?.as_str()),
     }
+}
+
+/// The filter of a case: everything where it is null.
+pub fn filter_of(alloc: Global, schema: &Schema, json: &Json) -> anyhow::Result<Filter>
+    ensures { IfOk result (λ filter. filter_fits schema.now (filter_view filter) ≡ true) }
+{
+    if json.is_null() {
+        return Ok(Filter::All);
+    }
+    Ok(Filter::read(alloc, schema, json)?)
+}
+
+/// Whether two filters say the same.
+fn is_same(alloc: Global, schema: &Schema, arguments: &Json) -> anyhow::Result<bool> {
+    let one = filter_of(alloc, schema, part(arguments, "one")?)?;
+    let other = filter_of(alloc, schema, part(arguments, "other")?)?;
+    Ok(same_filter(&one, &other))
 }
 
 fn shown(alloc: Global, schema: &Schema, filter: &Filter, size: u32) -> anyhow::Result<String> {

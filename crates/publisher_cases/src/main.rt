@@ -13,6 +13,7 @@ mod policies;
 mod registries;
 mod selections;
 mod shown;
+mod windows;
 
 use std::{io, str};
 use yp_io::persistent::Persistent;

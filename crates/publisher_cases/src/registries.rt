@@ -213,7 +213,8 @@ fn anchor_asked(json: &Json) -> Result<Option<i64>, BadArgument>
     }
 }
 
-fn no_kinds() -> Kinds {
+/// No kind of edits.
+pub fn no_kinds() -> Kinds {
     Kinds {
         create: false,
         delete: false,

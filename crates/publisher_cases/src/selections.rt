@@ -1,14 +1,15 @@
 //! Calls of `yp_select`: what filters keep and select for readers.
 ghost use Rattle.std.specs.Prelude.{◌≡◌, ◌<◌, [], IfOk, None, true};
-ghost use Rattle.yp_schema.specs.Datastore.{AreWritable, IsDatastore, goes_down};
+ghost use Rattle.yp_schema.specs.Datastore.{AreWritable, IsDatastore, goes_down, is_path_of};
 ghost use Rattle.yp_filter.specs.Fits.{filter_fits};
 ghost use Rattle.yp_filter.specs.View.{filter_view};
 
 use crate::calls::Setting;
+use crate::filters::filter_of;
 use crate::given::part;
 use crate::patches::{data_of, tree_of};
 use crate::policies::{own_rules, path_of};
-use crate::shown::{Answer, truth};
+use crate::shown::{Answer, quoted, truth, value};
 use serde_json::Value as Json;
 use std::alloc::Global;
 use std::marker::Brand;
@@ -21,38 +22,29 @@ use yp_filter::filter::Filter;
 use yp_nacm::compile::UserRules;
 use yp_schema::schema::Schema;
 use yp_select::keeping::kept;
-use yp_select::select::{select_all, select_below};
+use yp_select::select::{select_all, select_at, select_below};
 use yp_tree::tree::Tree;
 
 /// A filter, what a user may read, and a datastore.
 #[derive(Drop)]
-struct Asked {
-    filter: Filter,
-    rules: UserRules,
-    tree: Tree,
+pub struct Asked {
+    pub filter: Filter,
+    pub rules: UserRules,
+    pub tree: Tree,
 }
 
 pub fn answer(alloc: Global, setting: &Setting, call: &str, arguments: &Json) -> Answer {
     Ok(Some(match call {
         "select" => selected(alloc, setting, arguments)?,
+        "select_at" => selected_at(alloc, setting, arguments)?,
         "select_below" => selected_below(alloc, setting, arguments)?,
         "keeps" => truth(alloc, keeps(alloc, setting, arguments)?)?,
         _ => return Ok(None),
     }))
 }
 
-/// The filter of a case: everything where it is null.
-fn filter_of(alloc: Global, schema: &Schema, json: &Json) -> anyhow::Result<Filter>
-    ensures { IfOk result (λ filter. filter_fits schema.now (filter_view filter) ≡ true) }
-{
-    if json.is_null() {
-        return Ok(Filter::All);
-    }
-    Ok(Filter::read(alloc, schema, json)?)
-}
-
 /// What a case asks.
-fn asked_of(alloc: Global, setting: &Setting, arguments: &Json) -> anyhow::Result<Asked>
+pub fn asked_of(alloc: Global, setting: &Setting, arguments: &Json) -> anyhow::Result<Asked>
     ensures fits { IfOk result (λ asked. filter_fits setting.now.schema (filter_view asked.filter) ≡ true) }
     ensures datastore { IfOk result (λ asked. IsDatastore setting.now.schema asked.tree) }
 {
@@ -120,6 +112,32 @@ fn select_counted_below<L: Ledger>(
     )
 }
 
+/// The value that is selected at a path, or null, with a count of steps of its own.
+fn select_counted_at<L: Ledger>(
+    alloc: Global,
+    schema: &Schema,
+    asked: &Asked,
+    at: &Path,
+    blank: Blank,
+) -> anyhow::Result<String>
+    requires name { blank.name ≡ L.name }
+    requires parts { blank.parts ≡ L.parts }
+    requires some { 0 < L.parts }
+    requires fits { filter_fits schema.now (filter_view asked.now.filter) ≡ true }
+    requires path { is_path_of schema.now at.now ≡ true }
+{
+    let mut steps = Steps::<L>::open(blank);
+    let Asked {
+        filter,
+        rules,
+        tree,
+    } = asked;
+    match select_at(alloc, schema, filter, rules, tree, at, &mut steps)? {
+        Some(held) => quoted(alloc, value(alloc, held)?.as_str()),
+        None => Ok(String::from_str(alloc, "null")?),
+    }
+}
+
 /// Whether a path is kept, with a count of steps of its own.
 fn keeps_counted<L: Ledger>(
     alloc: Global,
@@ -159,6 +177,13 @@ fn selected_below(alloc: Global, setting: &Setting, arguments: &Json) -> anyhow:
     let path = path_of(alloc, setting, arguments)?;
     let rows = select_counted_below::<Brand>(alloc, &setting.schema, &asked, &path, Blank::new(1))?;
     data_of(alloc, &setting.schema, &rows)
+}
+
+/// What it holds at a path.
+fn selected_at(alloc: Global, setting: &Setting, arguments: &Json) -> anyhow::Result<String> {
+    let asked = asked_of(alloc, setting, arguments)?;
+    let path = path_of(alloc, setting, arguments)?;
+    select_counted_at::<Brand>(alloc, &setting.schema, &asked, &path, Blank::new(1))
 }
 
 /// Whether a filter keeps a path for a user.
