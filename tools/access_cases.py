@@ -301,7 +301,8 @@ class Drawing:
     def value(self, sort: str) -> Any:
         return {"string": self.draw.choice(["x", "y"]), "boolean": self.draw.random() < 0.5}.get(sort, self.draw.randrange(3))
 
-    def patch(self) -> None:
+    def edit(self) -> tuple[dict[str, Any], Rows]:
+        """An edit that isn't refused, and the rows after it."""
         path = self.entry()
         kind = node_at(path).kind
         needed = path[:-1] if len(path) > 1 and node_at(path[:-1]).kind == "list" else ()
@@ -313,6 +314,10 @@ class Drawing:
             is_merge = self.draw.random() < 0.5
             edit = {**edit, "operation": "merge" if is_merge else "replace", "value": value_at(made, path)}
             kept = (self.rows if is_merge else kept) | made
+        return edit, kept
+
+    def patch(self) -> None:
+        edit, kept = self.edit()
         before = [self.want(receiver) for receiver in range(len(USERS))]
         self.rows = kept
         self.say(compact({"patch": {"ietf-yang-patch:yang-patch": {"patch-id": "p", "edit": [edit]}}}))
