@@ -13,9 +13,10 @@ use Rattle.yp_attempt.specs.Runs.{Found, with_started, Run, first_run, waits, ru
 use Rattle.yp_attempt.specs.Attempts.{Stop, stop, stop_or_go, until_offer, replay, attempts}
 use Rattle.yp_attempt.specs.Alike.{IsSameFor, AreAlike}
 use Rattle.yp_attempt.proofs.Replays.{answer_at}
-use Rattle.yp_attempt.proofs.Lists.{all_append, all_before, all_rest, all_map, all_filter, map_where}
+use Rattle.yp_attempt.specs.ListLaws.{all_append, all_before, all_rest, all_map, all_filter, map_where}
 use Rattle.yp_attempt.proofs.Offers.{found_first_offer}
-use Rattle.yp_attempt.proofs.Owners.{act_same, moment_same, answer_same, started_all, ended_all}
+use Rattle.yp_attempt.specs.TrackLaws.{act_same, moment_same, answer_same}
+use Rattle.yp_attempt.proofs.Owners.{started_all, ended_all}
 
 -- each of the run's tracks is this receiver's
 abbrev AreMine : ℕ → Run → Type 0

@@ -7,9 +7,10 @@ use Rattle.yp_attempt.specs.Content.{Content}
 use Rattle.yp_attempt.specs.Tracks.{Track, Answer, rebased, after_answer}
 use Rattle.yp_attempt.specs.Moments.{Moment, Act, Quiet, Starts, Controls, Drops, after_moment, is_kept_by, new_track}
 use Rattle.yp_attempt.specs.Runs.{AreById, with_started, Run, Reaches, opened, advances, settles}
-use Rattle.yp_attempt.proofs.Lists.{all_append, all_before, all_rest, all_map, all_filter, all_weaker, filter_passes}
+use Rattle.yp_attempt.specs.ListLaws.{all_append, all_before, all_rest, all_map, all_filter, all_weaker, filter_passes}
 use Rattle.yp_attempt.proofs.Offers.{found_first_offer}
-use Rattle.yp_attempt.proofs.Owners.{moment_same, answer_same, ended_all}
+use Rattle.yp_attempt.specs.TrackLaws.{moment_same, answer_same}
+use Rattle.yp_attempt.proofs.Owners.{ended_all}
 
 -- a track of this id or a greater one
 abbrev IsFrom : ℕ → Track → Type 0

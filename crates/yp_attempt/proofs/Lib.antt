@@ -1,4 +1,3 @@
-pub mod Lists
 pub mod Owners
 pub mod Offers
 pub mod Replays

@@ -12,7 +12,7 @@ use Rattle.yp_attempt.specs.Content.{Content, IsLawful}
 use Rattle.yp_attempt.specs.Tracks.{Track, current, roots_in, record_in, edit_count, offered_item, freeze_tried, moving, rebased}
 use Rattle.yp_attempt.specs.Runs.{Found, found_in, first_offer}
 use Rattle.yp_attempt.specs.Workers.{ready, found_rebased}
-use Rattle.yp_attempt.proofs.Lists.{by_bool, and_false}
+use Rattle.yp_attempt.specs.ListLaws.{by_bool, and_false}
 
 -- ---- the base moves
 

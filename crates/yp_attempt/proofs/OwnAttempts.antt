@@ -5,8 +5,8 @@ use Rattle.yp_attempt.specs.Content.{Content}
 use Rattle.yp_attempt.specs.Tracks.{Answer}
 use Rattle.yp_attempt.specs.Moments.{Moment, MayFollow, AllMayFollow}
 use Rattle.yp_attempt.specs.Runs.{Found, Run, first_run, waits, run_advanced, run_settled, Reaches, opened, advances, settles}
-use Rattle.yp_attempt.specs.Attempts.{Stop, stop, stop_or_go, until_offer, Replayed, with_left, go_on, replay, attempts, of_receiver, answers_in, own_run, IsOneOf}
-use Rattle.yp_attempt.proofs.Lists.{not_empty}
+use Rattle.yp_attempt.specs.Attempts.{Stop, stop, stop_or_go, until_offer, Replayed, with_left, go_on, replay, IsReplayOf, attempts, of_receiver, answers_in, own_run, IsOneOf}
+use Rattle.yp_attempt.specs.ListLaws.{not_empty}
 use Rattle.yp_attempt.proofs.Replays.{answer_at, more_after_offer, nothing_left, reached_is_replayed}
 use Rattle.yp_attempt.proofs.OwnRuns.{own_reaches}
 
@@ -94,6 +94,11 @@ replay_reaches c receivers (answer ∷ answers) moments past before run r legal 
     let k : IsUntilOffer c receivers past before moments p = until_offer_reaches c receivers before moments past run r legal in
     used_by c receivers past moments before p answer answers (waits c p.run) (λ found. replay c receivers (run_settled c p.run found answer) p.rest answers) refl k
     (λ found e. replay_reaches c receivers answers p.rest (past ++ k.taken) (before ++ answer ∷ []) (run_settled c p.run found answer) (settles (past ++ k.taken) before p.run found answer k.reaches e) k.legal)
+
+pub replay_is_reached : (c : Content) (receivers : List ℕ) (journal : List Moment) (answers : List Answer) → AllMayFollow [] journal → IsReplayOf c receivers journal answers (replay c receivers first_run journal answers)
+replay_is_reached c receivers journal answers legal =
+    let u : IsUsed c receivers [] journal [] answers (replay c receivers first_run journal answers) = replay_reaches c receivers answers journal [] [] first_run opened legal in
+    record { past = u.taken; given = u.given; entries = u.splits; met = u.parts; reaches = u.reaches }
 
 -- ---- entries that no answer reaches
 

@@ -8,9 +8,9 @@ use Rattle.yp_attempt.specs.Tracks.{Track, Attempt, Answer, offered_item, attemp
 use Rattle.yp_attempt.specs.Moments.{Moment, Act, Quiet, Starts, Controls, Drops, after_moment, is_kept_by, new_track}
 use Rattle.yp_attempt.specs.Runs.{Found, first_offer, IsFirst, settled, with_started, Run, waits, run_advanced, run_settled, Reaches, opened, advances, settles}
 use Rattle.yp_attempt.specs.Attempts.{own_tracks, of_receiver, answers_in, own_run, IsOneOf}
-use Rattle.yp_attempt.proofs.Lists.{all_filter, filter_pass, filter_fail, filter_map_same, filter_swap}
+use Rattle.yp_attempt.specs.ListLaws.{all_filter, filter_pass, filter_fail, filter_map_same, filter_swap}
 use Rattle.yp_attempt.proofs.Offers.{found_first_offer, idle_first, idle_all, all_idle}
-use Rattle.yp_attempt.proofs.Owners.{moment_same, answer_same}
+use Rattle.yp_attempt.specs.TrackLaws.{moment_same, answer_same}
 
 -- ---- one receiver's tracks
 

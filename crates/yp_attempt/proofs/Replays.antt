@@ -5,7 +5,7 @@ use Rattle.yp_attempt.specs.Tracks.{Answer}
 use Rattle.yp_attempt.specs.Moments.{Moment}
 use Rattle.yp_attempt.specs.Runs.{Found, Run, first_run, waits, run_advanced, run_settled, Reaches, opened, advances, settles}
 use Rattle.yp_attempt.specs.Attempts.{Stop, stop, stop_or_go, until_offer, Replayed, with_left, go_on, replay}
-use Rattle.yp_attempt.proofs.Lists.{not_empty}
+use Rattle.yp_attempt.specs.ListLaws.{not_empty}
 
 -- ---- entries
 

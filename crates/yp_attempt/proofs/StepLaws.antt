@@ -15,8 +15,8 @@ use Rattle.yp_feed.specs.declared.item.Item.TheVariants.{Started, Modified, Inco
 use Rattle.yp_attempt.specs.Tracks.{Notice, item_made, is_state_change, BeginsAnew}
 use Rattle.yp_attempt.specs.Attempts.{Stop, until_offer, replay, attempts, answers_in}
 use Rattle.yp_attempt.proofs.Replays.{answer_at}
-use Rattle.yp_attempt.proofs.Lists.{all_map, filter_passes}
-use Rattle.yp_attempt.proofs.Owners.{moment_same}
+use Rattle.yp_attempt.specs.ListLaws.{all_map, filter_passes}
+use Rattle.yp_attempt.specs.TrackLaws.{moment_same}
 use Rattle.yp_attempt.proofs.OwnRuns.{answers_one_more}
 use Rattle.yp_attempt.proofs.OwnAttempts.{until_offer_done}
 

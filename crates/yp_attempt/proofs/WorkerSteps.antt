@@ -12,7 +12,7 @@ use Rattle.yp_attempt.specs.Tracks.{Track, Answer, Took, Full, roots_in, with_fe
 use Rattle.yp_attempt.specs.Moments.{Moment, with_selection, after_act, after_rules, after_moment, is_kept_by, new_track, MayFollow}
 use Rattle.yp_attempt.specs.Runs.{Standing, Found, first_offer, IsFirst, unless_ended, with_started, advanced, Run, first_run, waits, run_advanced, run_settled, Reaches, opened, advances, settles}
 use Rattle.yp_attempt.specs.Workers.{ready, all_ready, Stands, found_rebased, takes, answered_alone, puts}
-use Rattle.yp_attempt.proofs.Lists.{all_append, all_before, all_rest, map_where, map_map_where}
+use Rattle.yp_attempt.specs.ListLaws.{all_append, all_before, all_rest, map_where, map_map_where}
 use Rattle.yp_attempt.proofs.Offers.{found_first_offer}
 use Rattle.yp_attempt.proofs.Looks.{IsThawed, tried_thaws, untried_thaws, ready_thawed, ready_rebased, ready_twice, offering_stays, first_moved}
 use Rattle.yp_attempt.proofs.Owners.{started_all, ended_all}

@@ -1,9 +1,9 @@
 -- The attempts that a journal makes with given answers, by recursion, and one receiver's part of them.
-use Rattle.std.specs.Prelude.{◌≡◌, ℕ, ◌==◌, List, [], ◌∷◌, map, filter, Option, Some, None}
+use Rattle.std.specs.Prelude.{◌≡◌, ℕ, ◌==◌, List, [], ◌∷◌, ◌++◌, map, filter, Option, Some, None}
 use Rattle.yp_attempt.specs.Content.{Content}
 use Rattle.yp_attempt.specs.Tracks.{Track, Made, Attempt, Answer, Took, Full}
 use Rattle.yp_attempt.specs.Moments.{Moment}
-use Rattle.yp_attempt.specs.Runs.{Run, Found, first_run, waits, run_advanced, run_settled}
+use Rattle.yp_attempt.specs.Runs.{Run, Found, first_run, waits, run_advanced, run_settled, Reaches}
 
 -- where a run stops, and the entries that it didn't come to
 pub record Stop : Type 0 where
@@ -45,6 +45,14 @@ replay c receivers run moments [] = with_left (until_offer c receivers run momen
 replay c receivers run moments (answer ∷ answers) =
     go_on (waits c (until_offer c receivers run moments).run) (with_left (until_offer c receivers run moments) (answer ∷ answers))
     (λ found. replay c receivers (run_settled c (until_offer c receivers run moments).run found answer) (until_offer c receivers run moments).rest answers)
+
+-- a replay of a journal with answers leads to a run, by the entries that it came to and the answers that met an offer
+pub record IsReplayOf (c : Content) (receivers : List ℕ) (journal : List Moment) (answers : List Answer) (end : Replayed) : Type 0 where
+  pub past : List Moment
+  pub given : List Answer
+  pub entries : past ++ end.rest ≡ journal
+  pub met : given ++ end.left ≡ answers
+  pub reaches : Reaches c receivers past given end.run
 
 -- the attempts of some receivers' feeds
 abbrev pub attempts : Content → List ℕ → List Moment → List Answer → List Attempt

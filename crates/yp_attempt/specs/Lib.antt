@@ -6,3 +6,5 @@ pub mod Attempts
 pub mod Alike
 pub mod Workers
 pub mod Examples
+pub mod ListLaws
+pub mod TrackLaws

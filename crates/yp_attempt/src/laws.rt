@@ -8,7 +8,7 @@ ghost use Rattle.yp_attempt.specs.Content.{Content, IsLawful};
 ghost use Rattle.yp_attempt.specs.Tracks.{Track, Answer, Took, Full, Notice, BeginsAnew, after_answer, item_made, is_state_change, rebased};
 ghost use Rattle.yp_attempt.specs.Moments.{Moment, Drops, MayFollow, AllMayFollow, after_rules};
 ghost use Rattle.yp_attempt.specs.Runs.{Standing, AreById, Found, IsFirst, Run, Reaches, advanced, first_offer, first_run, waits};
-ghost use Rattle.yp_attempt.specs.Attempts.{Replayed, replay, attempts, stream, of_receiver, answers_in, own_run, IsOneOf};
+ghost use Rattle.yp_attempt.specs.Attempts.{Replayed, IsReplayOf, replay, attempts, stream, of_receiver, answers_in, own_run, IsOneOf};
 ghost use Rattle.yp_attempt.specs.Alike.{AreAlike};
 ghost use Rattle.yp_attempt.specs.Examples.{counting, full_queue, many_rows, offers_of};
 ghost use Rattle.yp_attempt.specs.Workers.{Stands, ready, all_ready, takes, puts, found_rebased};
@@ -18,6 +18,13 @@ ghost use Rattle.yp_attempt.specs.Workers.{Stands, ready, all_ready, takes, puts
 pub fn what_is_reached_is_what_replaying_gives()
     ensures { (c : Content) (receivers : List ℕ) (past : List Moment) (answers : List Answer) (run : Run) → Reaches c receivers past answers run
         → replay c receivers first_run past answers ≡ record { run = run; rest = []; left = [] } }
+{}
+
+/// Replaying a journal of which each entry may come after those before it leads to a run: by the entries
+/// that it came to, and the answers that met an offer.
+pub fn what_replaying_gives_is_reached()
+    ensures { (c : Content) (receivers : List ℕ) (journal : List Moment) (answers : List Answer) → AllMayFollow [] journal
+        → IsReplayOf c receivers journal answers (replay c receivers first_run journal answers) }
 {}
 
 /// Of a run of several receivers, the part of one is that receiver's own run, with the answers that it gave.

@@ -1,0 +1,14 @@
+pub mod Facts
+pub mod Offering
+pub mod Links
+pub mod Taking
+pub mod Refusing
+pub mod Looking
+pub mod Entering
+pub mod Lists
+pub mod Running
+pub mod Stories
+pub mod FullQueues
+pub mod Following
+pub mod Histories
+pub mod Promises

@@ -1,0 +1,5 @@
+pub mod Heard
+pub mod Stories
+pub mod Following
+pub mod Links
+pub mod FullQueues
