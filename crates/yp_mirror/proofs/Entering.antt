@@ -13,7 +13,7 @@ use Rattle.yp_attempt.specs.Tracks.{Track, Frozen, with_feed}
 use Rattle.yp_attempt.specs.Moments.{Moment, Act, Quiet, Starts, Controls, Drops, with_selection, with_control, after_act, after_rules, after_moment, new_track}
 use Rattle.yp_attempt.specs.TrackLaws.{act_same}
 use Rattle.yp_mirror.specs.Heard.{Told, told_nothing}
-use Rattle.yp_mirror.specs.Stories.{Story, Steady, Tells, is_control_of}
+use Rattle.yp_mirror.specs.Stories.{Story, Steady, TellsEntry, is_control_of}
 use Rattle.yp_mirror.specs.Links.{FrozenFits, Linked}
 use Rattle.yp_mirror.proofs.Facts.{clash, eight_no, none_between, at_most_later, last_more, moved_current, moved_first, moved_base, no_full}
 use Rattle.yp_mirror.proofs.Links.{mirrored_resyncs, resyncing_if, no_frozen, ends_none}
@@ -27,7 +27,7 @@ frozen_later c story sub n k sync terminated rows last true None h = h
 frozen_later c story sub n k sync terminated rows last false (Some frozen) h = h
 frozen_later c story sub n k sync terminated rows last false None h = h
 
-selection_linked : (c : Content) (story : Story) (receiver n k stamp : ℕ) (track : Track) (t : Told) (m : Moment) → Linked c story receiver n k stamp track t → Tells story receiver (n + 1) m → stamp ≤ m.stamp → Linked c story receiver (n + 1) k m.stamp (with_selection m track) t
+selection_linked : (c : Content) (story : Story) (receiver n k stamp : ℕ) (track : Track) (t : Told) (m : Moment) → Linked c story receiver n k stamp track t → TellsEntry story receiver (n + 1) m → stamp ≤ m.stamp → Linked c story receiver (n + 1) k m.stamp (with_selection m track) t
 selection_linked c story receiver n k stamp track t m h tells later = record {
   mine = h.mine;
   mirrored = h.mirrored;
@@ -264,7 +264,7 @@ rules_linked c story receiver n stamp track t true false e f g = control_linked 
 rules_linked c story receiver n stamp track t false true e f g = f refl
 rules_linked c story receiver n stamp track t false false e f g = quiet_linked c story receiver n stamp track t e (g refl)
 
-pub moment_linked : (c : Content) (lawful : IsLawful c) (story : Story) (receiver n stamp : ℕ) (track : Track) (t : Told) (m : Moment) → Linked c story receiver n n stamp track t → Tells story receiver (n + 1) m → stamp ≤ m.stamp
+pub moment_linked : (c : Content) (lawful : IsLawful c) (story : Story) (receiver n stamp : ℕ) (track : Track) (t : Told) (m : Moment) → Linked c story receiver n n stamp track t → TellsEntry story receiver (n + 1) m → stamp ≤ m.stamp
     → Linked c story receiver (n + 1) (n + 1) m.stamp (after_moment c m (n + 1) track) t
 moment_linked c lawful story receiver n stamp track t m h tells later =
     let s = selection_linked c story receiver n n stamp track t m h tells later in

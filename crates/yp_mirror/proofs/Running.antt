@@ -12,7 +12,7 @@ use Rattle.yp_attempt.specs.TrackLaws.{moment_same, answer_same}
 use Rattle.yp_attempt.specs.Moments.{Moment, Act, Quiet, Starts, Controls, Drops, after_moment, is_kept_by, new_track, starts_sub, was_started, IsUnused, MayFollow}
 use Rattle.yp_attempt.specs.Runs.{Run, Found, IsFirst, first_offer, with_started, run_advanced, run_settled, Reaches, opened, advances, settles}
 use Rattle.yp_mirror.specs.Heard.{Told, told_nothing, told_by, of_sub}
-use Rattle.yp_mirror.specs.Stories.{Story, Tells, StartsAs, IsStory}
+use Rattle.yp_mirror.specs.Stories.{Story, TellsEntry, StartsAs, IsStory}
 use Rattle.yp_mirror.specs.Following.{Follows, AllFollow}
 use Rattle.yp_mirror.specs.Links.{Linked, LinkedIn, HaveOwnSubs, RunIsLinked}
 use Rattle.yp_mirror.proofs.Lists.{all_two, same_number, other_number, number_is, IsOfOther, own_map, own_filter, own_append, AreAround, own_around, own_settled, heard_last, follow_last, of_same, of_other, of_none, stamp_last, started_more, started_new, unused_other}
@@ -149,11 +149,11 @@ starts c story receiver n past done tracks m (Starts sub trigger configured name
 starts c story receiver n past done tracks m (Controls sub control) unused begun as_told selection known linked started_attempts apart = none_start c story receiver n m.stamp past done tracks m known linked apart
 starts c story receiver n past done tracks m (Drops sub) unused begun as_told selection known linked started_attempts apart = none_start c story receiver n m.stamp past done tracks m known linked apart
 
-advanced_linked : (c : Content) (lawful : IsLawful c) (story : Story) (receiver : ℕ) (past : List Moment) (run : Run) (m : Moment) → RunIsLinked c story receiver past run → MayFollow past m → Tells story receiver (length past + 1) m → RunIsLinked c story receiver (past ++ m ∷ []) (run_advanced c (receiver ∷ []) m run)
+advanced_linked : (c : Content) (lawful : IsLawful c) (story : Story) (receiver : ℕ) (past : List Moment) (run : Run) (m : Moment) → RunIsLinked c story receiver past run → MayFollow past m → TellsEntry story receiver (length past + 1) m → RunIsLinked c story receiver (past ++ m ∷ []) (run_advanced c (receiver ∷ []) m run)
 advanced_linked c lawful story receiver past run m kept may tells =
     let n : ℕ = run.standing.position in
     let later : run.standing.stamp ≤ m.stamp = subst (λ (x : ℕ). x ≤ m.stamp) (sym kept.stamp) may.stamp in
-    let so : Tells story receiver (n + 1) m = subst (λ (x : ℕ). Tells story receiver (x + 1) m) (sym kept.position) tells in
+    let so : TellsEntry story receiver (n + 1) m = subst (λ (x : ℕ). TellsEntry story receiver (x + 1) m) (sym kept.position) tells in
     let WasStarted : Track → Type 0 = (λ track. was_started past track.feed.sub ≡ true) in
     let f : Track → Track = rebased c n run.standing.stamp in
     let g : Track → Track = after_moment c m (n + 1) in

@@ -33,14 +33,14 @@ StartsAs story (Controls sub control) = Unit {0}
 StartsAs story (Drops sub) = Unit {0}
 
 -- the story tells of an entry at a position
-pub record Tells (story : Story) (receiver n : ℕ) (m : Moment) : Type 0 where
+pub record TellsEntry (story : Story) (receiver n : ℕ) (m : Moment) : Type 0 where
   pub selection : (sub : ℕ) → m.selection sub receiver ≡ story.want sub n
   pub changes : (sub : ℕ) → story.changes sub n ≡ (is_control_of sub m.act || m.rules receiver)
   pub starts : StartsAs story m.act
 
 -- it tells of each entry of a journal, the first of which is at position 1
 abbrev pub IsStory : Story → ℕ → List Moment → Type 0
-IsStory story receiver journal = (past : List Moment) (m : Moment) (rest : List Moment) → past ++ m ∷ rest ≡ journal → Tells story receiver (length past + 1) m
+IsStory story receiver journal = (past : List Moment) (m : Moment) (rest : List Moment) → past ++ m ∷ rest ≡ journal → TellsEntry story receiver (length past + 1) m
 
 -- ---- the story of a journal
 

@@ -1,5 +1,5 @@
 //! Laws of what receivers are told; nothing runs.
-ghost use Rattle.std.specs.Prelude.{◌≡◌, ℕ, ◌+◌, ◌≤◌, ◌++◌, Bool, true, false, List, [], ◌∷◌, length, Some, None};
+ghost use Rattle.std.specs.Prelude.{◌≡◌, ℕ, ◌≤◌, ◌++◌, Bool, true, false, List, [], ◌∷◌, length, Some, None};
 ghost use Rattle.std.specs.List.{AllByRecursion};
 ghost use Rattle.yp_base.specs.declared.notice.Trigger.{Trigger};
 ghost use Rattle.yp_feed.specs.declared.item.Item.TheVariants.{Suspended};
