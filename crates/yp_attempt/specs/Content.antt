@@ -1,6 +1,7 @@
 -- What feeds know of rows: the record of a window of selections, and its size (RFC 8641 sections 3.7 and 3.9).
-use Rattle.std.specs.Prelude.{◌≡◌, ℕ, ◌<◌, true, List, [], ◌∷◌}
+use Rattle.std.specs.Prelude.{◌≡◌, ℕ, ◌<◌, true, List, []}
 use Rattle.yp_base.specs.declared.row.Row.{Row}
+use Rattle.yp_base.specs.Rows.{last_of}
 use Rattle.yp_base.specs.declared.notice.Change.{Change}
 use Rattle.yp_base.specs.declared.notice.Kinds.{Kinds}
 use Rattle.yp_feed.specs.Machine.{excludes_none}
@@ -11,11 +12,6 @@ pub record Content : Type 0 where
   pub window_record : Kinds → List Row → List (List Row) → List Change
   pub edits : List Change → ℕ
   pub received : List Row → List Change → List Row
-
--- the last selection of a window
-abbrev pub last_of : List Row → List (List Row) → List Row
-last_of first [] = first
-last_of first (next ∷ later) = last_of next later
 
 -- where no kind is excluded, a record leads from the first selection to the last, and has an edit where a place changed; in one selection alone no place changed
 pub record IsLawful (c : Content) : Type 0 where

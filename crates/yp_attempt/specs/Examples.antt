@@ -1,13 +1,14 @@
 -- Two short journals of one subscription on change with sync-on-start, for a look at what the definitions give.
 use Rattle.std.specs.Prelude.{ℕ, ◌-◌, true, false, List, [], ◌∷◌, map, None, length, replicate}
 use Rattle.yp_base.specs.declared.row.Row.{Row}
+use Rattle.yp_base.specs.Rows.{last_of}
 use Rattle.yp_base.specs.declared.row.Value.TheVariants.{Present}
 use Rattle.yp_base.specs.declared.notice.Change.{Change}
 use Rattle.yp_base.specs.declared.notice.ChangeKind.TheVariants.{Replace}
 use Rattle.yp_base.specs.declared.notice.Trigger.{Trigger}
 use Rattle.yp_base.specs.declared.notice.Trigger.TheVariants.{OnChange}
 use Rattle.yp_feed.specs.declared.item.Item.{Item}
-use Rattle.yp_attempt.specs.Content.{Content, last_of}
+use Rattle.yp_attempt.specs.Content.{Content}
 use Rattle.yp_attempt.specs.Tracks.{Answer}
 use Rattle.yp_attempt.specs.Moments.{Moment, Act, Quiet, Starts}
 use Rattle.yp_attempt.specs.Attempts.{attempts}

@@ -1,6 +1,7 @@
 -- A feed with what was selected for it since its base: what it offers, what is made of the offer, and what an answer makes of it (RFC 8641 sections 3.1, 3.3, 3.7 and 3.11, RFC 8639 section 2.7).
 use Rattle.std.specs.Prelude.{◌≡◌, ℕ, Bool, true, false, List, [], Option, Some, None, if◌then◌else◌}
 use Rattle.yp_base.specs.declared.row.Row.{Row}
+use Rattle.yp_base.specs.Rows.{last_of}
 use Rattle.yp_base.specs.declared.notice.Change.{Change}
 use Rattle.yp_base.specs.declared.notice.Kinds.{Kinds}
 use Rattle.yp_base.specs.declared.notice.Trigger.{Trigger}
@@ -8,7 +9,7 @@ use Rattle.yp_base.specs.declared.notice.Trigger.TheVariants.{Periodic as Every,
 use Rattle.yp_feed.specs.declared.item.Item.{Item}
 use Rattle.yp_feed.specs.declared.item.Item.TheVariants.{Started, Modified, Incomplete, Suspended, Resumed, Sync, Terminated, Changes, Periodic}
 use Rattle.yp_feed.specs.Machine.{FeedState, freezes, after_freeze, offer_of, moves, looked, rebases, taken, refused}
-use Rattle.yp_attempt.specs.Content.{Content, last_of}
+use Rattle.yp_attempt.specs.Content.{Content}
 
 -- ---- tracks
 

@@ -2,7 +2,9 @@
 use Rattle.std.proofs.Common.{◌≡◌, List, [], ◌∷◌, ◌++◌, map, refl, sym, ap, subst, ◌∙◌, cond, Bool, true, false, true≢false, not, Some, None, Less, Equal, Greater, append-nil, append_assoc, Option}
 use Rattle.std.specs.Prelude.{filter, is_some}
 use Rattle.std.specs.Option.{option_or}
-use Rattle.std.specs.Ordering.{is_eq, match_ordering}
+use Rattle.std.specs.Ordering.{is_eq, eq_by_cmp, match_ordering}
+use Rattle.std.specs.Bool.{Decides}
+use Rattle.std.proofs.lemmas.Bool.Decides.{Decides-like}
 use Rattle.std.specs.declared.cmp.Ordering.{Ordering}
 use Rattle.std.specs.List.{AllByRecursion}
 use Rattle.std.specs.List.Sorted.{IsStrictlySortedBy}
@@ -11,13 +13,21 @@ use Rattle.std.proofs.lemmas.Cmp.{alike_right}
 use Rattle.std.proofs.lemmas.Map.Views.{tells_apart}
 use Rattle.yp_base.specs.declared.path.Seg.{Seg}
 use Rattle.yp_base.specs.declared.row.Row.{Row}
-use Rattle.yp_base.specs.Order.{path_cmp, is_within}
-use Rattle.yp_base.specs.OrderLaws.{paths_total}
-use Rattle.yp_base.specs.Exact.{paths_exact}
+use Rattle.yp_base.specs.Order.{atom_cmp, path_cmp, is_within}
+use Rattle.yp_base.specs.OrderLaws.{atoms_total, paths_total}
+use Rattle.yp_base.specs.Exact.{atoms_exact, paths_exact, order_decides}
 pub use Rattle.yp_base.specs.PathLaws.{greater_turned as below}
 use Rattle.yp_base.specs.PathLaws.{less_turned, greater_turned, are_one, IsBefore, before_all}
-use Rattle.yp_base.specs.Rows.{put_row, put_rows, value_at, path_of, rows_within, rows_without, AreInOrder}
+use Rattle.yp_base.specs.Rows.{same_value, put_row, put_rows, value_at, path_of, rows_within, rows_without, AreInOrder}
 use Rattle.yp_base.specs.declared.row.Value.{Value}
+use Rattle.yp_base.specs.declared.row.Value.TheVariants.{Atom as Plain, Member, Empty, Present}
+
+pub values_decide : (a b : Value) → Decides (same_value a b) (a ≡ b)
+values_decide (Plain a) (Plain b) = Decides-like (eq_by_cmp atom_cmp a b) (λ e. ap Plain e) (λ e. cc) (order_decides atoms_total atoms_exact a b)
+values_decide Member Member = (λ t. refl, λ e. refl)
+values_decide Empty Empty = (λ t. refl, λ e. refl)
+values_decide Present Present = (λ t. refl, λ e. refl)
+values_decide a b = (λ t. cc, λ e. cc)
 
 -- a path is before each of these rows
 abbrev pub AllPast : List Seg → List Row → Type 0

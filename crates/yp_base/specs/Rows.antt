@@ -1,12 +1,13 @@
 -- Lists of rows: a datastore is one, in the order of its paths, with no path twice (RFC 8342 section 4.1 has the notion of a datastore).
-use Rattle.std.specs.Prelude.{List, [], ◌∷◌, map, filter, find, Bool, false, ◌||◌, Option, Some, None, ◌&&◌, not, if◌then◌else◌}
-use Rattle.std.specs.Ordering.{is_lt, is_eq, match_ordering}
+use Rattle.std.specs.Prelude.{List, [], ◌∷◌, map, filter, find, Bool, true, false, ◌||◌, Option, Some, None, ◌&&◌, not, if◌then◌else◌}
+use Rattle.std.specs.Ordering.{is_lt, is_eq, eq_by_cmp, match_ordering}
 use Rattle.std.specs.List.Sorted.{IsStrictlySortedBy}
 use Rattle.yp_base.specs.declared.path.Seg.{Seg}
 use Rattle.yp_base.specs.declared.row.Value.{Value}
+use Rattle.yp_base.specs.declared.row.Value.TheVariants.{Atom as Plain, Member, Empty, Present}
 use Rattle.yp_base.specs.declared.row.Row.{Row}
 use Rattle.yp_base.specs.declared.notice.Change.{Change}
-use Rattle.yp_base.specs.Order.{path_cmp, is_within}
+use Rattle.yp_base.specs.Order.{atom_cmp, path_cmp, is_within}
 
 abbrev pub path_of : Row → List Seg
 path_of row = row.path
@@ -22,6 +23,14 @@ rows_of entries = map row_of entries
 abbrev pub AreInOrder : List Row → Type 0
 AreInOrder rows = IsStrictlySortedBy path_cmp (map path_of rows)
 
+-- whether two values are one
+abbrev pub same_value : Value → Value → Bool
+same_value (Plain one) (Plain other) = eq_by_cmp atom_cmp one other
+same_value Member Member = true
+same_value Empty Empty = true
+same_value Present Present = true
+same_value one other = false
+
 -- the value of the row that has this path
 abbrev pub value_at : List Seg → List Row → Option Value
 value_at path [] = None
@@ -36,6 +45,11 @@ put_row new (row ∷ rows) = match_ordering (path_cmp new.path row.path) (new �
 abbrev pub put_rows : List Row → List Row → List Row
 put_rows [] rows = rows
 put_rows (new ∷ news) rows = put_rows news (put_row new rows)
+
+-- the last of a list of rows and later ones
+abbrev pub last_of : List Row → List (List Row) → List Row
+last_of first [] = first
+last_of first (next ∷ later) = last_of next later
 
 -- the first row past one path that is at or below another
 abbrev pub next_row : List Seg → List Seg → List Row → Option Row

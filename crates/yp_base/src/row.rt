@@ -1,5 +1,6 @@
 //! What a datastore holds: rows, each a path with its value.
 ghost use Rattle.std.specs.Prelude.{◌≡◌, IfOk};
+ghost use Rattle.yp_base.specs.Rows.{same_value};
 
 use crate::atom::Atom;
 use crate::memory::{Duplicate, NoMemory};
@@ -39,6 +40,21 @@ impl Value {
             Value::Atom(atom) => Ok(Value::Atom(atom.share(alloc)?)),
             other => Ok(other),
         }
+    }
+}
+
+/// Whether two values are one.
+pub fn same_value(one: &Value, other: &Value) -> bool
+    ensures { result ≡ same_value one.now other.now }
+{
+    match one {
+        Value::Atom(atom) => match other {
+            Value::Atom(other_atom) => atom == other_atom,
+            _ => false,
+        },
+        Value::Member => matches!(other, Value::Member),
+        Value::Empty => matches!(other, Value::Empty),
+        Value::Present => matches!(other, Value::Present),
     }
 }
 

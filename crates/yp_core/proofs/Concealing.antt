@@ -7,10 +7,10 @@ use Rattle.yp_edit.specs.Records.{change_record}
 use Rattle.yp_touch.specs.Concealed.{IsReadableChange}
 use Rattle.yp_journal.specs.declared.entry.Entry.{Entry}
 use Rattle.yp_journal.specs.declared.receiver.ReceiverInfo.{ReceiverInfo}
-use Rattle.yp_journal.specs.History.{JournalState, first_state, next_state, state_of, may_read, IsLegal}
+use Rattle.yp_journal.specs.History.{JournalState, first_state, next_state, state_of, may_read, IsLegal, state_at}
 use Rattle.yp_journal.specs.JournalLaws.{entries_more, position_of}
 use Rattle.yp_core.specs.Concealed.{NamesReadable, Conceals}
-use Rattle.yp_core.specs.Updates.{Attempt, Feed, all_feeds, attempts_of, change_update, made_by, state_at, updates_of, want}
+use Rattle.yp_core.specs.Updates.{Attempt, Feed, all_feeds, attempts_of, change_update, made_by, updates_of, want}
 use Rattle.yp_core.proofs.Each.{every}
 use Rattle.yp_core.proofs.Everywhere.{Holds, each_made, each_mine, each_step, each_update}
 use Rattle.yp_core.proofs.Feeds.{same_number}

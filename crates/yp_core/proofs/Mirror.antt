@@ -12,13 +12,13 @@ use Rattle.yp_edit.specs.Records.{change_record}
 use Rattle.yp_journal.specs.declared.command.Command.{Command}
 use Rattle.yp_journal.specs.declared.entry.Entry.{Entry}
 use Rattle.yp_journal.specs.declared.receiver.ReceiverInfo.{ReceiverInfo}
-use Rattle.yp_journal.specs.History.{JournalState, first_state, next_state, state_of, IsLegal}
+use Rattle.yp_journal.specs.History.{JournalState, first_state, next_state, state_of, IsLegal, state_at}
 use Rattle.yp_journal.specs.JournalLaws.{position_of}
 use Rattle.yp_core.specs.Concealed.{RisesPast, NeverFall}
 use Rattle.yp_core.specs.declared.made.Made.{Made}
 use Rattle.yp_core.specs.Received.{held_of, received, updates, IsFresh, Mirrors}
 use Rattle.yp_core.specs.States.{Fits}
-use Rattle.yp_core.specs.Updates.{Feed, all_feeds, attempts_at, attempts_from, change_update, feed_at, first_updates, full_update, full_where, is_due_between, is_given, is_on_change, keeps_rules_of, made_for, made_by, next_updates, state_at, updates_of, want}
+use Rattle.yp_core.specs.Updates.{Feed, all_feeds, attempts_at, attempts_from, change_update, feed_at, first_updates, full_update, full_where, is_due_between, is_given, is_on_change, keeps_rules_of, made_for, made_by, next_updates, updates_of, want}
 use Rattle.yp_core.specs.AttemptLaws.{made_of, made_joined}
 use Rattle.yp_core.proofs.Each.{all_found}
 use Rattle.yp_core.proofs.Feeds.{all_apart, feed_is_new, feed_stays, found_id, is_feed, number_itself, were_given}

@@ -7,10 +7,10 @@ use Rattle.yp_base.specs.declared.notice.Notice.TheVariants.{Full}
 use Rattle.yp_schema.specs.declared.schema.SchemaNode.{SchemaNode}
 use Rattle.yp_journal.specs.declared.entry.Entry.{Entry}
 use Rattle.yp_journal.specs.declared.receiver.ReceiverInfo.{ReceiverInfo}
-use Rattle.yp_journal.specs.History.{JournalState, first_state, next_state, state_of, MayFollow, IsLegal}
+use Rattle.yp_journal.specs.History.{JournalState, first_state, next_state, state_of, MayFollow, IsLegal, state_at}
 use Rattle.yp_journal.specs.JournalLaws.{entries_more, position_of}
 use Rattle.yp_core.specs.declared.made.Made.{Made}
-use Rattle.yp_core.specs.Updates.{Attempt, Feed, all_feeds, attempts_at, attempts_for, attempts_from, attempts_of, feed_at, full_update, made_for, made_by, state_at, updates_of, want}
+use Rattle.yp_core.specs.Updates.{Attempt, Feed, all_feeds, attempts_at, attempts_for, attempts_from, attempts_of, feed_at, full_update, made_for, made_by, updates_of, want}
 use Rattle.yp_core.specs.AttemptLaws.{made_joined, made_mine, made_of}
 use Rattle.yp_core.proofs.Each.{all_joined, all_weaker, every}
 use Rattle.yp_core.proofs.Everywhere.{Holds, each_step}

@@ -9,11 +9,11 @@ use Rattle.yp_journal.specs.declared.command.Command.{Command}
 use Rattle.yp_journal.specs.declared.command.Command.TheVariants.{Tick, Edit, Rules, Establish}
 use Rattle.yp_journal.specs.declared.entry.Entry.{Entry}
 use Rattle.yp_journal.specs.declared.receiver.ReceiverInfo.{ReceiverInfo}
-use Rattle.yp_journal.specs.History.{JournalState, first_state, next_state, state_of, rules_at, MayFollow, IsLegal}
+use Rattle.yp_journal.specs.History.{JournalState, first_state, next_state, state_of, rules_at, MayFollow, IsLegal, state_at}
 use Rattle.yp_core.specs.Renewed.{Renews, StaysSilent}
 use Rattle.yp_core.specs.States.{Fits}
 use Rattle.yp_core.specs.Steps.{full_attempt}
-use Rattle.yp_core.specs.Updates.{Attempt, Feed, all_feeds, attempts_at, attempts_of, feed_at, first_updates, full_update, is_given, keeps_rules_of, made_by, next_updates, state_at, updates_of}
+use Rattle.yp_core.specs.Updates.{Attempt, Feed, all_feeds, attempts_at, attempts_of, feed_at, first_updates, full_update, is_given, keeps_rules_of, made_by, next_updates, updates_of}
 use Rattle.yp_core.proofs.Each.{all_found}
 use Rattle.yp_core.proofs.Everywhere.{each_mine}
 use Rattle.yp_core.proofs.Feeds.{found_receiver, is_feed, same_number, were_given}

@@ -11,12 +11,12 @@ use Rattle.yp_nacm.specs.Same.{are_same_rules}
 use Rattle.yp_registry.specs.Terms.{Terms, AreTermsOf, IsFollowed}
 use Rattle.yp_journal.specs.declared.entry.Entry.{Entry}
 use Rattle.yp_journal.specs.declared.receiver.ReceiverInfo.{ReceiverInfo}
-use Rattle.yp_journal.specs.History.{JournalState, first_state, next_state, state_of, rules_at, MayFollow, IsLegal}
+use Rattle.yp_journal.specs.History.{JournalState, first_state, next_state, state_of, rules_at, MayFollow, IsLegal, state_at}
 use Rattle.yp_core.specs.declared.made.Made.{Made}
 use Rattle.yp_core.specs.Received.{updates}
 use Rattle.yp_core.specs.States.{Fits}
 use Rattle.yp_core.specs.Timely.{IsDueBetween, OnlyWhereDue, TellsWhereDue, from_tick}
-use Rattle.yp_core.specs.Updates.{Attempt, Feed, all_feeds, attempts_of, feed_at, first_updates, full_update, full_where, is_due_between, is_given, is_on_change, keeps_rules_of, made_by, next_updates, state_at, updates_of}
+use Rattle.yp_core.specs.Updates.{Attempt, Feed, all_feeds, attempts_of, feed_at, first_updates, full_update, full_where, is_due_between, is_given, is_on_change, keeps_rules_of, made_by, next_updates, updates_of}
 use Rattle.yp_core.proofs.Due.{due_found, found_due}
 use Rattle.yp_core.proofs.Each.{all_at, all_found, all_weaker}
 use Rattle.yp_core.proofs.Everywhere.{Holds, each_mine, each_step}

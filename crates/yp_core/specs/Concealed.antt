@@ -7,12 +7,11 @@ use Rattle.yp_base.specs.declared.notice.Notice.TheVariants.{Full, Changes, Star
 use Rattle.yp_schema.specs.declared.schema.SchemaNode.{SchemaNode}
 use Rattle.yp_journal.specs.declared.entry.Entry.{Entry}
 use Rattle.yp_journal.specs.declared.receiver.ReceiverInfo.{ReceiverInfo}
-use Rattle.yp_journal.specs.History.{may_read}
+use Rattle.yp_journal.specs.History.{may_read, state_at}
 use Rattle.yp_select.specs.Concealed.{AllReadable}
 use Rattle.yp_touch.specs.Concealed.{IsReadableChange}
 use Rattle.yp_core.specs.declared.made.Made.{Made}
 use Rattle.yp_core.specs.Received.{updates}
-use Rattle.yp_core.specs.Updates.{state_at}
 
 -- what a notice names may be read
 abbrev pub NamesReadable : (List Seg → Bool) → Notice → Type 0

@@ -13,9 +13,9 @@ use Rattle.yp_journal.specs.declared.entry.Entry.{Entry}
 use Rattle.yp_journal.specs.declared.receiver.ReceiverInfo.{ReceiverInfo}
 use Rattle.yp_journal.specs.declared.reply.Reply.TheVariants.{Id}
 use Rattle.yp_registry.specs.declared.ask.Ask.{Ask}
-use Rattle.yp_journal.specs.History.{JournalState}
+use Rattle.yp_journal.specs.History.{JournalState, state_at}
 use Rattle.yp_core.specs.declared.made.Made.{Made}
-use Rattle.yp_core.specs.Updates.{Feed, feed_at, is_on_change, want, state_at}
+use Rattle.yp_core.specs.Updates.{Feed, feed_at, is_on_change, want}
 
 -- the rows that are held of a subscription, by its id, where it had an update
 abbrev pub held_of : ℕ → List (ℕ × List Row) → Option (List Row)

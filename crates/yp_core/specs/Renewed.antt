@@ -8,9 +8,9 @@ use Rattle.yp_nacm.specs.Same.{are_same_rules}
 use Rattle.yp_journal.specs.declared.command.Command.TheVariants.{Rules}
 use Rattle.yp_journal.specs.declared.entry.Entry.{Entry}
 use Rattle.yp_journal.specs.declared.receiver.ReceiverInfo.{ReceiverInfo}
-use Rattle.yp_journal.specs.History.{rules_at}
+use Rattle.yp_journal.specs.History.{rules_at, state_at}
 use Rattle.yp_core.specs.declared.made.Made.{Made}
-use Rattle.yp_core.specs.Updates.{Feed, feed_at, want, state_at}
+use Rattle.yp_core.specs.Updates.{Feed, feed_at, want}
 
 -- whether the own rules of a receiver's user stay as they were from a position to the next
 abbrev pub keeps_rules : List SchemaNode → List ReceiverInfo → List Entry → ℕ → ℕ → Bool

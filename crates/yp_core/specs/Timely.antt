@@ -7,11 +7,11 @@ use Rattle.yp_base.specs.declared.notice.Trigger.{Trigger}
 use Rattle.yp_base.specs.declared.notice.Trigger.TheVariants.{Periodic, OnChange}
 use Rattle.yp_journal.specs.declared.entry.Entry.{Entry}
 use Rattle.yp_journal.specs.declared.receiver.ReceiverInfo.{ReceiverInfo}
-use Rattle.yp_journal.specs.History.{JournalState}
+use Rattle.yp_journal.specs.History.{JournalState, state_at}
 use Rattle.yp_core.specs.declared.made.Made.{Made}
 use Rattle.yp_core.specs.Received.{updates}
 use Rattle.yp_core.specs.Renewed.{keeps_rules}
-use Rattle.yp_core.specs.Updates.{Feed, feed_at, is_given, is_on_change, want, state_at}
+use Rattle.yp_core.specs.Updates.{Feed, feed_at, is_given, is_on_change, want}
 
 -- a due tick of a trigger lies from one tick to another
 abbrev pub IsDueBetween : Trigger → ℕ → ℕ → Type 0

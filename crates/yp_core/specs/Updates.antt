@@ -1,5 +1,5 @@
 -- The updates of feeds (RFC 8641 sections 3.7, 3.9 and 4.2), each of what the feed's filter keeps of what its receiver's user may read (RFC 8341): on change a full update first and then the record of each step that changes that, periodically a full update where a due tick is met or passed, and a full update where the user's own rules change.
-use Rattle.std.specs.Prelude.{ℕ, ◌+◌, ◌==◌, ◌&&◌, List, [], ◌∷◌, ◌++◌, map, filter, take, Bool, true, false, not, nat_lt, Option, Some, None, if◌then◌else◌}
+use Rattle.std.specs.Prelude.{ℕ, ◌+◌, ◌==◌, ◌&&◌, List, [], ◌∷◌, ◌++◌, map, filter, Bool, true, false, not, nat_lt, Option, Some, None, if◌then◌else◌}
 use Rattle.std.specs.List.{find, flat_map, list_any}
 use Rattle.yp_base.specs.declared.row.Row.{Row}
 use Rattle.yp_base.specs.declared.notice.Change.{Change}
@@ -12,15 +12,11 @@ use Rattle.yp_nacm.specs.Same.{are_same_rules}
 use Rattle.yp_edit.specs.Records.{change_record}
 use Rattle.yp_journal.specs.declared.entry.Entry.{Entry}
 use Rattle.yp_journal.specs.declared.receiver.ReceiverInfo.{ReceiverInfo}
-use Rattle.yp_journal.specs.History.{JournalState, first_state, next_state, state_of, rules_at, may_read}
+use Rattle.yp_journal.specs.History.{JournalState, first_state, next_state, rules_at, may_read}
 use Rattle.yp_registry.specs.Terms.{Terms}
 use Rattle.yp_select.specs.Selection.{selection}
 use Rattle.yp_time.specs.Due.{next_due_of}
 use Rattle.yp_core.specs.declared.made.Made.{Made}
-
--- the state that the entries of a journal up to a position leave
-abbrev pub state_at : List SchemaNode → List ReceiverInfo → List Entry → ℕ → JournalState
-state_at nodes receivers entries n = state_of nodes (first_state receivers) (take n entries)
 
 -- ---- feeds
 

@@ -15,51 +15,24 @@ use Rattle.yp_base.specs.Order.{path_cmp}
 use Rattle.yp_base.specs.OrderLaws.{atoms_total, paths_total}
 use Rattle.yp_base.specs.Exact.{atoms_exact}
 use Rattle.yp_base.specs.PathLaws.{are_one, greater_turned, IsBefore, before_all}
-use Rattle.yp_base.specs.Rows.{path_of, value_at, put_row, put_rows, AreInOrder}
-use Rattle.yp_base.specs.RowLaws.{value_at_put, puts_order}
+use Rattle.yp_base.specs.Rows.{path_of, same_value, value_at, put_row, put_rows, AreInOrder}
+use Rattle.yp_base.specs.RowLaws.{values_decide, value_at_put, puts_order}
 use Rattle.yp_edit.specs.declared.changed.ChangedRow.{ChangedRow}
 use Rattle.yp_edit.specs.Bases.{is_listed}
-use Rattle.yp_edit.specs.Changes.{is_atom, same_value, are_alike, change_of, row_change, paths_of_both, changed_rows}
+use Rattle.yp_edit.specs.Changes.{are_alike, change_of, row_change, paths_of_both, changed_rows}
 
 -- ---- values that are alike
 
-same_itself : (value : Value) → same_value value value ≡ true
-same_itself (Plain atom) = ap is_eq (tied_itself atoms_total atom)
-same_itself Member = refl
-same_itself Empty = refl
-same_itself Present = refl
-
 pub alike_itself : (value : Option Value) → are_alike value value ≡ true
 alike_itself None = refl
-alike_itself (Some value) = same_itself value
-
-same_atom : (value : Value) (atom : Atom) → is_atom value atom ≡ true → value ≡ Plain atom
-same_atom (Plain other) atom h = ap (λ (a : Atom). Plain a) (tells_apart atoms_exact other atom h)
-same_atom Member atom h = absurd (true≢false (sym h))
-same_atom Empty atom h = absurd (true≢false (sym h))
-same_atom Present atom h = absurd (true≢false (sym h))
-
-same_is : (one other : Value) → same_value one other ≡ true → one ≡ other
-same_is one (Plain atom) h = same_atom one atom h
-same_is Member Member h = refl
-same_is (Plain a) Member h = absurd (true≢false (sym h))
-same_is Empty Member h = absurd (true≢false (sym h))
-same_is Present Member h = absurd (true≢false (sym h))
-same_is Empty Empty h = refl
-same_is (Plain a) Empty h = absurd (true≢false (sym h))
-same_is Member Empty h = absurd (true≢false (sym h))
-same_is Present Empty h = absurd (true≢false (sym h))
-same_is Present Present h = refl
-same_is (Plain a) Present h = absurd (true≢false (sym h))
-same_is Member Present h = absurd (true≢false (sym h))
-same_is Empty Present h = absurd (true≢false (sym h))
+alike_itself (Some value) = (values_decide value value).1 refl
 
 -- rows that are alike have one value
 pub alike_is : (one other : Option Value) → are_alike one other ≡ true → one ≡ other
 alike_is None None h = refl
 alike_is None (Some new) h = absurd (true≢false (sym h))
 alike_is (Some old) None h = absurd (true≢false (sym h))
-alike_is (Some old) (Some new) h = ap (λ (v : Value). Some v) (same_is old new h)
+alike_is (Some old) (Some new) h = ap (λ (v : Value). Some v) ((values_decide old new).0 h)
 
 -- where two rows have one value there is no change
 pub no_change : (path : List Seg) (one other : Option Value) → one ≡ other → change_of path one other ≡ None

@@ -1,35 +1,11 @@
 -- The rows that differ between two datastores.
 use Rattle.std.specs.Prelude.{List, map, Bool, true, false, Option, Some, None, if◌then◌else◌}
 use Rattle.std.specs.List.{filter_map}
-use Rattle.std.specs.Ordering.{eq_by_cmp}
-use Rattle.yp_base.specs.declared.atom.Atom.{Atom}
 use Rattle.yp_base.specs.declared.path.Seg.{Seg}
 use Rattle.yp_base.specs.declared.row.Value.{Value}
-use Rattle.yp_base.specs.declared.row.Value.TheVariants.{Atom as Plain, Member, Empty, Present}
 use Rattle.yp_base.specs.declared.row.Row.{Row}
-use Rattle.yp_base.specs.Order.{atom_cmp}
-use Rattle.yp_base.specs.Rows.{path_of, value_at, put_rows}
-use Rattle.yp_schema.specs.Datastore.{is_present, is_member}
+use Rattle.yp_base.specs.Rows.{path_of, same_value, value_at, put_rows}
 use Rattle.yp_edit.specs.declared.changed.ChangedRow.{ChangedRow}
-
-abbrev pub is_atom : Value → Atom → Bool
-is_atom (Plain one) other = eq_by_cmp atom_cmp one other
-is_atom Member other = false
-is_atom Empty other = false
-is_atom Present other = false
-
-abbrev pub is_empty : Value → Bool
-is_empty (Plain atom) = false
-is_empty Member = false
-is_empty Empty = true
-is_empty Present = false
-
--- whether two values are one
-abbrev pub same_value : Value → Value → Bool
-same_value one (Plain atom) = is_atom one atom
-same_value one Member = is_member one
-same_value one Empty = is_empty one
-same_value one Present = is_present one
 
 -- whether two rows of a path are alike: both missing, or both there with one value
 abbrev pub are_alike : Option Value → Option Value → Bool

@@ -9,7 +9,7 @@ use Rattle.yp_base.specs.declared.notice.ChangeKind.TheVariants as kinds
 use Rattle.yp_base.specs.declared.notice.Kinds.{Kinds}
 use Rattle.yp_base.specs.Order.{path_cmp}
 use Rattle.yp_base.specs.Paths.{topmost}
-use Rattle.yp_base.specs.Rows.{rows_within}
+use Rattle.yp_base.specs.Rows.{last_of, rows_within}
 use Rattle.yp_schema.specs.Datastore.{has_row}
 use Rattle.yp_edit.specs.Changes.{changed_rows}
 
@@ -49,11 +49,6 @@ put_paths (new ∷ news) paths = put_paths news (put_path new paths)
 abbrev pub touched_paths : List (List Seg) → List Row → List (List Row) → List (List Seg)
 touched_paths paths selected [] = paths
 touched_paths paths selected (next ∷ later) = touched_paths (put_paths (changed_paths selected next) paths) next later
-
--- the last selection of a window
-abbrev pub last_of : List Row → List (List Row) → List Row
-last_of selected [] = selected
-last_of selected (next ∷ later) = last_of next later
 
 -- whether a kind of edits is excluded
 abbrev pub is_excluded : Kinds → ChangeKind → Bool

@@ -1,12 +1,11 @@
 //! What a patch changed.
 ghost use Rattle.std.specs.Prelude.{◌≡◌, IfOk, option_copied};
-ghost use Rattle.yp_edit.specs.Changes.{is_atom, same_value, are_alike, change_of};
+ghost use Rattle.yp_edit.specs.Changes.{are_alike, change_of};
 
 use std::alloc::Global;
-use yp_base::atom::Atom;
 use yp_base::memory::{Duplicate, NoMemory};
 use yp_base::path::Path;
-use yp_base::row::Value;
+use yp_base::row::{Value, same_value};
 use yp_base::series::Series;
 
 /// A path with the value of its row before and after a patch, `None` where there is no row.
@@ -27,28 +26,6 @@ impl Duplicate for ChangedRow {
             old: self.old.copy(alloc)?,
             new: self.new.copy(alloc)?,
         })
-    }
-}
-
-/// Whether a value is this atom.
-fn is_atom(value: &Value, atom: &Atom) -> bool
-    ensures { result ≡ is_atom value.now atom.now }
-{
-    match value {
-        Value::Atom(other) => other == atom,
-        _ => false,
-    }
-}
-
-/// Whether two values are one.
-fn same_value(one: &Value, other: &Value) -> bool
-    ensures { result ≡ same_value one.now other.now }
-{
-    match other {
-        Value::Atom(atom) => is_atom(one, atom),
-        Value::Member => matches!(one, Value::Member),
-        Value::Empty => matches!(one, Value::Empty),
-        Value::Present => matches!(one, Value::Present),
     }
 }
 

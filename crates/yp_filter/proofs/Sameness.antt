@@ -2,22 +2,11 @@
 use Rattle.std.proofs.Common.{◌≡◌, refl, ap, ◌&&◌}
 use Rattle.std.specs.Prelude.{nat_eq}
 use Rattle.std.specs.Bool.{Decides}
-use Rattle.std.specs.Ordering.{eq_by_cmp}
 use Rattle.std.proofs.lemmas.Bool.Decides.{Decides-eqb, Decides-and, Decides-like}
-use Rattle.yp_base.specs.Exact.{atoms_exact, order_decides}
-use Rattle.yp_base.specs.Order.{atom_cmp}
-use Rattle.yp_base.specs.OrderLaws.{atoms_total}
-use Rattle.yp_base.specs.declared.row.Value.{Value}
-use Rattle.yp_base.specs.declared.row.Value.TheVariants.{Atom as Plain, Member, Empty, Present}
+use Rattle.yp_base.specs.RowLaws.{values_decide}
+use Rattle.yp_base.specs.Rows.{same_value}
 use Rattle.yp_filter.specs.Filters.{Node, Nodes, select, compare, within, unknown, unknown_compare, none, more, of_set}
-use Rattle.yp_filter.specs.Same.{same_value, same_node, same_set}
-
-pub values_decide : (a b : Value) → Decides (same_value a b) (a ≡ b)
-values_decide (Plain a) (Plain b) = Decides-like (eq_by_cmp atom_cmp a b) (λ e. ap Plain e) (λ e. cc) (order_decides atoms_total atoms_exact a b)
-values_decide Member Member = (λ t. refl, λ e. refl)
-values_decide Empty Empty = (λ t. refl, λ e. refl)
-values_decide Present Present = (λ t. refl, λ e. refl)
-values_decide a b = (λ t. cc, λ e. cc)
+use Rattle.yp_filter.specs.Same.{same_node, same_set}
 
 mutual
   pub nodes_decide : (a b : Node) → Decides (same_node a b) (a ≡ b)

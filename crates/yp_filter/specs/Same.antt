@@ -1,17 +1,7 @@
 -- When two filters say the same: node for node, in order.
 use Rattle.std.specs.Prelude.{◌&&◌, Bool, true, false, nat_eq}
-use Rattle.std.specs.Ordering.{eq_by_cmp}
-use Rattle.yp_base.specs.Order.{atom_cmp}
-use Rattle.yp_base.specs.declared.row.Value.{Value}
-use Rattle.yp_base.specs.declared.row.Value.TheVariants.{Atom as Plain, Member, Empty, Present}
+use Rattle.yp_base.specs.Rows.{same_value}
 use Rattle.yp_filter.specs.Filters.{Node, Nodes, select, compare, within, unknown, unknown_compare, none, more}
-
-abbrev pub same_value : Value → Value → Bool
-same_value (Plain one) (Plain other) = eq_by_cmp atom_cmp one other
-same_value Member Member = true
-same_value Empty Empty = true
-same_value Present Present = true
-same_value one other = false
 
 abbrev mutual
   pub same_node : Node → Node → Bool

@@ -1,10 +1,10 @@
 //! Whether two filters say the same.
 ghost use Rattle.std.specs.Prelude.{◌≡◌, ◌↔◌, IsTrue};
-ghost use Rattle.yp_filter.specs.Same.{same_node, same_set, same_value};
+ghost use Rattle.yp_filter.specs.Same.{same_node, same_set};
 ghost use Rattle.yp_filter.specs.View.{node_view, set_view, filter_view};
 
 use crate::filter::{Filter, FilterNode, FilterSet};
-use yp_base::row::Value;
+use yp_base::row::same_value;
 
 /// Whether two filters say the same: both everything, or both sets with the same nodes in the same order.
 pub fn same_filter(one: &Filter, other: &Filter) -> bool
@@ -65,19 +65,5 @@ fn same_node(one: &FilterNode, other: &FilterNode) -> bool
         },
         FilterNode::Unknown => matches!(other, FilterNode::Unknown),
         FilterNode::UnknownMatch => matches!(other, FilterNode::UnknownMatch),
-    }
-}
-
-fn same_value(one: &Value, other: &Value) -> bool
-    ensures { result ≡ same_value one.now other.now }
-{
-    match one {
-        Value::Atom(atom) => match other {
-            Value::Atom(other_atom) => atom == other_atom,
-            _ => false,
-        },
-        Value::Member => matches!(other, Value::Member),
-        Value::Empty => matches!(other, Value::Empty),
-        Value::Present => matches!(other, Value::Present),
     }
 }

@@ -1,5 +1,5 @@
 -- The history of a publisher: the state as the fold of its commands, the replies, and which journals are legal (RFC 8072 for patches, RFC 8341 for access control, RFC 8639 and RFC 8641 for subscriptions).
-use Rattle.std.specs.Prelude.{◌≡◌, ℕ, ◌+◌, ◌<◌, ◌≤◌, ◌^◌, max, map, List, [], ◌∷◌, length, Bool, true, false, Option, Some, None, Result, Ok, Err, slice_index_or}
+use Rattle.std.specs.Prelude.{◌≡◌, ℕ, ◌+◌, ◌<◌, ◌≤◌, ◌^◌, max, map, List, [], ◌∷◌, length, take, Bool, true, false, Option, Some, None, Result, Ok, Err, slice_index_or}
 use Rattle.std.specs.List.{slice_get}
 use Rattle.serde_json.specs.Data.{Data}
 use Rattle.yp_base.specs.declared.path.Seg.{Seg}
@@ -148,6 +148,10 @@ commands_of entries = map (λ entry. entry.command) entries
 -- the state after the entries of a journal
 abbrev pub state_of : List SchemaNode → JournalState → List Entry → JournalState
 state_of nodes state entries = state_after nodes state (commands_of entries)
+
+-- the state that the entries up to a position leave
+abbrev pub state_at : List SchemaNode → List ReceiverInfo → List Entry → ℕ → JournalState
+state_at nodes receivers entries n = state_of nodes (first_state receivers) (take n entries)
 
 -- a patch that can be read from JSON, with fewer edits than numbers of 32 bits
 pub record IsRead (patch : Patch) : Type 0 where

@@ -3,8 +3,8 @@ use Rattle.std.proofs.Common.{◌≡◌, ℕ, ◌+◌, ◌<◌, ◌≤◌, min, 
 use Rattle.std.specs.Prelude.{if◌then◌else◌, nat_le, nat_lt, ◌==◌}
 use Rattle.std.proofs.lemmas.Bool.{true≢false}
 use Rattle.yp_base.specs.declared.row.Row.{Row}
+use Rattle.yp_base.specs.Rows.{last_of}
 use Rattle.yp_feed.specs.Machine.{is_at}
-use Rattle.yp_attempt.specs.Content.{last_of}
 use Rattle.yp_mirror.specs.Stories.{Story, Steady}
 use Rattle.yp_mirror.specs.Following.{IsAtMost, IsLessThan}
 use Rattle.yp_mirror.specs.Links.{IsFreshCopy}

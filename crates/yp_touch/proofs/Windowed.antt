@@ -11,7 +11,7 @@ use Rattle.yp_base.specs.Order.{path_cmp, is_within}
 use Rattle.yp_base.specs.Paths.{topmost}
 use Rattle.yp_base.specs.PathLaws.{ties_itself, within_itself}
 use Rattle.yp_base.specs.RowLaws.{holds_at, within_keeps_order}
-use Rattle.yp_base.specs.Rows.{AreInOrder, rows_within, changed_by}
+use Rattle.yp_base.specs.Rows.{last_of, AreInOrder, rows_within, changed_by}
 use Rattle.yp_schema.specs.declared.schema.SchemaNode.{SchemaNode}
 use Rattle.yp_schema.specs.WellFormed.{IsSchema}
 use Rattle.yp_schema.specs.Datastore.{is_path_of, has_row, IsRowOf, IsDatastore, AreWhole}
@@ -20,7 +20,7 @@ use Rattle.yp_filter.specs.Filters.{Asked}
 use Rattle.yp_nacm.specs.Decision.{IsClosed}
 use Rattle.yp_encode.specs.Sendable.{IsSendableChange}
 use Rattle.yp_edit.specs.Bases.{is_listed}
-use Rattle.yp_edit.specs.Records.{changed_paths, put_path, put_paths, touched_paths, last_of, change_at, change_record, is_excluded, HasNone, told, window_record}
+use Rattle.yp_edit.specs.Records.{changed_paths, put_path, put_paths, touched_paths, change_at, change_record, is_excluded, HasNone, told, window_record}
 use Rattle.yp_edit.specs.WindowLaws.{told_all, one_step}
 use Rattle.yp_select.specs.Concealed.{AllReadable}
 use Rattle.yp_select.specs.Selection.{selection}

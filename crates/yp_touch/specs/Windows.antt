@@ -4,14 +4,14 @@ use Rattle.std.specs.List.{AllByRecursion}
 use Rattle.yp_base.specs.declared.path.Seg.{Seg}
 use Rattle.yp_base.specs.declared.row.Row.{Row}
 use Rattle.yp_base.specs.declared.notice.Kinds.{Kinds}
-use Rattle.yp_base.specs.Rows.{changed_by, rows_within}
+use Rattle.yp_base.specs.Rows.{last_of, changed_by, rows_within}
 use Rattle.yp_schema.specs.declared.schema.SchemaNode.{SchemaNode}
 use Rattle.yp_schema.specs.WellFormed.{IsSchema}
 use Rattle.yp_schema.specs.Datastore.{has_row, IsDatastore, AreWhole}
 use Rattle.yp_filter.specs.Filters.{Asked}
 use Rattle.yp_nacm.specs.Decision.{IsClosed}
 use Rattle.yp_encode.specs.Sendable.{IsSendableChange}
-use Rattle.yp_edit.specs.Records.{touched_paths, last_of, HasNone, window_record}
+use Rattle.yp_edit.specs.Records.{touched_paths, HasNone, window_record}
 use Rattle.yp_select.specs.Concealed.{AllReadable}
 use Rattle.yp_select.specs.Selection.{selection}
 use Rattle.yp_touch.specs.declared.root.Root.{Root}
