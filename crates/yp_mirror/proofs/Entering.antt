@@ -8,21 +8,21 @@ use Rattle.yp_base.specs.declared.notice.Trigger.TheVariants.{Periodic as Every,
 use Rattle.yp_feed.specs.declared.item.Control.{Control}
 use Rattle.yp_feed.specs.declared.item.Control.TheVariants.{Modify, Resync, Rules, End}
 use Rattle.yp_feed.specs.Machine.{resyncs, is_mirrored, is_on_change, amended, restarted, with_terms, ending}
-use Rattle.yp_attempt.specs.Content.{Content, IsLawful}
+use Rattle.yp_attempt.specs.Content.{Content}
 use Rattle.yp_attempt.specs.Tracks.{Track, Frozen, with_feed}
 use Rattle.yp_attempt.specs.Moments.{Moment, Act, Quiet, Starts, Controls, Drops, with_selection, with_control, after_act, after_rules, after_moment, new_track}
 use Rattle.yp_attempt.specs.TrackLaws.{act_same}
 use Rattle.yp_mirror.specs.Heard.{Told, told_nothing}
-use Rattle.yp_mirror.specs.Stories.{Story, Steady, TellsEntry, is_control_of}
+use Rattle.yp_mirror.specs.Stories.{Story, Steady, Leads, TellsEntry, is_control_of}
 use Rattle.yp_mirror.specs.Links.{FrozenFits, Linked}
-use Rattle.yp_mirror.proofs.Facts.{clash, eight_no, none_between, at_most_later, last_more, moved_current, moved_first, moved_base, no_full}
+use Rattle.yp_mirror.proofs.Facts.{clash, eight_no, none_between, at_most_later, last_more, moved_current, moved_first, moved_window, wanted_more, moved_base, no_full}
 use Rattle.yp_mirror.proofs.Links.{mirrored_resyncs, resyncing_if, no_frozen, ends_none}
 use Rattle.yp_mirror.proofs.Refusing.{tries_freezing}
 
 -- ---- the selection after an entry
 
 frozen_later : (c : Content) (story : Story) (sub n k : ℕ) (sync terminated : Bool) (rows : List Row) (last : Option ℕ) (b : Bool) (o : Option Frozen) → FrozenFits c story sub n k sync terminated rows last b o → FrozenFits c story sub (n + 1) k sync terminated rows last b o
-frozen_later c story sub n k sync terminated rows last true (Some frozen) h = record { past = omega (arith, h.past); rises = h.rises; from = h.from; leads = h.leads; steady = h.steady; syncs = h.syncs; lives = h.lives }
+frozen_later c story sub n k sync terminated rows last true (Some frozen) h = record { made = h.made; begins = h.begins; past = omega (arith, h.past); rises = h.rises; from = h.from; leads = h.leads; steady = h.steady; syncs = h.syncs; lives = h.lives }
 frozen_later c story sub n k sync terminated rows last true None h = h
 frozen_later c story sub n k sync terminated rows last false (Some frozen) h = h
 frozen_later c story sub n k sync terminated rows last false None h = h
@@ -34,6 +34,7 @@ selection_linked c story receiver n k stamp track t m h tells later = record {
   resyncing = h.resyncing;
   current = last_more track.first track.later (m.selection track.feed.sub track.feed.receiver) ∙ (ap (λ (r : ℕ). m.selection track.feed.sub r) h.mine ∙ tells.selection track.feed.sub);
   first = h.first;
+  window = wanted_more story track.feed.sub track.feed.base n track.later (m.selection track.feed.sub track.feed.receiver) h.base (ap (λ (r : ℕ). m.selection track.feed.sub r) h.mine ∙ tells.selection track.feed.sub) h.window;
   base = omega (arith, h.base);
   last = h.last;
   copy = h.copy;
@@ -63,7 +64,7 @@ more_steady story sub a n h e k below above = by (k == n + 1) refl
     by false q = let less : k ≤ n = grind (arith, q, above) in h k below less
 
 frozen_steady : (c : Content) (story : Story) (sub n : ℕ) (sync terminated : Bool) (rows : List Row) (last : Option ℕ) (b : Bool) (o : Option Frozen) → story.changes sub (n + 1) ≡ false → FrozenFits c story sub (n + 1) n sync terminated rows last b o → FrozenFits c story sub (n + 1) (n + 1) sync terminated rows last b o
-frozen_steady c story sub n sync terminated rows last true (Some frozen) e h = record { past = h.past; rises = h.rises; from = h.from; leads = h.leads; steady = more_steady story sub frozen.from n h.steady e; syncs = h.syncs; lives = h.lives }
+frozen_steady c story sub n sync terminated rows last true (Some frozen) e h = record { made = h.made; begins = h.begins; past = h.past; rises = h.rises; from = h.from; leads = h.leads; steady = more_steady story sub frozen.from n h.steady e; syncs = h.syncs; lives = h.lives }
 frozen_steady c story sub n sync terminated rows last true None e h = h
 frozen_steady c story sub n sync terminated rows last false (Some frozen) e h = h
 frozen_steady c story sub n sync terminated rows last false None e h = h
@@ -76,6 +77,7 @@ quiet_linked c story receiver n stamp track t e h = record {
   resyncing = h.resyncing;
   current = h.current;
   first = h.first;
+  window = h.window;
   base = h.base;
   last = h.last;
   copy = h.copy;
@@ -116,6 +118,7 @@ restart_linked c story receiver n k stamp track t h =
       resyncing = h.resyncing;
       current = moved_current (not (resyncs track.feed.trigger)) track.first track.later ∙ h.current;
       first = moved_first (not (resyncs track.feed.trigger)) track.first track.later (story.want track.feed.sub) track.feed.base n h.first h.current;
+      window = moved_window story track.feed.sub (not (resyncs track.feed.trigger)) track.feed.base n track.later h.window;
       base = moved_base (not (resyncs track.feed.trigger)) track.feed.base n h.base;
       last = λ m on quiet. clash ((track.feed.owed.sync || resyncs track.feed.trigger) || track.feed.owed.terminated) (syncs (resyncing_if c story receiver n k stamp track t h m)) quiet;
       copy = h.copy;
@@ -152,6 +155,7 @@ terms_linked c story receiver n k stamp track t trigger notify h =
       resyncing = h.resyncing ∙ sym same.1;
       current = h.current;
       first = h.first;
+      window = h.window;
       base = h.base;
       last = λ m on quiet. h.last m (sym same.2 ∙ on) quiet;
       copy = h.copy;
@@ -180,6 +184,7 @@ end_linked c story receiver n k stamp track t h = record {
   resyncing = h.resyncing;
   current = h.current;
   first = h.first;
+  window = h.window;
   base = h.base;
   last = λ m on quiet. absurd (true≢false quiet);
   copy = h.copy;
@@ -209,6 +214,7 @@ ended_linked c story receiver n k stamp track t e h = record {
   resyncing = h.resyncing;
   current = h.current;
   first = h.first;
+  window = h.window;
   base = h.base;
   last = h.last;
   copy = h.copy;
@@ -264,16 +270,16 @@ rules_linked c story receiver n stamp track t true false e f g = control_linked 
 rules_linked c story receiver n stamp track t false true e f g = f refl
 rules_linked c story receiver n stamp track t false false e f g = quiet_linked c story receiver n stamp track t e (g refl)
 
-pub moment_linked : (c : Content) (lawful : IsLawful c) (story : Story) (receiver n stamp : ℕ) (track : Track) (t : Told) (m : Moment) → Linked c story receiver n n stamp track t → TellsEntry story receiver (n + 1) m → stamp ≤ m.stamp
+pub moment_linked : (c : Content) (story : Story) (leads : Leads c story) (receiver n stamp : ℕ) (track : Track) (t : Told) (m : Moment) → Linked c story receiver n n stamp track t → TellsEntry story receiver (n + 1) m → stamp ≤ m.stamp
     → Linked c story receiver (n + 1) (n + 1) m.stamp (after_moment c m (n + 1) track) t
-moment_linked c lawful story receiver n stamp track t m h tells later =
+moment_linked c story leads receiver n stamp track t m h tells later =
     let s = selection_linked c story receiver n n stamp track t m h tells later in
     let a = act_linked c story receiver (n + 1) n m.stamp (with_selection m track) t m.act s in
     let acted : Track = after_act (n + 1) m.stamp m.act (with_selection m track) in
     let same = act_same (n + 1) m.stamp m.act (with_selection m track) in
     let changes : story.changes acted.feed.sub (n + 1) ≡ (is_control_of track.feed.sub m.act || m.rules acted.feed.receiver) =
     ap (λ (x : ℕ). story.changes x (n + 1)) same.0 ∙ (tells.changes track.feed.sub ∙ ap (λ (x : ℕ). is_control_of track.feed.sub m.act || m.rules x) (sym (same.1 ∙ h.mine))) in
-    tries_freezing c lawful story receiver (n + 1) m.stamp (after_rules (n + 1) m acted) t (rules_linked c story receiver n m.stamp acted t (m.rules acted.feed.receiver) (is_control_of track.feed.sub m.act) changes a.0 a.1)
+    tries_freezing c story leads receiver (n + 1) m.stamp (after_rules (n + 1) m acted) t (rules_linked c story receiver n m.stamp acted t (m.rules acted.feed.receiver) (is_control_of track.feed.sub m.act) changes a.0 a.1)
 
 -- ---- a new track
 
@@ -285,6 +291,7 @@ new_linked c story receiver n sub m trigger configured selection mirrored resync
   resyncing = resyncing;
   current = selection;
   first = selection;
+  window = tt;
   base = omega arith;
   last = λ x on quiet. clash ((is_on_change trigger && resyncs trigger) || false) (or_left (is_on_change trigger && resyncs trigger) false (ap (λ (b : Bool). b && resyncs trigger) on ∙ mirrored_resyncs trigger (sym mirrored ∙ x))) quiet;
   copy = λ x. tt;

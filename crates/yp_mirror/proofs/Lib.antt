@@ -12,3 +12,4 @@ pub mod FullQueues
 pub mod Following
 pub mod Histories
 pub mod Promises
+pub mod Examples

@@ -1,5 +1,5 @@
 -- What is known of a track that is linked: its trigger, its frozen record, and what its record of changes leads to.
-use Rattle.std.proofs.Common.{◌≡◌, ℕ, refl, sym, ap, ◌∙◌, Bool, true, false, ◌||◌, List, Option, Some, None}
+use Rattle.std.proofs.Common.{◌≡◌, ℕ, ◌≤◌, refl, sym, ap, ◌∙◌, Bool, true, false, ◌||◌, List, Option, Some, None, arith}
 use Rattle.std.proofs.lemmas.Bool.{true≢false, and_parts}
 use Rattle.yp_base.specs.declared.row.Row.{Row}
 use Rattle.yp_base.specs.declared.notice.Kinds.{Kinds}
@@ -8,13 +8,13 @@ use Rattle.yp_base.specs.declared.notice.Trigger.TheVariants.{Periodic as Every,
 use Rattle.yp_feed.specs.declared.item.Item.{Item}
 use Rattle.yp_feed.specs.declared.item.Item.TheVariants.{Started, Modified, Incomplete, Suspended, Resumed, Sync, Terminated, Changes, Periodic}
 use Rattle.yp_feed.specs.Machine.{resyncs, is_mirrored, is_on_change, excludes_none}
-use Rattle.yp_attempt.specs.Content.{Content, IsLawful}
-use Rattle.yp_attempt.specs.Tracks.{Track, Frozen, Answer, kept_if, excluded_kinds, record_in, item_made, made_frozen, attempt, after_answer}
+use Rattle.yp_attempt.specs.Content.{Content}
+use Rattle.yp_attempt.specs.Tracks.{Track, Frozen, Made, Answer, kept_if, excluded_kinds, record_in, item_made, made_frozen, attempt, after_answer}
 use Rattle.yp_mirror.specs.Heard.{Told, heard}
-use Rattle.yp_mirror.specs.Stories.{Story}
-use Rattle.yp_mirror.specs.Following.{ComesAfter, Follows}
+use Rattle.yp_mirror.specs.Stories.{Story, IsWantedBetween, Leads}
+use Rattle.yp_mirror.specs.Following.{TellsWindow, IsMadeOf, ComesAfter, Follows}
 use Rattle.yp_mirror.specs.Links.{IsFrozen, FrozenFits, Linked}
-use Rattle.yp_mirror.proofs.Facts.{clash, copy_at}
+use Rattle.yp_mirror.proofs.Facts.{clash, copy_at, here}
 use Rattle.yp_mirror.proofs.Offering.{Offered}
 
 -- the attempt of an item follows, and the track stays linked unless its feed has told its end
@@ -60,14 +60,42 @@ ends_none c story sub n k sync terminated rows last false o h e = refl
 
 -- ---- what is offered
 
+-- the window begins with what was selected at the base
+first_wanted : (c : Content) (story : Story) (receiver n k stamp : ℕ) (track : Track) (t : Told) → Linked c story receiver n k stamp track t → IsWantedBetween story track.feed.sub track.feed.base n track.first
+first_wanted c story receiver n k stamp track t h = (track.feed.base, omega arith, h.base, h.first)
+
+-- a record of changes is of what was selected since the base
+pub window_told : (c : Content) (story : Story) (receiver n k stamp : ℕ) (track : Track) (t : Told) → Linked c story receiver n k stamp track t → TellsWindow c story track.feed.sub track.feed.base n (record_in c track)
+window_told c story receiver n k stamp track t h = record { kinds = excluded_kinds track.feed.trigger; first = track.first; later = track.later; begins = first_wanted c story receiver n k stamp track t h; goes_on = h.window; edits = refl }
+
 -- a record of changes leads from the copy to what is selected now
-pub record_fresh : (c : Content) (lawful : IsLawful c) (story : Story) (receiver n k stamp : ℕ) (track : Track) (t : Told) → Linked c story receiver n k stamp track t
+pub record_fresh : (c : Content) (story : Story) (leads : Leads c story) (receiver n k stamp : ℕ) (track : Track) (t : Told) → Linked c story receiver n k stamp track t
     → is_on_change track.feed.trigger ≡ true → (track.feed.owed.sync || track.feed.owed.terminated) ≡ false → story.mirrored track.feed.sub ≡ true → c.received t.rows (record_in c track) ≡ story.want track.feed.sub n
-record_fresh c lawful story receiver n k stamp track t h on quiet m =
+record_fresh c story leads receiver n k stamp track t h on quiet m =
     let kinds : Kinds = excluded_kinds track.feed.trigger in
     let whole : excludes_none kinds ≡ true = mirrored_whole track.feed.trigger (sym h.mirrored ∙ m) in
     let copy : t.rows ≡ track.first = copy_at story track.feed.sub t.rows t.last track.feed.base (h.last m on quiet) (h.copy m) ∙ sym h.first in
-    ap (λ (rows : List Row). c.received rows (c.window_record kinds track.first track.later)) copy ∙ (lawful.leads kinds whole track.first track.later ∙ h.current)
+    ap (λ (rows : List Row). c.received rows (c.window_record kinds track.first track.later)) copy ∙ (leads.leads track.feed.sub track.feed.base n kinds whole track.first track.later (first_wanted c story receiver n k stamp track t h) h.window ∙ h.current)
+
+-- what was made says what was selected at positions up to another one
+abbrev pub IsToldAt : Content → Story → ℕ → ℕ → Made → Type 0
+IsToldAt c story sub at made = IsMadeOf c story sub made × ((made.from ≤ made.position) × (made.position ≤ at))
+
+frozen_told : (c : Content) (story : Story) (sub n k : ℕ) (sync terminated : Bool) (rows : List Row) (last : Option ℕ) (stamp : ℕ) (b : Bool) (o : Option Frozen) → FrozenFits c story sub n k sync terminated rows last b o → b ≡ true → IsToldAt c story sub n (made_frozen o n stamp)
+frozen_told c story sub n k sync terminated rows last stamp true (Some frozen) h e = (h.made, (h.begins, h.past))
+frozen_told c story sub n k sync terminated rows last stamp true None h e = absurd h
+frozen_told c story sub n k sync terminated rows last stamp false o h e = absurd (true≢false (sym e))
+
+pub item_told : (c : Content) (story : Story) (receiver n k stamp : ℕ) (track : Track) (t : Told) (item : Item) → Linked c story receiver n k stamp track t → Offered track.feed item → IsToldAt c story track.feed.sub n (item_made c track item n stamp)
+item_told c story receiver n k stamp track t Started h o = (tt, here n)
+item_told c story receiver n k stamp track t Modified h o = (tt, here n)
+item_told c story receiver n k stamp track t Incomplete h o = frozen_told c story track.feed.sub n k track.feed.owed.sync track.feed.owed.terminated t.rows t.last stamp track.feed.owed.incomplete track.frozen h.frozen o
+item_told c story receiver n k stamp track t Suspended h o = (tt, here n)
+item_told c story receiver n k stamp track t Resumed h o = (tt, here n)
+item_told c story receiver n k stamp track t Sync h o = ((h.current, refl), here n)
+item_told c story receiver n k stamp track t Terminated h o = (tt, here n)
+item_told c story receiver n k stamp track t Changes h o = (window_told c story receiver n k stamp track t h, (h.base, omega arith))
+item_told c story receiver n k stamp track t Periodic h o = ((h.current, refl), here n)
 
 -- an incomplete update comes after a full answer, and a suspension after eight of them
 frozen_comes_after : (t : Told) (o : Option Frozen) (n stamp : ℕ) → t.met_full ≡ true → ComesAfter t (made_frozen o n stamp).body

@@ -41,6 +41,7 @@ rebased_linked c lawful story receiver n stamp track t true e h =
       resyncing = h.resyncing;
       current = h.current;
       first = h.current;
+      window = tt;
       base = omega arith;
       last = λ m on quiet.
           let whole : excludes_none (excluded_kinds track.feed.trigger) ≡ true = mirrored_whole track.feed.trigger (sym h.mirrored ∙ m) in

@@ -10,8 +10,8 @@ use Rattle.yp_attempt.specs.Moments.{Moment, AllMayFollow}
 use Rattle.yp_attempt.specs.Attempts.{IsReplayOf, replay}
 use Rattle.yp_attempt.specs.Runs.{Run, Reaches, first_run}
 use Rattle.yp_mirror.specs.Heard.{Told, told_nothing, heard, heard_all, told_by, of_sub, is_taken, is_full_update, is_incomplete_update, IsTakenUpdate}
-use Rattle.yp_mirror.specs.Stories.{Story, Steady, IsStory, story_of}
-use Rattle.yp_mirror.specs.Following.{IsLessThan, IsUpdate, IsAnswered, ComesAfter, Follows, AllFollow}
+use Rattle.yp_mirror.specs.Stories.{Story, Steady, Leads, IsStory, story_of}
+use Rattle.yp_mirror.specs.Following.{IsMadeOf, IsLessThan, IsUpdate, IsAnswered, ComesAfter, Follows, AllFollow}
 use Rattle.yp_mirror.specs.Links.{LinkedIn, RunIsLinked, IsRunOf, IsAttemptOf}
 use Rattle.yp_mirror.specs.FullQueues.{SuspendsAtEighth, FreezesAfterFull, HasFull, HasEightFull}
 use Rattle.yp_mirror.proofs.Following.{follows_at, update_is, all_said, positions_rise}
@@ -22,18 +22,18 @@ use Rattle.yp_mirror.proofs.Lists.{heard_last}
 -- what a journal makes for a receiver is a run over its story
 pub journal_run : ((journal : List Moment) (receiver : ℕ) → AllMayFollow [] journal → IsStory (story_of journal receiver) receiver journal)
     → ((c : Content) (receivers : List ℕ) (journal : List Moment) (answers : List Answer) → AllMayFollow [] journal → IsReplayOf c receivers journal answers (replay c receivers first_run journal answers))
-    → (c : Content) → IsLawful c → (journal : List Moment) (receiver : ℕ) (answers : List Answer) → AllMayFollow [] journal → IsRunOf c (story_of journal receiver) receiver (replay c (receiver ∷ []) first_run journal answers).run
-journal_run tells replays c lawful journal receiver answers may =
+    → (c : Content) → IsLawful c → (journal : List Moment) (receiver : ℕ) (answers : List Answer) → Leads c (story_of journal receiver) → AllMayFollow [] journal → IsRunOf c (story_of journal receiver) receiver (replay c (receiver ∷ []) first_run journal answers).run
+journal_run tells replays c lawful journal receiver answers leads may =
     let is = replays c (receiver ∷ []) journal answers may in
-    record { lawful = lawful; journal = journal; tells = tells journal receiver may; past = is.past; rest = (replay c (receiver ∷ []) first_run journal answers).rest; within = is.entries; answers = is.given; reaches = is.reaches }
+    record { lawful = lawful; leads = leads; journal = journal; tells = tells journal receiver may; past = is.past; rest = (replay c (receiver ∷ []) first_run journal answers).rest; within = is.entries; answers = is.given; reaches = is.reaches }
 
 -- every run of a receiver is linked
 abbrev pub RunsAreLinked : Type 0
-RunsAreLinked = (c : Content) → IsLawful c → (story : Story) (receiver : ℕ) (journal : List Moment) → IsStory story receiver journal → (past : List Moment) (answers : List Answer) (run : Run) → Reaches c (receiver ∷ []) past answers run
+RunsAreLinked = (c : Content) → IsLawful c → (story : Story) → Leads c story → (receiver : ℕ) (journal : List Moment) → IsStory story receiver journal → (past : List Moment) (answers : List Answer) (run : Run) → Reaches c (receiver ∷ []) past answers run
     → (rest : List Moment) → past ++ rest ≡ journal → RunIsLinked c story receiver past run
 
 linked_run : RunsAreLinked → (c : Content) (story : Story) (receiver : ℕ) (run : Run) → (of : IsRunOf c story receiver run) → RunIsLinked c story receiver of.past run
-linked_run laws c story receiver run of = laws c of.lawful story receiver of.journal of.tells of.past of.answers run of.reaches of.rest of.within
+linked_run laws c story receiver run of = laws c of.lawful story of.leads receiver of.journal of.tells of.past of.answers run of.reaches of.rest of.within
 
 follows : RunsAreLinked → (c : Content) (story : Story) (receiver : ℕ) (run : Run) → IsRunOf c story receiver run → (sub : ℕ) (before : List Attempt) (a : Attempt) → IsAttemptOf run sub before a → Follows c story sub (told_by c before) a
 follows laws c story receiver run of sub before a is =
@@ -76,6 +76,17 @@ not_past laws c story receiver run of sub before a is taken = (update laws c sto
 
 pub steady : RunsAreLinked → (c : Content) (story : Story) (receiver : ℕ) (run : Run) → IsRunOf c story receiver run → (sub : ℕ) (before : List Attempt) (a : Attempt) → IsAttemptOf run sub before a → Steady story sub a.made.from a.at
 steady laws c story receiver run of sub before a is = (follows laws c story receiver run of sub before a is).steady
+
+-- ---- what attempts are made of
+
+pub attempt_made : RunsAreLinked → (c : Content) (story : Story) (receiver : ℕ) (run : Run) → IsRunOf c story receiver run → (sub : ℕ) (before : List Attempt) (a : Attempt) → IsAttemptOf run sub before a → IsMadeOf c story sub a.made
+attempt_made laws c story receiver run of sub before a is = (follows laws c story receiver run of sub before a is).made
+
+pub attempt_from : RunsAreLinked → (c : Content) (story : Story) (receiver : ℕ) (run : Run) → IsRunOf c story receiver run → (sub : ℕ) (before : List Attempt) (a : Attempt) → IsAttemptOf run sub before a → a.made.from ≤ a.made.position
+attempt_from laws c story receiver run of sub before a is = (follows laws c story receiver run of sub before a is).within.0
+
+pub attempt_offered : RunsAreLinked → (c : Content) (story : Story) (receiver : ℕ) (run : Run) → IsRunOf c story receiver run → (sub : ℕ) (before : List Attempt) (a : Attempt) → IsAttemptOf run sub before a → a.made.position ≤ a.at
+attempt_offered laws c story receiver run of sub before a is = (follows laws c story receiver run of sub before a is).within.1
 
 -- ---- full queues
 

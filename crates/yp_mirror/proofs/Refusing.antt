@@ -6,13 +6,13 @@ use Rattle.yp_base.specs.declared.row.Row.{Row}
 use Rattle.yp_feed.specs.declared.item.Item.{Item}
 use Rattle.yp_feed.specs.declared.item.Item.TheVariants.{Started, Modified, Incomplete, Suspended, Resumed, Sync, Terminated, Changes, Periodic}
 use Rattle.yp_feed.specs.Machine.{resyncs, is_on_change, is_at, counted, suspends, suspended, after_count, freezes, frozen}
-use Rattle.yp_attempt.specs.Content.{Content, IsLawful}
+use Rattle.yp_attempt.specs.Content.{Content}
 use Rattle.yp_attempt.specs.Tracks.{Track, Frozen, Answer, Took, Full, item_made, made_frozen, offered_item, record_in, roots_in, with_feed, freeze_tried}
 use Rattle.yp_mirror.specs.Heard.{Told, after_full}
-use Rattle.yp_mirror.specs.Stories.{Story, Steady}
+use Rattle.yp_mirror.specs.Stories.{Story, Steady, Leads}
 use Rattle.yp_mirror.specs.Links.{FrozenFits, Linked}
 use Rattle.yp_mirror.proofs.Facts.{clash, by_either, none_between, not_at, more_tries, full_eight, eight_fulls, some_full}
-use Rattle.yp_mirror.proofs.Links.{GoesOn, resyncing_if, keep_frozen, ends_none, record_fresh, comes_after}
+use Rattle.yp_mirror.proofs.Links.{GoesOn, resyncing_if, keep_frozen, ends_none, window_told, record_fresh, item_told, comes_after}
 use Rattle.yp_mirror.proofs.Offering.{Offered, offered}
 use Rattle.yp_mirror.proofs.Taking.{took}
 
@@ -45,9 +45,9 @@ tried_by c n stamp track b = record track {
   frozen = if b then Some (record { from = track.feed.base; position = n; tick = stamp; edits = record_in c track }) else track.frozen;
 }
 
-tried_linked : (c : Content) (lawful : IsLawful c) (story : Story) (receiver n stamp : ℕ) (track : Track) (t : Told) (b : Bool) → freezes track.feed (roots_in c track) ≡ b → Linked c story receiver n n stamp track t → Linked c story receiver n n stamp (tried_by c n stamp track b) t
-tried_linked c lawful story receiver n stamp track t false e h = h
-tried_linked c lawful story receiver n stamp track t true e h =
+tried_linked : (c : Content) (story : Story) (leads : Leads c story) (receiver n stamp : ℕ) (track : Track) (t : Told) (b : Bool) → freezes track.feed (roots_in c track) ≡ b → Linked c story receiver n n stamp track t → Linked c story receiver n n stamp (tried_by c n stamp track b) t
+tried_linked c story leads receiver n stamp track t false e h = h
+tried_linked c story leads receiver n stamp track t true e h =
     let may = freeze_flags (is_on_change track.feed.trigger) (nat_lt 0 track.feed.tries) (nat_lt 256 (roots_in c track)) track.feed.owed.incomplete track.feed.owed.suspended track.feed.owed.resumed track.feed.owed.sync track.feed.owed.terminated e in
     let quiet : (track.feed.owed.sync || track.feed.owed.terminated) ≡ false = ap (λ (x : Bool). x || track.feed.owed.terminated) may.synced ∙ may.lives in
     let free : (track.feed.owed.resumed || track.feed.owed.terminated) ≡ false = ap (λ (x : Bool). x || track.feed.owed.terminated) may.runs ∙ may.lives in
@@ -58,16 +58,19 @@ tried_linked c lawful story receiver n stamp track t true e h =
       resyncing = h.resyncing;
       current = h.current;
       first = h.first;
+      window = h.window;
       base = h.base;
       last = λ m on still. h.last m may.changes quiet;
       copy = h.copy;
       rises = h.rises;
       steady = λ still. h.steady quiet;
       frozen = record {
+        made = window_told c story receiver n n stamp track t h;
+        begins = h.base;
         past = omega arith;
         rises = h.rises;
         from = λ m. h.last m may.changes quiet;
-        leads = record_fresh c lawful story receiver n n stamp track t h may.changes quiet;
+        leads = record_fresh c story leads receiver n n stamp track t h may.changes quiet;
         steady = h.steady quiet;
         syncs = syncs;
         lives = may.lives;
@@ -87,8 +90,8 @@ tried_linked c lawful story receiver n stamp track t true e h =
       after_eight = h.after_eight;
     }
 
-pub tries_freezing : (c : Content) (lawful : IsLawful c) (story : Story) (receiver n stamp : ℕ) (track : Track) (t : Told) → Linked c story receiver n n stamp track t → Linked c story receiver n n stamp (freeze_tried c n stamp track) t
-tries_freezing c lawful story receiver n stamp track t h = tried_linked c lawful story receiver n stamp track t (freezes track.feed (roots_in c track)) refl h
+pub tries_freezing : (c : Content) (story : Story) (leads : Leads c story) (receiver n stamp : ℕ) (track : Track) (t : Told) → Linked c story receiver n n stamp track t → Linked c story receiver n n stamp (freeze_tried c n stamp track) t
+tries_freezing c story leads receiver n stamp track t h = tried_linked c story leads receiver n stamp track t (freezes track.feed (roots_in c track)) refl h
 
 -- ---- a full queue
 
@@ -125,6 +128,7 @@ refused_linked c story receiver n stamp track t item true e h =
       resyncing = h.resyncing;
       current = h.current;
       first = h.first;
+      window = h.window;
       base = h.base;
       last = λ m on quiet. clash (resyncs track.feed.trigger || false) (syncs (resyncing_if c story receiver n n stamp track t h m)) quiet;
       copy = h.copy;
@@ -154,6 +158,7 @@ refused_linked c story receiver n stamp track t item false e h =
       resyncing = h.resyncing;
       current = h.current;
       first = h.first;
+      window = h.window;
       base = h.base;
       last = h.last;
       copy = h.copy;
@@ -177,13 +182,13 @@ refused_linked c story receiver n stamp track t item false e h =
       after_eight = λ x. or_left t.met_eight (nat_le 8 (t.fulls + 1)) (h.after_eight x);
     }
 
-full_goes_on : (c : Content) (lawful : IsLawful c) (story : Story) (receiver n stamp : ℕ) (track : Track) (t : Told) (item : Item) → Linked c story receiver n n stamp track t → is_at track.feed.last_full stamp ≡ false → Offered track.feed item → GoesOn c story receiver n stamp track t item Full
-full_goes_on c lawful story receiver n stamp track t item h free o = (
-  record { steady = made_steady c story receiver n stamp track t item h o; answer = not_at t.last_full stamp (ap (λ (x : Option ℕ). is_at x stamp) (sym h.last_full) ∙ free) h.stamps; after = comes_after c story receiver n n stamp track t item h o },
-  λ lives. tries_freezing c lawful story receiver n stamp (with_feed track (after_count (counted track.feed item stamp)) false) (after_full t stamp) (refused_linked c story receiver n stamp track t item (suspends (counted track.feed item stamp)) refl h),
+full_goes_on : (c : Content) (story : Story) (leads : Leads c story) (receiver n stamp : ℕ) (track : Track) (t : Told) (item : Item) → Linked c story receiver n n stamp track t → is_at track.feed.last_full stamp ≡ false → Offered track.feed item → GoesOn c story receiver n stamp track t item Full
+full_goes_on c story leads receiver n stamp track t item h free o = let told = item_told c story receiver n n stamp track t item h o in (
+  record { made = told.0; within = told.1; steady = made_steady c story receiver n stamp track t item h o; answer = not_at t.last_full stamp (ap (λ (x : Option ℕ). is_at x stamp) (sym h.last_full) ∙ free) h.stamps; after = comes_after c story receiver n n stamp track t item h o },
+  λ lives. tries_freezing c story leads receiver n stamp (with_feed track (after_count (counted track.feed item stamp)) false) (after_full t stamp) (refused_linked c story receiver n stamp track t item (suspends (counted track.feed item stamp)) refl h),
 )
 
 -- whichever answer comes
-pub answer_goes_on : (c : Content) (lawful : IsLawful c) (story : Story) (receiver n stamp : ℕ) (track : Track) (t : Told) (item : Item) (answer : Answer) → Linked c story receiver n n stamp track t → offered_item c stamp track ≡ Some item → GoesOn c story receiver n stamp track t item answer
-answer_goes_on c lawful story receiver n stamp track t item Took h e = took c lawful story receiver n stamp track t item h (offered track.feed _ _ stamp item e).1
-answer_goes_on c lawful story receiver n stamp track t item Full h e = let o = offered track.feed _ _ stamp item e in full_goes_on c lawful story receiver n stamp track t item h o.0 o.1
+pub answer_goes_on : (c : Content) (story : Story) (leads : Leads c story) (receiver n stamp : ℕ) (track : Track) (t : Told) (item : Item) (answer : Answer) → Linked c story receiver n n stamp track t → offered_item c stamp track ≡ Some item → GoesOn c story receiver n stamp track t item answer
+answer_goes_on c story leads receiver n stamp track t item Took h e = took c story leads receiver n stamp track t item h (offered track.feed _ _ stamp item e).1
+answer_goes_on c story leads receiver n stamp track t item Full h e = let o = offered track.feed _ _ stamp item e in full_goes_on c story leads receiver n stamp track t item h o.0 o.1

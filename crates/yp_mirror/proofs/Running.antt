@@ -12,7 +12,7 @@ use Rattle.yp_attempt.specs.TrackLaws.{moment_same, answer_same}
 use Rattle.yp_attempt.specs.Moments.{Moment, Act, Quiet, Starts, Controls, Drops, after_moment, is_kept_by, new_track, starts_sub, was_started, IsUnused, MayFollow}
 use Rattle.yp_attempt.specs.Runs.{Run, Found, IsFirst, first_offer, with_started, run_advanced, run_settled, Reaches, opened, advances, settles}
 use Rattle.yp_mirror.specs.Heard.{Told, told_nothing, told_by, of_sub}
-use Rattle.yp_mirror.specs.Stories.{Story, TellsEntry, StartsAs, IsStory}
+use Rattle.yp_mirror.specs.Stories.{Story, Leads, TellsEntry, StartsAs, IsStory}
 use Rattle.yp_mirror.specs.Following.{Follows, AllFollow}
 use Rattle.yp_mirror.specs.Links.{Linked, LinkedIn, HaveOwnSubs, RunIsLinked}
 use Rattle.yp_mirror.proofs.Lists.{all_two, same_number, other_number, number_is, IsOfOther, own_map, own_filter, own_append, AreAround, own_around, own_settled, heard_last, follow_last, of_same, of_other, of_none, stamp_last, started_more, started_new, unused_other}
@@ -27,8 +27,8 @@ put_all : (P : Track → Type 0) (before : List Track) (track : Track) (after : 
 put_all P before track after true e f g h = all_append P before after f h
 put_all P before track after false e f g h = all_append P before (track ∷ after) f (g e, h)
 
-settled_linked : (c : Content) (lawful : IsLawful c) (story : Story) (receiver : ℕ) (past : List Moment) (run : Run) (found : Found) (answer : Answer) → RunIsLinked c story receiver past run → IsFirst c run.standing.stamp run.standing.tracks found → RunIsLinked c story receiver past (run_settled c run found answer)
-settled_linked c lawful story receiver past run found answer kept is =
+settled_linked : (c : Content) (story : Story) (leads : Leads c story) (receiver : ℕ) (past : List Moment) (run : Run) (found : Found) (answer : Answer) → RunIsLinked c story receiver past run → IsFirst c run.standing.stamp run.standing.tracks found → RunIsLinked c story receiver past (run_settled c run found answer)
+settled_linked c story leads receiver past run found answer kept is =
     let n : ℕ = run.standing.position in
     let stamp : ℕ = run.standing.stamp in
     let here : Track = found.track in
@@ -43,7 +43,7 @@ settled_linked c lawful story receiver past run found answer kept is =
     let linked : AllByRecursion (In run.done) (found.before ++ here ∷ found.after) = subst (AllByRecursion (In run.done)) is.parts kept.linked in
     let its_start : WasStarted here = (all_rest WasStarted found.before (here ∷ found.after) known).0 in
     let mine : In run.done here = (all_rest (In run.done) found.before (here ∷ found.after) linked).0 in
-    let next = answer_goes_on c lawful story receiver n stamp here (told_by c (of_sub here.feed.sub run.done)) found.item answer mine is.offers in
+    let next = answer_goes_on c story leads receiver n stamp here (told_by c (of_sub here.feed.sub run.done)) found.item answer mine is.offers in
     let other : (track : Track) → In run.done track → IsOfOther here.feed.sub track → In (run.done ++ a ∷ []) track =
     (λ track h far. subst (λ (xs : List Attempt). Linked c story receiver n n stamp track (told_by c xs)) (sym (of_other track.feed.sub run.done a (other_number track.feed.sub here.feed.sub far))) h) in
     let own : (of_sub here.feed.sub (run.done ++ a ∷ [])) ≡ of_sub here.feed.sub run.done ++ a ∷ [] = of_same here.feed.sub run.done a (number_is here.feed.sub) in
@@ -149,8 +149,8 @@ starts c story receiver n past done tracks m (Starts sub trigger configured name
 starts c story receiver n past done tracks m (Controls sub control) unused begun as_told selection known linked started_attempts apart = none_start c story receiver n m.stamp past done tracks m known linked apart
 starts c story receiver n past done tracks m (Drops sub) unused begun as_told selection known linked started_attempts apart = none_start c story receiver n m.stamp past done tracks m known linked apart
 
-advanced_linked : (c : Content) (lawful : IsLawful c) (story : Story) (receiver : ℕ) (past : List Moment) (run : Run) (m : Moment) → RunIsLinked c story receiver past run → MayFollow past m → TellsEntry story receiver (length past + 1) m → RunIsLinked c story receiver (past ++ m ∷ []) (run_advanced c (receiver ∷ []) m run)
-advanced_linked c lawful story receiver past run m kept may tells =
+advanced_linked : (c : Content) (lawful : IsLawful c) (story : Story) (leads : Leads c story) (receiver : ℕ) (past : List Moment) (run : Run) (m : Moment) → RunIsLinked c story receiver past run → MayFollow past m → TellsEntry story receiver (length past + 1) m → RunIsLinked c story receiver (past ++ m ∷ []) (run_advanced c (receiver ∷ []) m run)
+advanced_linked c lawful story leads receiver past run m kept may tells =
     let n : ℕ = run.standing.position in
     let later : run.standing.stamp ≤ m.stamp = subst (λ (x : ℕ). x ≤ m.stamp) (sym kept.stamp) may.stamp in
     let so : TellsEntry story receiver (n + 1) m = subst (λ (x : ℕ). TellsEntry story receiver (x + 1) m) (sym kept.position) tells in
@@ -167,7 +167,7 @@ advanced_linked c lawful story receiver past run m kept may tells =
     let linked_after : AllByRecursion (LinkedIn c story receiver (n + 1) m.stamp run.done) (map g before) =
     all_map (LinkedIn c story receiver n run.standing.stamp run.done) (LinkedIn c story receiver (n + 1) m.stamp run.done) g before
     (λ track h. subst (λ (x : ℕ). Linked c story receiver (n + 1) (n + 1) m.stamp (g track) (told_by c (of_sub x run.done))) (sym (moment_same c m (n + 1) track).0)
-    (moment_linked c lawful story receiver n run.standing.stamp track (told_by c (of_sub track.feed.sub run.done)) m h so later)) linked_before in
+    (moment_linked c story leads receiver n run.standing.stamp track (told_by c (of_sub track.feed.sub run.done)) m h so later)) linked_before in
     let apart_after : HaveOwnSubs (map g before) = own_map g before (λ track. (moment_same c m (n + 1) track).0) (own_filter (is_kept_by m.act) (map f run.standing.tracks) (own_map f run.standing.tracks (λ track. refl) kept.own_subs)) in
     let all : StayLinked c story receiver (n + 1) m.stamp (past ++ m ∷ []) run.done (with_started m (n + 1) m.act (receiver ∷ []) (map g before)) =
     starts c story receiver (n + 1) past run.done (map g before) m m.act may.unused (λ sub e. started_new past m sub e) so.starts so.selection known_after linked_after kept.started_attempts apart_after in
@@ -187,11 +187,11 @@ advanced_linked c lawful story receiver past run m kept may tells =
 abbrev pub FirstIsFound : Type 0
 FirstIsFound = (c : Content) (stamp : ℕ) (tracks : List Track) (found : Found) → first_offer c stamp tracks ≡ Some found → IsFirst c stamp tracks found
 
-pub run_linked : FirstIsFound → (c : Content) (lawful : IsLawful c) (story : Story) (receiver : ℕ) (journal : List Moment) → IsStory story receiver journal → (past : List Moment) (answers : List Answer) (run : Run) → Reaches c (receiver ∷ []) past answers run
+pub run_linked : FirstIsFound → (c : Content) (lawful : IsLawful c) (story : Story) (leads : Leads c story) (receiver : ℕ) (journal : List Moment) → IsStory story receiver journal → (past : List Moment) (answers : List Answer) (run : Run) → Reaches c (receiver ∷ []) past answers run
     → (rest : List Moment) → past ++ rest ≡ journal → RunIsLinked c story receiver past run
-run_linked first c lawful story receiver journal tells _ _ _ opened rest e = record { position = refl; stamp = refl; started_tracks = tt; started_attempts = tt; own_subs = tt; linked = tt; follow = λ sub. tt }
-run_linked first c lawful story receiver journal tells _ _ _ (advances past answers run m r may idle) rest e =
+run_linked first c lawful story leads receiver journal tells _ _ _ opened rest e = record { position = refl; stamp = refl; started_tracks = tt; started_attempts = tt; own_subs = tt; linked = tt; follow = λ sub. tt }
+run_linked first c lawful story leads receiver journal tells _ _ _ (advances past answers run m r may idle) rest e =
     let q : past ++ m ∷ rest ≡ journal = sym (append_assoc past (m ∷ []) rest) ∙ e in
-    advanced_linked c lawful story receiver past run m (run_linked first c lawful story receiver journal tells past answers run r (m ∷ rest) q) may (tells past m rest q)
-run_linked first c lawful story receiver journal tells _ _ _ (settles past answers run found answer r offers) rest e =
-    settled_linked c lawful story receiver past run found answer (run_linked first c lawful story receiver journal tells past answers run r rest e) (first c run.standing.stamp run.standing.tracks found offers)
+    advanced_linked c lawful story leads receiver past run m (run_linked first c lawful story leads receiver journal tells past answers run r (m ∷ rest) q) may (tells past m rest q)
+run_linked first c lawful story leads receiver journal tells _ _ _ (settles past answers run found answer r offers) rest e =
+    settled_linked c story leads receiver past run found answer (run_linked first c lawful story leads receiver journal tells past answers run r rest e) (first c run.standing.stamp run.standing.tracks found offers)

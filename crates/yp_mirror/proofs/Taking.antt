@@ -6,13 +6,13 @@ use Rattle.std.proofs.lemmas.Option.{none-some}
 use Rattle.yp_feed.specs.declared.item.Item.{Item}
 use Rattle.yp_feed.specs.declared.item.Item.TheVariants.{Started, Modified, Incomplete, Suspended, Resumed, Sync, Terminated, Changes, Periodic}
 use Rattle.yp_feed.specs.Machine.{resyncs, is_on_change}
-use Rattle.yp_attempt.specs.Content.{Content, IsLawful}
+use Rattle.yp_attempt.specs.Content.{Content}
 use Rattle.yp_attempt.specs.Tracks.{Track, Frozen, Took, current, kept_if, record_in}
 use Rattle.yp_mirror.specs.Heard.{Told}
-use Rattle.yp_mirror.specs.Stories.{Story}
+use Rattle.yp_mirror.specs.Stories.{Story, Leads}
 use Rattle.yp_mirror.specs.Links.{IsFrozen, Linked}
-use Rattle.yp_mirror.proofs.Facts.{clash, or_other, eight_no, none_between, moved_current, moved_first, moved_base, moved_steady, no_full}
-use Rattle.yp_mirror.proofs.Links.{GoesOn, mirrored_resyncs, resyncing_if, keep_frozen, no_frozen, frozen_is, record_fresh}
+use Rattle.yp_mirror.proofs.Facts.{clash, or_other, eight_no, none_between, moved_current, moved_first, moved_window, moved_base, moved_steady, no_full, here}
+use Rattle.yp_mirror.proofs.Links.{GoesOn, mirrored_resyncs, resyncing_if, keep_frozen, no_frozen, frozen_is, window_told, record_fresh}
 use Rattle.yp_mirror.proofs.Offering.{Offered}
 
 -- ---- changes of the subscription's state
@@ -29,6 +29,7 @@ state_linked c story receiver n stamp track t started modified suspended eight h
   resyncing = h.resyncing;
   current = h.current;
   first = h.first;
+  window = h.window;
   base = h.base;
   last = h.last;
   copy = h.copy;
@@ -52,34 +53,35 @@ state_linked c story receiver n stamp track t started modified suspended eight h
 
 took_started : (c : Content) (story : Story) (receiver n stamp : ℕ) (track : Track) (t : Told) → Linked c story receiver n n stamp track t → GoesOn c story receiver n stamp track t Started Took
 took_started c story receiver n stamp track t h = (
-  record { steady = none_between story track.feed.sub n; answer = tt; after = tt },
+  record { made = tt; within = here n; steady = none_between story track.feed.sub n; answer = tt; after = tt },
   λ lives. state_linked c story receiver n stamp track t false track.feed.owed.modified track.feed.owed.suspended h.after_eight h,
 )
 
 took_modified : (c : Content) (story : Story) (receiver n stamp : ℕ) (track : Track) (t : Told) → Linked c story receiver n n stamp track t → GoesOn c story receiver n stamp track t Modified Took
 took_modified c story receiver n stamp track t h = (
-  record { steady = none_between story track.feed.sub n; answer = tt; after = tt },
+  record { made = tt; within = here n; steady = none_between story track.feed.sub n; answer = tt; after = tt },
   λ lives. state_linked c story receiver n stamp track t track.feed.owed.started false track.feed.owed.suspended h.after_eight h,
 )
 
 took_suspended : (c : Content) (story : Story) (receiver n stamp : ℕ) (track : Track) (t : Told) → Linked c story receiver n n stamp track t → track.feed.owed.suspended ≡ true → GoesOn c story receiver n stamp track t Suspended Took
 took_suspended c story receiver n stamp track t h there = (
-  record { steady = none_between story track.feed.sub n; answer = tt; after = h.after_eight there },
+  record { made = tt; within = here n; steady = none_between story track.feed.sub n; answer = tt; after = h.after_eight there },
   λ lives. state_linked c story receiver n stamp track t track.feed.owed.started track.feed.owed.modified false (λ e. absurd (true≢false (sym e))) h,
 )
 
 took_terminated : (c : Content) (story : Story) (receiver n stamp : ℕ) (track : Track) (t : Told) → Linked c story receiver n n stamp track t → GoesOn c story receiver n stamp track t Terminated Took
-took_terminated c story receiver n stamp track t h = (record { steady = none_between story track.feed.sub n; answer = tt; after = tt }, λ lives. absurd (true≢false lives))
+took_terminated c story receiver n stamp track t h = (record { made = tt; within = here n; steady = none_between story track.feed.sub n; answer = tt; after = tt }, λ lives. absurd (true≢false lives))
 
 took_resumed : (c : Content) (story : Story) (receiver n stamp : ℕ) (track : Track) (t : Told) → Linked c story receiver n n stamp track t → track.feed.owed.incomplete ≡ false → track.feed.owed.suspended ≡ false → GoesOn c story receiver n stamp track t Resumed Took
 took_resumed c story receiver n stamp track t h none not_suspended = (
-  record { steady = none_between story track.feed.sub n; answer = tt; after = tt },
+  record { made = tt; within = here n; steady = none_between story track.feed.sub n; answer = tt; after = tt },
   λ lives. record {
     mine = h.mine;
     mirrored = h.mirrored;
     resyncing = h.resyncing;
     current = moved_current (not (resyncs track.feed.trigger)) track.first track.later ∙ h.current;
     first = moved_first (not (resyncs track.feed.trigger)) track.first track.later (story.want track.feed.sub) track.feed.base n h.first h.current;
+    window = moved_window story track.feed.sub (not (resyncs track.feed.trigger)) track.feed.base n track.later h.window;
     base = moved_base (not (resyncs track.feed.trigger)) track.feed.base n h.base;
     last = λ m on quiet. h.last m on quiet ∙ ap (λ (b : Bool). Some (if not b then n else track.feed.base)) (sym (mirrored_resyncs track.feed.trigger (sym h.mirrored ∙ m)));
     copy = h.copy;
@@ -119,6 +121,7 @@ full_linked c story receiver n stamp track t sync last_record due h none plain h
   resyncing = h.resyncing;
   current = h.current;
   first = h.current;
+  window = tt;
   base = omega arith;
   last = λ m on quiet. refl;
   copy = λ m. h.current;
@@ -142,25 +145,27 @@ full_linked c story receiver n stamp track t sync last_record due h none plain h
 
 took_sync : (c : Content) (story : Story) (receiver n stamp : ℕ) (track : Track) (t : Told) → Linked c story receiver n n stamp track t → track.feed.owed.incomplete ≡ false → track.feed.owed.resumed ≡ false → GoesOn c story receiver n stamp track t Sync Took
 took_sync c story receiver n stamp track t h none not_resumed = (
-  record { steady = none_between story track.feed.sub n; answer = record { fresh = λ m. h.current; rises = h.rises; past = omega arith; begins = λ m e. refl; full = λ r a. (refl, h.current, refl) }; after = tt },
+  record { made = (h.current, refl); within = here n; steady = none_between story track.feed.sub n; answer = record { fresh = λ m. h.current; rises = h.rises; past = omega arith; begins = λ m e. refl; full = λ r a. (refl, h.current, refl) }; after = tt },
   λ lives. full_linked c story receiver n stamp track t false _ _ h none (λ e. refl) (λ r s. or_other track.feed.owed.resumed track.feed.owed.terminated not_resumed (h.held s)),
 )
 
 took_periodic : (c : Content) (story : Story) (receiver n stamp : ℕ) (track : Track) (t : Told) → Linked c story receiver n n stamp track t → track.feed.owed.incomplete ≡ false → GoesOn c story receiver n stamp track t Periodic Took
 took_periodic c story receiver n stamp track t h none = (
-  record { steady = none_between story track.feed.sub n; answer = record { fresh = λ m. h.current; rises = h.rises; past = omega arith; begins = λ m e. refl; full = λ r a. (refl, h.current, refl) }; after = tt },
+  record { made = (h.current, refl); within = here n; steady = none_between story track.feed.sub n; answer = record { fresh = λ m. h.current; rises = h.rises; past = omega arith; begins = λ m e. refl; full = λ r a. (refl, h.current, refl) }; after = tt },
   λ lives. full_linked c story receiver n stamp track t track.feed.owed.sync _ _ h none h.plain h.held_sync,
 )
 
 -- ---- updates of changes
 
-took_changes : (c : Content) (lawful : IsLawful c) (story : Story) (receiver n stamp : ℕ) (track : Track) (t : Told) → Linked c story receiver n n stamp track t
+took_changes : (c : Content) (story : Story) (leads : Leads c story) (receiver n stamp : ℕ) (track : Track) (t : Told) → Linked c story receiver n n stamp track t
     → track.feed.owed.incomplete ≡ false → (track.feed.owed.sync || track.feed.owed.terminated) ≡ false → is_on_change track.feed.trigger ≡ true → GoesOn c story receiver n stamp track t Changes Took
-took_changes c lawful story receiver n stamp track t h none quiet on = (
+took_changes c story leads receiver n stamp track t h none quiet on = (
   record {
+    made = window_told c story receiver n n stamp track t h;
+    within = (h.base, omega arith);
     steady = h.steady quiet;
     answer = record {
-      fresh = record_fresh c lawful story receiver n n stamp track t h on quiet;
+      fresh = record_fresh c story leads receiver n n stamp track t h on quiet;
       rises = h.rises;
       past = omega arith;
       begins = λ m e. absurd (none-some track.feed.base (sym e ∙ h.last m on quiet));
@@ -174,9 +179,10 @@ took_changes c lawful story receiver n stamp track t h none quiet on = (
     resyncing = h.resyncing;
     current = h.current;
     first = h.current;
+    window = tt;
     base = omega arith;
     last = λ m on still. refl;
-    copy = record_fresh c lawful story receiver n n stamp track t h on quiet;
+    copy = record_fresh c story leads receiver n n stamp track t h on quiet;
     rises = omega arith;
     steady = λ still. none_between story track.feed.sub n;
     frozen = no_frozen c story track.feed.sub n n track.feed.owed.sync track.feed.owed.terminated (c.received t.rows (record_in c track)) (Some n) track.feed.owed.incomplete track.frozen none;
@@ -200,6 +206,8 @@ took_frozen : (c : Content) (story : Story) (receiver n stamp : ℕ) (track : Tr
     → IsFrozen c story track.feed.sub n n track.feed.owed.sync track.feed.owed.terminated t.rows t.last frozen → track.feed.owed.incomplete ≡ true → GoesOn c story receiver n stamp (record track { frozen = Some frozen }) t Incomplete Took
 took_frozen c story receiver n stamp track t frozen h is there = (
   record {
+    made = is.made;
+    within = (is.begins, is.past);
     steady = is.steady;
     answer = record { fresh = is.leads; rises = is.rises; past = is.past; begins = λ m e. absurd (none-some frozen.from (sym e ∙ is.from m)); full = λ r a. clash track.feed.owed.incomplete there (h.awaits_none r a) };
     after = h.after_full there;
@@ -210,6 +218,7 @@ took_frozen c story receiver n stamp track t frozen h is there = (
     resyncing = h.resyncing;
     current = moved_current (not (resyncs track.feed.trigger)) track.first track.later ∙ h.current;
     first = moved_first (not (resyncs track.feed.trigger)) track.first track.later (story.want track.feed.sub) track.feed.base n h.first h.current;
+    window = moved_window story track.feed.sub (not (resyncs track.feed.trigger)) track.feed.base n track.later h.window;
     base = moved_base (not (resyncs track.feed.trigger)) track.feed.base n h.base;
     last = λ m on quiet. clash (track.feed.owed.sync || track.feed.owed.terminated) (or_left track.feed.owed.sync track.feed.owed.terminated (is.syncs (resyncing_if c story receiver n n stamp track t h m))) quiet;
     copy = is.leads;
@@ -237,13 +246,13 @@ took_incomplete c story receiver n stamp track t h there =
     let frozen = frozen_is c story track.feed.sub n n track.feed.owed.sync track.feed.owed.terminated t.rows t.last track.feed.owed.incomplete track.frozen h.frozen there in
     subst (λ (o : Option Frozen). GoesOn c story receiver n stamp (record track { frozen = o }) t Incomplete Took) (sym frozen.1) (took_frozen c story receiver n stamp track t frozen.0 h frozen.2 there)
 
-pub took : (c : Content) (lawful : IsLawful c) (story : Story) (receiver n stamp : ℕ) (track : Track) (t : Told) (item : Item) → Linked c story receiver n n stamp track t → Offered track.feed item → GoesOn c story receiver n stamp track t item Took
-took c lawful story receiver n stamp track t Started h o = took_started c story receiver n stamp track t h
-took c lawful story receiver n stamp track t Modified h o = took_modified c story receiver n stamp track t h
-took c lawful story receiver n stamp track t Incomplete h o = took_incomplete c story receiver n stamp track t h o
-took c lawful story receiver n stamp track t Suspended h o = took_suspended c story receiver n stamp track t h o.1
-took c lawful story receiver n stamp track t Resumed h o = took_resumed c story receiver n stamp track t h o.0 o.1
-took c lawful story receiver n stamp track t Sync h o = took_sync c story receiver n stamp track t h o.0 o.1
-took c lawful story receiver n stamp track t Terminated h o = took_terminated c story receiver n stamp track t h
-took c lawful story receiver n stamp track t Changes h o = took_changes c lawful story receiver n stamp track t h o.0 o.1 o.2
-took c lawful story receiver n stamp track t Periodic h o = took_periodic c story receiver n stamp track t h o.0
+pub took : (c : Content) (story : Story) (leads : Leads c story) (receiver n stamp : ℕ) (track : Track) (t : Told) (item : Item) → Linked c story receiver n n stamp track t → Offered track.feed item → GoesOn c story receiver n stamp track t item Took
+took c story leads receiver n stamp track t Started h o = took_started c story receiver n stamp track t h
+took c story leads receiver n stamp track t Modified h o = took_modified c story receiver n stamp track t h
+took c story leads receiver n stamp track t Incomplete h o = took_incomplete c story receiver n stamp track t h o
+took c story leads receiver n stamp track t Suspended h o = took_suspended c story receiver n stamp track t h o.1
+took c story leads receiver n stamp track t Resumed h o = took_resumed c story receiver n stamp track t h o.0 o.1
+took c story leads receiver n stamp track t Sync h o = took_sync c story receiver n stamp track t h o.0 o.1
+took c story leads receiver n stamp track t Terminated h o = took_terminated c story receiver n stamp track t h
+took c story leads receiver n stamp track t Changes h o = took_changes c story leads receiver n stamp track t h o.0 o.1 o.2
+took c story leads receiver n stamp track t Periodic h o = took_periodic c story receiver n stamp track t h o.0

@@ -1,12 +1,15 @@
--- What is promised of each attempt of a subscription, by what its receiver was told before it (RFC 8641 sections 3.1, 3.7 and 3.11, RFC 8639 section 2.7).
+-- What is promised of each attempt of a subscription: of which selections it tells, and how it follows what its receiver was told before it (RFC 8641 sections 3.1, 3.7 and 3.11, RFC 8639 section 2.7).
 use Rattle.std.specs.Prelude.{◌≡◌, ℕ, ◌<◌, ◌≤◌, Bool, true, false, List, [], ◌∷◌, Option, Some, None}
+use Rattle.std.specs.List.{AllByRecursion}
 use Rattle.yp_base.specs.declared.row.Row.{Row}
+use Rattle.yp_base.specs.declared.notice.Change.{Change}
+use Rattle.yp_base.specs.declared.notice.Kinds.{Kinds}
 use Rattle.yp_feed.specs.declared.item.Item.{Item}
 use Rattle.yp_feed.specs.declared.item.Item.TheVariants.{Started, Modified, Incomplete, Suspended, Resumed, Sync, Terminated, Changes, Periodic}
 use Rattle.yp_attempt.specs.Content.{Content}
-use Rattle.yp_attempt.specs.Tracks.{Body, All, Edits, Marked, Notice, Answer, Took, Full, Attempt}
+use Rattle.yp_attempt.specs.Tracks.{Body, All, Edits, Marked, Notice, Made, Answer, Took, Full, Attempt}
 use Rattle.yp_mirror.specs.Heard.{Told, heard}
-use Rattle.yp_mirror.specs.Stories.{Story, Steady}
+use Rattle.yp_mirror.specs.Stories.{Story, Steady, IsWantedBetween}
 
 -- a position, if there is one, is not past another
 abbrev pub IsAtMost : Option ℕ → ℕ → Type 0
@@ -17,6 +20,30 @@ IsAtMost (Some k) n = k ≤ n
 abbrev pub IsLessThan : Option ℕ → ℕ → Type 0
 IsLessThan None stamp = Unit {0}
 IsLessThan (Some tick) stamp = tick < stamp
+
+-- ---- what an attempt is made of
+
+-- edits are the record of a window: of what was selected at positions from one to another, without edits of excluded kinds
+pub record TellsWindow (c : Content) (story : Story) (sub from to : ℕ) (changes : List Change) : Type 0 where
+  pub kinds : Kinds
+  pub first : List Row
+  pub later : List (List Row)
+  pub begins : IsWantedBetween story sub from to first
+  pub goes_on : AllByRecursion (IsWantedBetween story sub from to) later
+  pub edits : changes ≡ c.window_record kinds first later
+
+-- a body that tells from one position, and was made at another: all that was selected where it was made, and then it tells from there; or edits of what was selected from the one to the other
+abbrev pub IsBodyOf : Content → Story → ℕ → ℕ → ℕ → Body → Type 0
+IsBodyOf c story sub from position (All rows) = (rows ≡ story.want sub position) × (from ≡ position)
+IsBodyOf c story sub from position (Edits edits) = TellsWindow c story sub from position edits
+IsBodyOf c story sub from position (Marked edits) = TellsWindow c story sub from position edits
+IsBodyOf c story sub from position (Notice item) = Unit {0}
+
+-- what was made tells of what was selected at the positions that it names
+abbrev pub IsMadeOf : Content → Story → ℕ → Made → Type 0
+IsMadeOf c story sub made = IsBodyOf c story sub made.from made.position made.body
+
+-- ---- what follows what was told
 
 -- an update that is taken leaves these rows: they are what was selected where it was made, which is not before the update before it; the first update of a mirrored copy is a full one; and where a full one must come, it is that, made where it was offered
 pub record IsUpdate (story : Story) (sub : ℕ) (t : Told) (rows : List Row) (position at : ℕ) (whole : Bool) : Type 0 where
@@ -57,8 +84,10 @@ ComesAfter t (Edits edits) = Unit {0}
 ComesAfter t (Marked edits) = t.met_full ≡ true
 ComesAfter t (Notice item) = NoticeComesAfter t item
 
--- an attempt: between the position from which it tells and the one at which it is offered nothing changed what is asked for or the rules; its answer is as it should be; and so is what it comes after
+-- an attempt: it tells of what was selected at positions up to the one at which it is offered; from the one from which it tells nothing changed what is asked for or the rules; its answer is as it should be; and so is what it comes after
 pub record Follows (c : Content) (story : Story) (sub : ℕ) (t : Told) (a : Attempt) : Type 0 where
+  pub made : IsMadeOf c story sub a.made
+  pub within : (a.made.from ≤ a.made.position) × (a.made.position ≤ a.at)
   pub steady : Steady story sub a.made.from a.at
   pub answer : IsAnswered c story sub t a.made.position a.at a.made.body a.stamp a.answer
   pub after : ComesAfter t a.made.body

@@ -8,13 +8,15 @@ use Rattle.yp_attempt.specs.Tracks.{Track, Frozen, Attempt, Answer, current}
 use Rattle.yp_attempt.specs.Moments.{Moment, last_stamp, was_started}
 use Rattle.yp_attempt.specs.Runs.{Run, Reaches}
 use Rattle.yp_mirror.specs.Heard.{Told, told_by, told_nothing, of_sub}
-use Rattle.yp_mirror.specs.Stories.{Story, Steady, IsStory}
-use Rattle.yp_mirror.specs.Following.{IsAtMost, AllFollow}
+use Rattle.yp_mirror.specs.Stories.{Story, Steady, IsWantedBetween, Leads, IsStory}
+use Rattle.yp_mirror.specs.Following.{IsAtMost, TellsWindow, AllFollow}
 
 -- ---- one track
 
--- a record that was set aside: it begins where the last update was made that was taken, it leads from the receiver's copy to what was selected where it was made, and nothing changed since; all that is selected is owed after it (RFC 8641 section 3.11.1)
+-- a record that was set aside: it is of what was selected from where it begins to where it was made; it begins where the last update was made that was taken, it leads from the receiver's copy to what was selected where it was made, and nothing changed since; all that is selected is owed after it (RFC 8641 section 3.11.1)
 pub record IsFrozen (c : Content) (story : Story) (sub n k : ℕ) (sync terminated : Bool) (rows : List Row) (last : Option ℕ) (frozen : Frozen) : Type 0 where
+  pub made : TellsWindow c story sub frozen.from frozen.position frozen.edits
+  pub begins : frozen.from ≤ frozen.position
   pub past : frozen.position ≤ n
   pub rises : IsAtMost last frozen.position
   pub from : story.mirrored sub ≡ true → last ≡ Some frozen.from
@@ -41,9 +43,10 @@ pub record Linked (c : Content) (story : Story) (receiver n k stamp : ℕ) (trac
   pub mine : track.feed.receiver ≡ receiver
   pub mirrored : story.mirrored track.feed.sub ≡ is_mirrored track.feed.trigger
   pub resyncing : story.resyncing track.feed.sub ≡ resyncs track.feed.trigger
-  -- its window goes from what was selected at its base to what is selected now
+  -- its window goes from what was selected at its base, by what was selected since, to what is selected now
   pub current : current track ≡ story.want track.feed.sub n
   pub first : track.first ≡ story.want track.feed.sub track.feed.base
+  pub window : AllByRecursion (IsWantedBetween story track.feed.sub track.feed.base n) track.later
   pub base : track.feed.base ≤ n
   -- the copy is what was selected at the last update, which was made at the base where neither a full update nor the end is owed
   pub last : story.mirrored track.feed.sub ≡ true → is_on_change track.feed.trigger ≡ true → (track.feed.owed.sync || track.feed.owed.terminated) ≡ false → t.last ≡ Some track.feed.base
@@ -90,9 +93,10 @@ pub record RunIsLinked (c : Content) (story : Story) (receiver : ℕ) (past : Li
   pub linked : AllByRecursion (LinkedIn c story receiver run.standing.position run.standing.stamp run.done) run.standing.tracks
   pub follow : (sub : ℕ) → AllFollow c story sub told_nothing (of_sub sub run.done)
 
--- a run of one receiver over a journal of this story, up to one of its entries, with lawful content
+-- a run of one receiver over a journal of this story, up to one of its entries, with lawful content whose records lead
 pub record IsRunOf (c : Content) (story : Story) (receiver : ℕ) (run : Run) : Type 0 where
   pub lawful : IsLawful c
+  pub leads : Leads c story
   pub journal : List Moment
   pub tells : IsStory story receiver journal
   pub past : List Moment

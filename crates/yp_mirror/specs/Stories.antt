@@ -1,8 +1,12 @@
 -- What a journal tells of a receiver's subscriptions (RFC 8641 sections 3.1 and 3.3, RFC 8639 section 2.4).
-use Rattle.std.specs.Prelude.{◌≡◌, ℕ, ◌+◌, ◌<◌, ◌≤◌, ◌==◌, Bool, false, ◌||◌, List, [], ◌∷◌, ◌++◌, length, take, Option, Some, None, if◌then◌else◌}
+use Rattle.std.specs.Prelude.{◌≡◌, ℕ, ◌+◌, ◌<◌, ◌≤◌, ◌==◌, Bool, true, false, ◌||◌, List, [], ◌∷◌, ◌++◌, length, take, Option, Some, None, if◌then◌else◌}
+use Rattle.std.specs.List.{AllByRecursion}
 use Rattle.yp_base.specs.declared.row.Row.{Row}
+use Rattle.yp_base.specs.Rows.{last_of}
+use Rattle.yp_base.specs.declared.notice.Kinds.{Kinds}
 use Rattle.yp_base.specs.declared.notice.Trigger.{Trigger}
-use Rattle.yp_feed.specs.Machine.{is_mirrored, resyncs}
+use Rattle.yp_feed.specs.Machine.{is_mirrored, resyncs, excludes_none}
+use Rattle.yp_attempt.specs.Content.{Content}
 use Rattle.yp_attempt.specs.Moments.{Moment, Act, Quiet, Starts, Controls, Drops}
 
 -- of a subscription: what it selects for the receiver at a position; whether the receiver's copy is to be that, and whether it resynchronises; and whether the entry at a position changes what it asks for or the rules of the receiver's user
@@ -15,6 +19,15 @@ pub record Story : Type 0 where
 -- after one position, up to another, nothing changes that
 abbrev pub Steady : Story → ℕ → ℕ → ℕ → Type 0
 Steady story sub from to = (n : ℕ) → from < n → n ≤ to → story.changes sub n ≡ false
+
+-- what a subscription selects at a position from one to another
+abbrev pub IsWantedBetween : Story → ℕ → ℕ → ℕ → List Row → Type 0
+IsWantedBetween story sub from to rows = (k : ℕ) × (from ≤ k) × (k ≤ to) × (rows ≡ story.want sub k)
+
+-- where no kind is excluded, a record of what a subscription selected at some positions leads from the first selection to the last
+pub record Leads (c : Content) (story : Story) : Type 0 where
+  pub leads : (sub from to : ℕ) (kinds : Kinds) → excludes_none kinds ≡ true → (first : List Row) (later : List (List Row)) → IsWantedBetween story sub from to first → AllByRecursion (IsWantedBetween story sub from to) later
+      → c.received first (c.window_record kinds first later) ≡ last_of first later
 
 -- whether an act is a modification, a resynchronisation or an end of a subscription
 abbrev pub is_control_of : ℕ → Act → Bool

@@ -10,8 +10,8 @@ ghost use Rattle.yp_attempt.specs.Runs.{Run, Reaches, first_run};
 ghost use Rattle.yp_attempt.specs.Attempts.{replay, attempts};
 ghost use Rattle.yp_attempt.specs.Examples.{counting, full_queue, many_rows, some_rows};
 ghost use Rattle.yp_mirror.specs.Heard.{told_by, of_sub, is_taken, is_full_update, is_incomplete_update, IsTakenUpdate};
-ghost use Rattle.yp_mirror.specs.Stories.{Story, Steady, IsStory, story_of};
-ghost use Rattle.yp_mirror.specs.Following.{IsLessThan};
+ghost use Rattle.yp_mirror.specs.Stories.{Story, Steady, Leads, IsStory, story_of};
+ghost use Rattle.yp_mirror.specs.Following.{IsMadeOf, IsLessThan};
 ghost use Rattle.yp_mirror.specs.Links.{RunIsLinked, IsRunOf, IsAttemptOf};
 ghost use Rattle.yp_mirror.specs.FullQueues.{SuspendsAtEighth, FreezesAfterFull, HasFull, HasEightFull};
 
@@ -26,7 +26,7 @@ pub fn a_journal_tells_its_story()
 /// What a journal makes for a receiver, with whatever answers of its queue, is a run of the receiver over the
 /// story of the journal. The laws below are said of such runs.
 pub fn what_a_journal_makes_is_a_run_of_its_story()
-    ensures { (c : Content) → IsLawful c → (journal : List Moment) (receiver : ℕ) (answers : List Answer) → AllMayFollow [] journal
+    ensures { (c : Content) → IsLawful c → (journal : List Moment) (receiver : ℕ) (answers : List Answer) → Leads c (story_of journal receiver) → AllMayFollow [] journal
         → IsRunOf c (story_of journal receiver) receiver (replay c (receiver ∷ []) first_run journal answers).run }
 {
     a_journal_tells_its_story();
@@ -36,7 +36,7 @@ pub fn what_a_journal_makes_is_a_run_of_its_story()
 /// What ties the tracks of a receiver to its attempts, and these to what the journal tells, is kept by every
 /// run of the receiver: the laws below rest on it.
 pub fn every_run_of_a_receiver_is_linked()
-    ensures { (c : Content) → IsLawful c → (story : Story) (receiver : ℕ) (journal : List Moment) → IsStory story receiver journal
+    ensures { (c : Content) → IsLawful c → (story : Story) → Leads c story → (receiver : ℕ) (journal : List Moment) → IsStory story receiver journal
         → (past : List Moment) (answers : List Answer) (run : Run) → Reaches c (receiver ∷ []) past answers run
         → (rest : List Moment) → past ++ rest ≡ journal → RunIsLinked c story receiver past run }
 {
@@ -70,6 +70,20 @@ pub fn positions_never_fall()
         → a.made.position ≤ b.made.position }
     ensures offered { (c : Content) (story : Story) (receiver : ℕ) (run : Run) → IsRunOf c story receiver run
         → (sub : ℕ) (before : List Attempt) (a : Attempt) → IsAttemptOf run sub before a → IsTakenUpdate a → a.made.position ≤ a.at }
+{
+    every_run_of_a_receiver_is_linked();
+}
+
+/// Each attempt tells of what was selected: a full update is all that was selected at the position where it
+/// was made, and edits are the record of what was selected at positions from the one from which they tell to
+/// the one where they were made, which isn't past the one where they are offered.
+pub fn every_attempt_tells_of_what_was_selected()
+    ensures made { (c : Content) (story : Story) (receiver : ℕ) (run : Run) → IsRunOf c story receiver run
+        → (sub : ℕ) (before : List Attempt) (a : Attempt) → IsAttemptOf run sub before a → IsMadeOf c story sub a.made }
+    ensures from { (c : Content) (story : Story) (receiver : ℕ) (run : Run) → IsRunOf c story receiver run
+        → (sub : ℕ) (before : List Attempt) (a : Attempt) → IsAttemptOf run sub before a → a.made.from ≤ a.made.position }
+    ensures offered { (c : Content) (story : Story) (receiver : ℕ) (run : Run) → IsRunOf c story receiver run
+        → (sub : ℕ) (before : List Attempt) (a : Attempt) → IsAttemptOf run sub before a → a.made.position ≤ a.at }
 {
     every_run_of_a_receiver_is_linked();
 }
@@ -143,8 +157,11 @@ pub fn full_answers_come_at_rising_stamps()
 
 /// What a receiver knows by the attempts of two short journals. After eight full answers in a row its copy has
 /// still no row, and all that is selected is awaited; once the subscription has gone on, the copy has the one
-/// row. And after the incomplete update of 257 new rows all that is selected is awaited, until it comes.
+/// row. And after the incomplete update of 257 new rows all that is selected is awaited, until it comes. The
+/// records of the content that they use lead, whatever the story.
+#[tactic(auto, using(crate::proofs::Examples::counting_leads))]
 pub fn what_a_receiver_knows_by_example()
+    ensures leads { (story : Story) → Leads counting story }
     ensures waits { told_by counting (attempts counting (0 ∷ []) full_queue (Took ∷ Full ∷ Full ∷ Full ∷ Full ∷ Full ∷ Full ∷ Full ∷ Full ∷ []))
         ≡ record { rows = []; last = Some 1; fulls = 8; last_full = Some 7; met_full = true; met_eight = true; awaits = true } }
     ensures goes_on { told_by counting (attempts counting (0 ∷ []) full_queue (Took ∷ Full ∷ Full ∷ Full ∷ Full ∷ Full ∷ Full ∷ Full ∷ Full ∷ Took ∷ Took ∷ Took ∷ []))
