@@ -258,6 +258,27 @@ impl Feed {
         }
     }
 
+    /// The id of its subscription.
+    pub fn sub(&self) -> u32
+        ensures { result ≡ self.now.sub }
+    {
+        self.sub
+    }
+
+    /// The number of its receiver.
+    pub fn receiver(&self) -> u32
+        ensures { result ≡ self.now.receiver }
+    {
+        self.receiver
+    }
+
+    /// When it sends. A periodic trigger has its anchor.
+    pub fn trigger(&self) -> &Trigger
+        ensures { result.now ≡ self.now.trigger }
+    {
+        &self.trigger
+    }
+
     /// Whether an item is owed.
     pub fn owes(&self) -> bool
         ensures { result ≡ owes self.now.owed }
