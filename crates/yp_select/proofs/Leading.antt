@@ -18,10 +18,10 @@ use Rattle.yp_select.specs.Selection.{only_matches, set_names, set_selects, ente
 use Rattle.yp_select.specs.Visits.{match_visits, inner_visits}
 use Rattle.yp_select.proofs.Ways.{one_more}
 
-take_more : (path : List Seg) (d : ℕ) (seg : Seg) → d < length path → seg ≡ get_or path d seg → take (d + 1) path ≡ take d path ++ seg ∷ []
+pub take_more : (path : List Seg) (d : ℕ) (seg : Seg) → d < length path → seg ≡ get_or path d seg → take (d + 1) path ≡ take d path ++ seg ∷ []
 take_more path d seg less is = ap (λ k. take k path) (one_more d) ∙ take-suc path d seg less ∙ ap (λ (s : Seg). take d path ++ s ∷ []) (sym is)
 
-drop_less : (path : List Seg) (d : ℕ) (seg : Seg) → d < length path → seg ≡ get_or path d seg → drop d path ≡ seg ∷ drop (d + 1) path
+pub drop_less : (path : List Seg) (d : ℕ) (seg : Seg) → d < length path → seg ≡ get_or path d seg → drop d path ≡ seg ∷ drop (d + 1) path
 drop_less path d seg less is = drop-cons path d seg less ∙ (λ i. sym is i ∷ drop (sym (one_more d) i) path)
 
 pub fits_within : (nodes : List SchemaNode) (node : Node) (path : List Seg) (d n : ℕ) (seg : Seg) (set : Nodes) → node ≡ within n set → d < length path → seg ≡ get_or path d seg → seg.node ≡ n
@@ -38,7 +38,7 @@ leads_within nodes rows node path d n seg set seen less is =
     ∙ ap (node_leads nodes rows (within n set) (take d path)) (drop_less path d seg less is)
     ∙ ap (λ (deeper : List Seg). (nat_eq seg.node n && enters nodes rows deeper n) && keeps nodes rows set deeper (drop (d + 1) path)) (sym (take_more path d seg less is))
 
-self_same : (n m : ℕ) → n ≡ m → nat_eq n m ≡ true
+pub self_same : (n m : ℕ) → n ≡ m → nat_eq n m ≡ true
 self_same n m same = grind (arith, same)
 
 pub leads_none : (nodes : List SchemaNode) (rows : List Row) (node : Node) (path : List Seg) (d n : ℕ) (seg : Seg) (set : Nodes) (entered : Bool) → node ≡ within n set → d < length path → seg ≡ get_or path d seg

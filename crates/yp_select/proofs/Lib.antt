@@ -2,6 +2,8 @@ pub mod Keys
 pub mod Ways
 pub mod Sets
 pub mod Leading
+pub mod Led
+pub mod OnWay
 pub mod Selecting
 pub mod Tops
 pub mod Those

@@ -3,6 +3,7 @@ pub mod SelectionLaws
 pub mod Matches
 pub mod Selection
 pub mod Visits
+pub mod Standing
 pub mod KeptLaws
 pub mod Reaches
 pub mod Places

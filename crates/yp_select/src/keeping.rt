@@ -49,7 +49,7 @@ fn node_holds<R: Readable, L: Ledger>(
 }
 
 /// Whether each match node of a set holds at an instance. It counts at most a visit for each.
-fn all_hold<R: Readable, L: Ledger>(
+pub(crate) fn all_hold<R: Readable, L: Ledger>(
     alloc: Global,
     visible: &Visible<R>,
     at: &[Seg],
@@ -81,7 +81,7 @@ fn is_match(node: &FilterNode) -> bool
 
 /// Whether a set has match nodes and nothing else.
 #[tactic(auto, using(crate::proofs::Sets::all_then))]
-fn only_matches(set: &[FilterNode]) -> bool
+pub(crate) fn only_matches(set: &[FilterNode]) -> bool
     ensures { result ≡ only_matches (nodes_of (map node_view set.now)) }
 {
     for node in set {
@@ -93,7 +93,7 @@ fn only_matches(set: &[FilterNode]) -> bool
 }
 
 /// Whether a set has a selection node of this child.
-fn set_selects(node: u32, set: &[FilterNode]) -> bool
+pub(crate) fn set_selects(node: u32, set: &[FilterNode]) -> bool
     ensures { result ≡ set_selects node (nodes_of (map node_view set.now)) }
 {
     for each in set {
@@ -136,7 +136,7 @@ fn node_names(schema: &Schema, segment: &Seg, node: &FilterNode) -> bool
 }
 
 /// Whether a segment is that of a row that a match node asks for.
-fn set_names(schema: &Schema, segment: &Seg, set: &[FilterNode]) -> bool
+pub(crate) fn set_names(schema: &Schema, segment: &Seg, set: &[FilterNode]) -> bool
     requires { segment.now.node < length schema.now }
     ensures { result ≡ set_names schema.now segment.now (nodes_of (map node_view set.now)) }
 {
@@ -162,7 +162,7 @@ fn keeps_here(schema: &Schema, segment: &Seg, is_last: bool, set: &[FilterNode])
 
 /// Whether a set can be processed at the instance at the first segments of a path, which is one of this
 /// node. It counts at most one visit.
-fn enters<R: Readable, L: Ledger>(
+pub(crate) fn enters<R: Readable, L: Ledger>(
     alloc: Global,
     visible: &Visible<R>,
     path: &Path,

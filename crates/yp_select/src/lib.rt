@@ -5,9 +5,9 @@
 //! read: what may not be read decides nothing (RFC 8641 section 3.9, RFC 8341 section 3.4.5).
 //!
 //! `keeping::kept` tells whether a filter keeps a path. `select::select_all` gives the selection and looks
-//! only where the filter can keep rows, and `select::select_below` what of it is at or below a path. Each
-//! counts the rows that it visits. `laws` says what follows: a selection of a datastore is a datastore, and
-//! nothing in it may not be read.
+//! only where the filter can keep rows, and `select::select_below` what of it is at or below a path. Both
+//! test each set of the filter once for each instance (`standing`). Each counts the rows that it visits.
+//! `laws` says what follows: a selection of a datastore is a datastore, and nothing in it may not be read.
 #![tactic(auto)]
 
 pub mod keeping;
@@ -16,4 +16,5 @@ mod matching;
 mod reached;
 mod reaches;
 pub mod select;
+mod standing;
 mod visible;

@@ -1,20 +1,21 @@
 //! The rows that a filter selects for a reader.
-ghost use Rattle.std.specs.Prelude.{◌≡◌, ◌+◌, ◌*◌, ◌≤◌, length, option_copied, true, IfOk, IfSome, OnOk, List, Bool};
+ghost use Rattle.std.specs.Prelude.{◌≡◌, ◌+◌, ◌*◌, ◌≤◌, length, option_copied, true, None, IfOk, IfSome, OnOk, List, Bool};
 ghost use Rattle.std.specs.List.{AllByRecursion};
 ghost use Rattle.yp_base.specs.declared.path.Seg.{Seg};
 ghost use Rattle.yp_base.specs.declared.row.Row.{Row};
 ghost use Rattle.yp_base.specs.RowLaws.{picked};
 ghost use Rattle.yp_base.specs.Rows.{rows_within, value_at};
 ghost use Rattle.yp_schema.specs.Datastore.{is_path_of, IsRowOf};
-ghost use Rattle.yp_filter.specs.Filters.{filter_size};
-ghost use Rattle.yp_filter.specs.Fits.{filter_fits};
-ghost use Rattle.yp_filter.specs.View.{filter_view};
+ghost use Rattle.yp_filter.specs.Filters.{filter_size, of_set, set_size};
+ghost use Rattle.yp_filter.specs.Fits.{filter_fits, set_fits};
+ghost use Rattle.yp_filter.specs.View.{filter_view, set_view};
 ghost use Rattle.yp_nacm.specs.Decision.{visible_rows};
 ghost use Rattle.yp_select.specs.Selection.{kept, selection};
 
 use crate::keeping::kept;
 use crate::reached::rows_reached;
 use crate::reaches::reaches_of;
+use crate::standing::Way;
 use crate::visible::Visible;
 use std::alloc::Global;
 use std::sync::ledger::Ledger;
@@ -23,7 +24,7 @@ use yp_base::path::{Path, is_prefix};
 use yp_base::row::{Rows, Value};
 use yp_base::series::Series;
 use yp_base::steps::Steps;
-use yp_filter::filter::Filter;
+use yp_filter::filter::{Filter, FilterSet};
 use yp_nacm::readable::Readable;
 use yp_schema::schema::Schema;
 use yp_tree::tree::Tree;
@@ -73,32 +74,26 @@ fn keep_readable<R: Readable>(
     Ok(Series::from_vec(seen))
 }
 
-/// Of these rows those that a filter keeps, among all that may be read. It counts at most a visit for each
-/// row and each node of the filter.
+/// Of these rows those that a filter's set keeps, among all that may be read. What stands on the way to a
+/// row is kept for the next one, as far as both ways are the same. It counts at most a visit for each row
+/// and each node of the set.
 #[tactic(auto, using(crate::proofs::Ways::row_down))]
 fn keep_kept<R: Readable, L: Ledger>(
     alloc: Global,
     visible: &Visible<R>,
-    filter: &Filter,
+    set: &FilterSet,
     rows: Rows,
     steps: &mut Steps<L>,
 ) -> Result<Rows, NoMemory>
     requires schema { AllByRecursion (IsRowOf visible.now.schema.now) rows }
-    requires fits { filter_fits visible.now.schema.now (filter_view filter.now) ≡ true }
-    ensures rows { IfOk result (λ seen. seen ≡ picked (kept visible.now.schema.now (filter_view filter.now) (visible_rows (R.may visible.now.readable.now visible.now.schema.now) visible.now.tree.now)) rows) }
-    ensures visits { OnOk result (steps.new ≤ steps.old + length rows * filter_size (filter_view filter.now)) }
+    requires fits { set_fits visible.now.schema.now None (set_view set.now) ≡ true }
+    ensures rows { IfOk result (λ seen. seen ≡ picked (kept visible.now.schema.now (of_set (set_view set.now)) (visible_rows (R.may visible.now.readable.now visible.now.schema.now) visible.now.tree.now)) rows) }
+    ensures visits { OnOk result (steps.new ≤ steps.old + length rows * set_size (set_view set.now)) }
 {
     let mut seen = Vec::new(alloc);
+    let mut way = Way::new(alloc);
     for row in rows.into_vec(alloc)? {
-        if kept(
-            alloc,
-            visible.schema,
-            filter,
-            visible.readable,
-            visible.tree,
-            &row.path,
-            steps,
-        )? {
+        if way.keeps(alloc, visible, set, &row.path, steps)? {
             seen.push(row)?;
         }
     }
@@ -122,7 +117,7 @@ fn keep_selected<R: Readable, L: Ledger>(
     let seen = keep_readable(alloc, visible.schema, visible.readable, rows)?;
     match filter {
         Filter::All => Ok(seen),
-        Filter::Set(_) => keep_kept(alloc, visible, filter, seen, steps),
+        Filter::Set(set) => keep_kept(alloc, visible, set, seen, steps),
     }
 }
 

@@ -1,10 +1,11 @@
-use Rattle.std.proofs.Common.{◌≤◌, List, length, sym, ap, subst, ◌∙◌}
+use Rattle.std.proofs.Common.{◌≡◌, ◌+◌, ◌*◌, ◌≤◌, List, length, sym, ap, subst, ◌∙◌}
+use Rattle.std.specs.Prelude.{OnOk}
 use Rattle.std.specs.List.{AllByRecursion}
 use Rattle.yp_base.specs.declared.row.Row.{Row}
 use Rattle.yp_base.specs.RowLaws.{picked}
 use Rattle.yp_schema.specs.Datastore.{IsRowOf}
-use Rattle.yp_filter.specs.Filters.{filter_size}
-use Rattle.yp_filter.specs.View.{filter_view}
+use Rattle.yp_filter.specs.Filters.{filter_size, set_size}
+use Rattle.yp_filter.specs.View.{filter_view, set_view}
 use Rattle.yp_nacm.specs.Decision.{visible_rows}
 use Rattle.yp_select.specs.Selection.{kept}
 use Rattle.yp_select.specs.SelectionLaws.{selection_of_schema}
@@ -28,5 +29,7 @@ returns-in-All-clause-rows g c =
 pub returns-in-Set-clause-visits : goal.returns-in-Set-clause-visits
 returns-in-Set-clause-visits g c =
     let may = g.R.Readable.may c.args.visible.now.readable.now c.args.visible.now.schema.now in
+    let size : set_size (set_view c.in-Set.set) ≡ filter_size (filter_view c.args.filter.now) = ap (λ filter. filter_size (filter_view filter)) (sym c.in-Set.is) in
     fewer_visits c.keep_kept.result c.keep_kept.new.steps c.args.steps.now (length c.in_ok-seen.seen) (length c.args.rows) (filter_size (filter_view c.args.filter.now))
-    (subst (λ (rows : List Row). length rows ≤ length c.args.rows) (sym c.in_ok-seen.ensures) (picked_few may c.args.rows)) c.keep_kept.ensures.visits
+    (subst (λ (rows : List Row). length rows ≤ length c.args.rows) (sym c.in_ok-seen.ensures) (picked_few may c.args.rows))
+    (subst (λ size. OnOk c.keep_kept.result (c.keep_kept.new.steps ≤ c.args.steps.now + length c.in_ok-seen.seen * size)) size c.keep_kept.ensures.visits)
