@@ -1,0 +1,5 @@
+pub mod Recording
+pub mod Telling
+pub mod Starting
+pub mod Leading
+pub mod Naming
