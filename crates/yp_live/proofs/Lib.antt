@@ -1,3 +1,4 @@
+pub mod ClassLaws
 pub mod Desks
 pub mod FeedLaws
 pub mod Held

@@ -26,10 +26,11 @@ use Rattle.yp_journal.specs.declared.receiver.ReceiverInfo.{ReceiverInfo}
 use Rattle.yp_journal.specs.History.{JournalState, user_of, first_state, next_state, reply_to, state_of, MayCome, MayFollow, IsLegal}
 use Rattle.yp_core.specs.declared.made.Made.{Made}
 use Rattle.yp_core.specs.States.{Fits}
-use Rattle.yp_core.specs.Updates.{Attempt, attempts_at, made_for, made_by}
+use Rattle.yp_core.specs.Updates.{Attempt, all_feeds, attempts_at, made_for, made_by}
 use Rattle.yp_live.specs.declared.run.Run.{Run}
 use Rattle.yp_live.specs.declared.selections.Selected.{Selected}
 use Rattle.yp_live.specs.declared.turns.Turn.{Turn}
+use Rattle.yp_live.specs.Classes.{AreClassesOf}
 use Rattle.yp_live.specs.Desks.{DeskState, bare_desk, told_each, sent}
 use Rattle.yp_live.specs.Journal.{turn_of}
 use Rattle.yp_live.specs.Readers.{rules_of_each, IsMoment}
@@ -81,10 +82,10 @@ pub run_on : (nodes : List SchemaNode) (start : ℕ) (receivers : List ReceiverI
     → ((receiver : ℕ) → made_by nodes receivers (before.entries.items ++ entry ∷ []) receiver
     ≡ made_by nodes receivers before.entries.items receiver ++ of_step nodes (state_of nodes (first_state receivers) before.entries.items) entry.command receiver)
     → after.state ≡ next_state nodes before.state turn.command → turn_of entry ≡ turn → after.entries.items ≡ before.entries.items ++ entry ∷ []
-    → after.readers ≡ rules_of_each after.state.policy receivers → AreSelected nodes after.state after.outbox.selections.items → IsFormer after.state.rows after.outbox.former
+    → after.readers ≡ rules_of_each after.state.policy receivers → AreClassesOf nodes after.readers (all_feeds after.state) after.outbox.classes → AreSelected nodes after.state after.outbox.selections.items → IsFormer after.state.rows after.outbox.former
     → after.outbox.desks.items ≡ sent nodes start (attempts_at nodes before.state after.state) before.outbox.desks.items
     → IsRun nodes start receivers after
-run_on nodes start receivers before after turn entry is fits further declared legal made state of_turn entries readers selections former desks =
+run_on nodes start receivers before after turn entry is fits further declared legal made state of_turn entries readers classes selections former desks =
     let first : JournalState = first_state receivers in
     let command : turn.command ≡ entry.command = ap (λ (t : Turn). t.command) (sym of_turn) in
     let found : JournalState = state_of nodes first before.entries.items in
@@ -96,6 +97,7 @@ run_on nodes start receivers before after turn entry is fits further declared le
       rules = readers;
       legal = subst (λ (es : List Entry). IsLegal nodes first es) (sym entries) legal;
       state = left ∙ ap (state_of nodes first) (sym entries);
+      classes = classes;
       selections = selections;
       former = former;
       desks =

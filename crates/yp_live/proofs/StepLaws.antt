@@ -2,17 +2,22 @@
 use Rattle.std.proofs.Common.{◌≡◌, ◌==◌, ℕ, ◌<◌, zero, suc, Bool, List, [], ◌∷◌, ◌++◌, length, true, refl, sym, ap, ◌∙◌, arith, Option, Some, None}
 use Rattle.std.specs.Prelude.{Result, Ok, Err, IfOk, OnOk}
 use Rattle.std.specs.List.{slice_get}
+use Rattle.yp_base.specs.declared.row.Row.{Row}
 use Rattle.yp_schema.specs.declared.schema.SchemaNode.{SchemaNode}
+use Rattle.yp_edit.specs.declared.patch.Patch.{Patch}
+use Rattle.yp_edit.specs.Patches.{RefusedEdit, applied}
 use Rattle.yp_registry.specs.declared.ask.Ask.{Ask}
 use Rattle.yp_registry.specs.declared.refused.Refused.{Refused}
+use Rattle.yp_registry.specs.Terms.{Terms}
 use Rattle.yp_registry.specs.Registry.{after_refusal, first_refusal, or_refused, reasons_against, terms_for}
 use Rattle.yp_nacm.specs.declared.compile.UserRules.{UserRules}
 use Rattle.yp_nacm.specs.declared.policy.Policy.{Policy}
 use Rattle.yp_nacm.specs.Own.{own_rules}
 use Rattle.yp_journal.specs.declared.receiver.ReceiverInfo.{ReceiverInfo}
-use Rattle.yp_journal.specs.declared.command.Command.TheVariants.{Establish}
+use Rattle.yp_journal.specs.declared.command.Command.{Command}
+use Rattle.yp_journal.specs.declared.command.Command.TheVariants.{Tick, Edit, Rules, Establish}
 use Rattle.yp_journal.specs.declared.reply.Reply.TheVariants.{Id}
-use Rattle.yp_journal.specs.History.{JournalState, rules_at, user_of, next_state, reply_to, reply_by, is_refusal}
+use Rattle.yp_journal.specs.History.{JournalState, rules_at, user_of, next_state, patch_reply, reply_to, reply_by, is_refusal}
 use Rattle.yp_live.specs.Readers.{rules_of_each}
 
 -- the rules of each receiver are those at its number
@@ -45,6 +50,30 @@ added nodes before by id ask replied =
       | Some refusal ↦ λ h. absurd cc
       | None ↦ λ h. refl
     ] replied
+
+-- a patch is replied no id
+no_id : (patch : Patch) (after : Result (List Row) RefusedEdit) (id : ℕ) → patch_reply patch after ≡ Id id → ⊥
+no_id patch (Ok rows) id replied = absurd cc
+no_id patch (Err refusal) id replied = absurd cc
+
+-- a command that is replied an id adds one subscription, as the last
+pub added_by : (nodes : List SchemaNode) (before : JournalState) (command : Command) (id : ℕ) → reply_to nodes before command ≡ Id id → (terms : Terms) × ((next_state nodes before command).registry.live ≡ before.registry.live ++ terms ∷ [])
+added_by nodes before (Tick tick) id replied = absurd cc
+added_by nodes before (Edit patch) id replied = absurd (no_id patch (applied nodes before.rows patch) id replied)
+added_by nodes before (Rules policy) id replied = absurd cc
+added_by nodes before (Establish by ask) id replied = (terms_for nodes before.registry by ask before.stamp, added nodes before by id ask replied)
+
+-- one that is replied no id leaves the subscriptions
+pub none_added : (nodes : List SchemaNode) (before : JournalState) (command : Command) → ((id : ℕ) → reply_to nodes before command ≡ Id id → ⊥) → (next_state nodes before command).registry.live ≡ before.registry.live
+none_added nodes before (Tick tick) other = refl
+none_added nodes before (Edit patch) other = refl
+none_added nodes before (Rules policy) other = refl
+none_added nodes before (Establish by ask) other =
+    let terms = terms_for nodes before.registry by ask before.stamp in
+    elim (first_refusal (reasons_against nodes before.policy before.registry by ask)) as (λ (found : Option Refused). ((id : ℕ) → reply_by (or_refused found terms.id) ≡ Id id → ⊥) → (after_refusal found before.registry terms).live ≡ before.registry.live) [
+      | Some refusal ↦ λ h. refl
+      | None ↦ λ h. absurd (h terms.id refl)
+    ] other
 
 -- a reply to an establish that gives no id is a refusal
 pub refused_reply : (nodes : List SchemaNode) (before : JournalState) (by : ℕ) (ask : Ask) → ((id : ℕ) → reply_to nodes before (Establish by ask) ≡ Id id → ⊥) → is_refusal (reply_to nodes before (Establish by ask)) ≡ true

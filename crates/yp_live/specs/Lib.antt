@@ -1,3 +1,4 @@
+pub mod Classes
 pub mod Desks
 pub mod Feeds
 pub mod Holdings

@@ -1,6 +1,5 @@
 -- What a patch changed of what filters select for users, as a run keeps it with its text, and the rows that the patch found.
-use Rattle.std.specs.Prelude.{◌≡◌, ℕ, List, [], Option, Some, None, IfSome}
-use Rattle.std.specs.List.{AllByRecursion}
+use Rattle.std.specs.Prelude.{◌≡◌, ℕ, List, [], ◌∷◌, Option, Some, None, IfSome}
 use Rattle.serde_json.specs.Written.{compact_text}
 use Rattle.yp_base.specs.declared.notice.Change.{Change}
 use Rattle.yp_base.specs.declared.row.Row.{Row}
@@ -14,8 +13,8 @@ use Rattle.yp_edit.specs.Changes.{changed_rows}
 use Rattle.yp_edit.specs.Records.{change_record}
 use Rattle.yp_encode.specs.Lines.{patch_data}
 use Rattle.yp_journal.specs.History.{JournalState, rules_at, may_read}
+use Rattle.yp_live.specs.declared.classes.Class.{Class}
 use Rattle.yp_live.specs.declared.records.Record.{Record}
-use Rattle.yp_live.specs.declared.records.Kept.{Kept}
 
 -- ---- records
 
@@ -28,13 +27,16 @@ abbrev pub IsTold : List SchemaNode → JournalState → List Change → Option 
 IsTold nodes state changes None = changes ≡ []
 IsTold nodes state changes (Some told) = (told.changes ≡ changes) × (told.text ≡ compact_text (patch_data nodes state.position told.changes))
 
--- a record that was made, where these rows were there before
-abbrev pub IsRecord : List SchemaNode → JournalState → List Row → Kept → Type 0
-IsRecord nodes state before kept = IsTold nodes state (record_from nodes state (filter_view kept.filter.now) kept.first before) kept.told
+-- the record of a class, where these rows were there before
+abbrev pub IsRecord : List SchemaNode → JournalState → List Row → Class → Option Record → Type 0
+IsRecord nodes state before class told = IsTold nodes state (record_from nodes state (filter_view class.filter) class.first before) told
 
--- records that were made
-abbrev pub AreRecords : List SchemaNode → JournalState → List Row → List Kept → Type 0
-AreRecords nodes state before records = AllByRecursion (IsRecord nodes state before) records
+-- the same of classes in order: there is one record, or none, for each
+abbrev pub AreRecords : List SchemaNode → JournalState → List Row → List Class → List (Option Record) → Type 0
+AreRecords nodes state before [] [] = Unit {0}
+AreRecords nodes state before [] (told ∷ records) = ⊥
+AreRecords nodes state before (class ∷ classes) [] = ⊥
+AreRecords nodes state before (class ∷ classes) (told ∷ records) = IsRecord nodes state before class told × AreRecords nodes state before classes records
 
 -- ---- the rows before
 

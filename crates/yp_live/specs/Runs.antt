@@ -12,8 +12,9 @@ use Rattle.yp_journal.specs.declared.state.Outcome.{Outcome}
 use Rattle.yp_journal.specs.History.{JournalState, first_state, next_state, reply_to, state_of, MayCome, IsLegal}
 use Rattle.yp_core.specs.Sending.{CanBeShown}
 use Rattle.yp_core.specs.States.{Fits}
-use Rattle.yp_core.specs.Updates.{made_by}
+use Rattle.yp_core.specs.Updates.{all_feeds, made_by}
 use Rattle.yp_live.specs.declared.run.Run.{Run}
+use Rattle.yp_live.specs.Classes.{AreClassesOf}
 use Rattle.yp_live.specs.Desks.{DeskState, bare_desk, told_each}
 use Rattle.yp_live.specs.Readers.{rules_of_each}
 use Rattle.yp_live.specs.Records.{IsFormer}
@@ -48,13 +49,14 @@ is_policy (Establish by ask) = false
 
 -- ---- runs
 
--- a run of these receivers so far: a legal journal, the state that it leaves, the own rules of each receiver's user there, selections at that state, a former tree of its rows where there is one, and each receiver after all that the journal makes for it
+-- a run of these receivers so far: a legal journal, the state that it leaves, the own rules of each receiver's user there, the classes of the feeds there, selections at that state, a former tree of its rows where there is one, and each receiver after all that the journal makes for it
 pub record IsRun (nodes : List SchemaNode) (start : ℕ) (receivers : List ReceiverInfo) (run : Run) : Type 0 where
   pub fits : Fits nodes run.state
   pub declared : run.state.receivers ≡ receivers
   pub rules : run.readers ≡ rules_of_each run.state.policy receivers
   pub legal : IsLegal nodes (first_state receivers) run.entries.items
   pub state : run.state ≡ state_of nodes (first_state receivers) run.entries.items
+  pub classes : AreClassesOf nodes run.readers (all_feeds run.state) run.outbox.classes
   pub selections : AreSelected nodes run.state run.outbox.selections.items
   pub former : IsFormer run.state.rows run.outbox.former
   pub desks : run.outbox.desks.items ≡ told_each nodes start (made_by nodes receivers run.entries.items) 0 (map bare_desk receivers)

@@ -7,10 +7,11 @@
 //! subscriptions, each for one of its receivers, and which of them have a full update; `updates` sends
 //! these, and `records` what a patch changed, for which `former` keeps the rows that it found. What a filter
 //! selects (`selections`) and what a patch changed of that is made once, with its text, for all users with
-//! the same rules (`readers`, RFC 8341). The `desk` of each receiver keeps the lines that it is sent, and what it holds by them (`holdings`); `text` puts the report
-//! together.
+//! the same rules (`readers`, RFC 8341): for all feeds of a class (`classes`). The `desk` of each receiver
+//! keeps the lines that it is sent, and what it holds by them (`holdings`); `text` puts the report together.
 #![tactic(auto)]
 
+mod classes;
 mod desk;
 mod feeds;
 mod former;

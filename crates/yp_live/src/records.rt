@@ -1,25 +1,27 @@
 //! What a patch changed for each receiver.
-ghost use Rattle.std.specs.Prelude.{◌≡◌, ◌<◌, List, length, map, true, IfOk, IfSome, OnOk};
-ghost use Rattle.std.specs.List.{AllByRecursion};
+ghost use Rattle.std.specs.Prelude.{◌≡◌, ◌<◌, List, length, map, true, Some, None, IfOk, OnOk};
+ghost use Rattle.std.specs.List.{AllByRecursion, flat_map, slice_get};
 ghost use Rattle.yp_base.specs.declared.notice.Change.{Change};
 ghost use Rattle.yp_base.specs.declared.row.Row.{Row};
-ghost use Rattle.yp_schema.specs.declared.schema.SchemaNode.{SchemaNode};
 ghost use Rattle.yp_schema.specs.Datastore.{IsDatastore};
 ghost use Rattle.yp_filter.specs.Filters.{all_rows};
 ghost use Rattle.yp_filter.specs.Fits.{filter_fits};
 ghost use Rattle.yp_filter.specs.View.{filter_view};
+ghost use Rattle.yp_edit.specs.declared.changed.ChangedRow.{ChangedRow as ChangedRowThere};
 ghost use Rattle.yp_edit.specs.Changes.{changed_rows};
 ghost use Rattle.yp_encode.specs.Sendable.{IsSendableChange};
 ghost use Rattle.yp_journal.specs.History.{JournalState};
 ghost use Rattle.yp_core.specs.Steps.{attempts_of_changes, changes_for};
-ghost use Rattle.yp_core.specs.Updates.{attempt_of, change_update};
+ghost use Rattle.yp_core.specs.Updates.{all_feeds, attempt_of, change_update};
+ghost use Rattle.yp_live.specs.Classes.{AreClasses, HasClass, HaveClasses, AreClassesOf};
 ghost use Rattle.yp_live.specs.Desks.{sent};
-ghost use Rattle.yp_live.specs.Feeds.{feed_of, IsFeedOf};
+ghost use Rattle.yp_live.specs.Feeds.{feed_of, feeds_in, IsFeedOf, AreFeedsOf};
 ghost use Rattle.yp_live.specs.Readers.{IsMoment};
 ghost use Rattle.yp_live.specs.Records.{record_from, IsTold, AreRecords, IsFormer, AreFound, IsPatchOf};
 
+use crate::classes::{Class, Classes};
 use crate::desk::Desk;
-use crate::feeds::{Feed, all_feeds, is_on_change};
+use crate::feeds::{Feed, all_feeds};
 use crate::former::rows_before;
 use crate::moment::Moment;
 use crate::outbox::Outbox;
@@ -32,7 +34,6 @@ use yp_base::txt::Txt;
 use yp_edit::changed::{Changed, ChangedRow};
 use yp_encode::contents::patch_text;
 use yp_filter::filter::Filter;
-use yp_filter::same::same_filter;
 use yp_select::laws::filtered_selection_is_a_datastore;
 use yp_touch::changes::{record_of, record_of_step};
 use yp_tree::tree::Tree;
@@ -42,28 +43,6 @@ use yp_tree::tree::Tree;
 pub struct Record {
     pub changes: Changes,
     pub text: Txt,
-}
-
-/// A record that was made, where anything changed, the filter that it is for, and the first receiver whose
-/// user has the rules under which it was made.
-#[derive(Drop)]
-pub struct Kept<'a> {
-    pub first: usize,
-    pub filter: &'a Filter,
-    pub told: Option<Record>,
-}
-
-/// The record that was made for a filter under the rules of a receiver's user, where one was.
-fn find<'a>(records: &'a [Kept], first: usize, filter: &Filter) -> Option<&'a Option<Record>>
-    ensures { IfSome result (λ told. (nodes : List SchemaNode) (state : JournalState) (before : List Row)
-        → AreRecords nodes state before records.now → IsTold nodes state (record_from nodes state (filter_view filter.now) first before) told.now) }
-{
-    for kept in records {
-        if kept.first == first && same_filter(kept.filter, filter) {
-            return Some(&kept.told);
-        }
-    }
-    None
 }
 
 /// What a patch changed of all that a receiver's user may read.
@@ -193,52 +172,101 @@ fn send(
     }
 }
 
-/// Sends the receiver of a feed on change what a patch changed of what the feed selects. The record is made
-/// once, and found again for each feed whose filter says the same, and whose user has the same rules.
-fn tell_change<'a, L: Ledger>(
+/// Makes the record of each class.
+fn make_each<L: Ledger>(
     alloc: Global,
     moment: &Moment,
     changed: &Changed,
-    feed: &Feed<'a>,
-    records: &mut Vec<Kept<'a>>,
-    outbox: &mut Outbox,
+    classes: &[Class],
+    former: &mut Option<Tree>,
     steps: &mut Steps<L>,
+) -> Result<Vec<Option<Record>>, NoMemory>
+    requires moment { IsMoment moment.now.schema.now moment.now.state.now moment.now.readers.now }
+    requires classes { AreClasses moment.now.schema.now (length moment.now.readers.now) classes.now }
+    requires found { (before : List Row) × AreFound moment.now.schema.now moment.now.state.now changed.now former.old before }
+    ensures records { IfOk result (λ records. (before : List Row) → AreFound moment.now.schema.now moment.now.state.now changed.now former.old before
+        → AreRecords moment.now.schema.now moment.now.state.now before classes.now records.items) }
+    ensures former { OnOk result ((before : List Row) → AreFound moment.now.schema.now moment.now.state.now changed.now former.old before → IsFormer before former.new) }
+{
+    let mut records = Vec::with_capacity(alloc, classes.len())?;
+    for class in classes {
+        let filter = &class.filter;
+        records.push(make(alloc, moment, changed, class.first, filter, former, steps)?)?;
+    }
+    Ok(records)
+}
+
+/// Whether none of the records tells anything.
+fn tell_nothing(records: &[Option<Record>]) -> bool
+    ensures { result ≡ true → AllByRecursion (λ told. told ≡ None) records.now }
+{
+    for told in records {
+        if told.is_some() {
+            return false;
+        }
+    }
+    true
+}
+
+/// The record of the class of this number.
+fn record_at(records: &[Option<Record>], number: usize) -> &Option<Record>
+    requires { number < length records.now }
+    ensures { slice_get records.now number ≡ Some result.now }
+{
+    &records[number]
+}
+
+/// Sends the receiver of a feed the record of the feed's class, where it is one on change.
+fn tell_feed(
+    alloc: Global,
+    moment: &Moment,
+    feed: &Feed,
+    number: Option<usize>,
+    records: &[Option<Record>],
+    desks: &mut Vec<Desk>,
 ) -> Result<(), NoMemory>
     requires moment { IsMoment moment.now.schema.now moment.now.state.now moment.now.readers.now }
     requires feed { IsFeedOf moment.now.schema.now (length moment.now.readers.now) (feed_of feed.now) }
-    requires found { (before : List Row) × AreFound moment.now.schema.now moment.now.state.now changed.now outbox.old.former before × AreRecords moment.now.schema.now moment.now.state.now before records.old.items }
-    requires desks { length outbox.old.desks.items ≡ length moment.now.readers.now }
-    ensures records { OnOk result ((before : List Row) → AreFound moment.now.schema.now moment.now.state.now changed.now outbox.old.former before
-        → AreRecords moment.now.schema.now moment.now.state.now before records.old.items → AreRecords moment.now.schema.now moment.now.state.now before records.new.items) }
-    ensures former { OnOk result ((before : List Row) → AreFound moment.now.schema.now moment.now.state.now changed.now outbox.old.former before → IsFormer before outbox.new.former) }
-    ensures selections { outbox.new.selections ≡ outbox.old.selections }
-    ensures desks { OnOk result ((before : JournalState) → IsPatchOf moment.now.schema.now before moment.now.state.now changed.now
-        → IsFormer before.rows outbox.old.former → AreRecords moment.now.schema.now moment.now.state.now before.rows records.old.items
-        → outbox.new.desks.items ≡ sent moment.now.schema.now moment.now.start.now (changes_for moment.now.schema.now before moment.now.state.now (feed_of feed.now)) outbox.old.desks.items) }
+    requires told { (before : List Row) × (classes : List Class) × AreRecords moment.now.schema.now moment.now.state.now before classes records.now × HasClass moment.now.readers.now classes (feed_of feed.now) number }
+    requires desks { length desks.old.items ≡ length moment.now.readers.now }
+    ensures { OnOk result ((before : JournalState) (those : List ChangedRowThere) (classes : List Class) → IsPatchOf moment.now.schema.now before moment.now.state.now those
+        → AreRecords moment.now.schema.now moment.now.state.now before.rows classes records.now → HasClass moment.now.readers.now classes (feed_of feed.now) number
+        → desks.new.items ≡ sent moment.now.schema.now moment.now.start.now (changes_for moment.now.schema.now before moment.now.state.now (feed_of feed.now)) desks.old.items) }
 {
-    if !is_on_change(feed.terms.trigger()) {
-        return Ok(());
+    match number {
+        Some(number) => send(alloc, moment, feed, record_at(records, number), desks),
+        None => Ok(()),
     }
-    let number = feed.receiver as usize;
-    let first = moment.readers.first(number);
-    let filter = feed.terms.filter();
-    if let Some(told) = find(records.as_slice(), first, filter) {
-        return send(alloc, moment, feed, told, &mut outbox.desks);
+}
+
+/// Sends the receivers of feeds, in order, the records of the feeds' classes, which have these numbers.
+fn tell_feeds(
+    alloc: Global,
+    moment: &Moment,
+    feeds: &[Feed],
+    numbers: &[Option<usize>],
+    records: &[Option<Record>],
+    desks: &mut Vec<Desk>,
+) -> Result<(), NoMemory>
+    requires moment { IsMoment moment.now.schema.now moment.now.state.now moment.now.readers.now }
+    requires feeds { AreFeedsOf moment.now.schema.now (length moment.now.readers.now) (feeds_in feeds.now) }
+    requires told { (before : JournalState) × (those : List ChangedRowThere) × (classes : List Class) × IsPatchOf moment.now.schema.now before moment.now.state.now those
+        × AreRecords moment.now.schema.now moment.now.state.now before.rows classes records.now × HaveClasses moment.now.readers.now classes (feeds_in feeds.now) numbers.now }
+    requires desks { length desks.old.items ≡ length moment.now.readers.now }
+    ensures { OnOk result ((before : JournalState) (those : List ChangedRowThere) (classes : List Class) → IsPatchOf moment.now.schema.now before moment.now.state.now those
+        → AreRecords moment.now.schema.now moment.now.state.now before.rows classes records.now → HaveClasses moment.now.readers.now classes (feeds_in feeds.now) numbers.now
+        → desks.new.items ≡ sent moment.now.schema.now moment.now.start.now (flat_map (changes_for moment.now.schema.now before moment.now.state.now) (feeds_in feeds.now)) desks.old.items) }
+{
+    for pair in feeds.iter().zip(numbers) {
+        tell_feed(alloc, moment, pair.0, *pair.1, records, desks)?;
     }
-    let former = &mut outbox.former;
-    let told = make(alloc, moment, changed, first, filter, former, steps)?;
-    send(alloc, moment, feed, &told, &mut outbox.desks)?;
-    records.push(Kept {
-        first,
-        filter,
-        told,
-    })?;
     Ok(())
 }
 
 /// Sends the receiver of each feed on change what a patch changed of what the feed selects, from the rows
-/// that it changed. Each record is made once for all feeds whose filters say the same and whose users have
-/// the same rules. The rows that the patch found are kept from the first feed with a filter on.
+/// that it changed. Each record is made once for all feeds of a class, and where no record tells anything
+/// the feeds are not gone over. The rows that the patch found are kept from the first class with a filter
+/// on.
 pub fn tell_patch<L: Ledger>(
     alloc: Global,
     moment: &Moment,
@@ -248,17 +276,30 @@ pub fn tell_patch<L: Ledger>(
 ) -> Result<(), NoMemory>
     requires moment { IsMoment moment.now.schema.now moment.now.state.now moment.now.readers.now }
     requires patch { (before : JournalState) × IsPatchOf moment.now.schema.now before moment.now.state.now changed.now × IsFormer before.rows outbox.old.former }
+    requires classes { AreClassesOf moment.now.schema.now moment.now.readers.now (all_feeds moment.now.state.now) outbox.old.classes }
     requires desks { length outbox.old.desks.items ≡ length moment.now.readers.now }
+    ensures classes { outbox.new.classes ≡ outbox.old.classes }
     ensures selections { outbox.new.selections ≡ outbox.old.selections }
     ensures former { OnOk result ((before : JournalState) → IsPatchOf moment.now.schema.now before moment.now.state.now changed.now
         → IsFormer before.rows outbox.old.former → IsFormer before.rows outbox.new.former) }
     ensures desks { OnOk result ((before : JournalState) → IsPatchOf moment.now.schema.now before moment.now.state.now changed.now → IsFormer before.rows outbox.old.former
         → outbox.new.desks.items ≡ sent moment.now.schema.now moment.now.start.now (attempts_of_changes moment.now.schema.now before moment.now.state.now) outbox.old.desks.items) }
 {
-    let mut records = Vec::new(alloc);
-    let feeds = all_feeds(alloc, moment.state)?;
-    for feed in feeds.as_slice() {
-        tell_change(alloc, moment, changed, feed, &mut records, outbox, steps)?;
+    let Classes { classes, numbers } = &outbox.classes;
+    let former = &mut outbox.former;
+    let records = make_each(alloc, moment, changed, classes.as_slice(), former, steps)?;
+    let records = records.as_slice();
+    if tell_nothing(records) {
+        return Ok(());
     }
-    Ok(())
+    let feeds = all_feeds(alloc, moment.state)?;
+    let desks = &mut outbox.desks;
+    tell_feeds(
+        alloc,
+        moment,
+        feeds.as_slice(),
+        numbers.as_slice(),
+        records,
+        desks,
+    )
 }

@@ -6,6 +6,7 @@ ghost use Rattle.yp_live.specs.Journal.{turn_of};
 ghost use Rattle.yp_live.specs.Runs.{IsRun};
 ghost use Rattle.yp_live.specs.Turns.{MayTake};
 
+use crate::classes::Classes;
 use crate::desk::Desk;
 use crate::outbox::Outbox;
 use crate::readers::Readers;
@@ -102,6 +103,7 @@ fn opening(alloc: Global, setting: &Setting) -> Result<Run, NoMemory>
         readers,
         entries: Vec::new(alloc),
         outbox: Outbox {
+            classes: Classes::new(alloc),
             selections: Vec::new(alloc),
             former: None,
             desks: bare_desks(alloc, setting.receivers)?,

@@ -1,10 +1,12 @@
 //! What a step makes for receivers.
-ghost use Rattle.std.specs.Prelude.{◌≡◌, ◌≤◌, length, map, true, IfOk, OnOk};
+ghost use Rattle.std.specs.Prelude.{◌≡◌, ◌≤◌, List, length, map, true, IfOk, OnOk};
 ghost use Rattle.yp_schema.specs.Datastore.{IsDatastore};
 ghost use Rattle.yp_time.specs.Ticks.{tick_limit};
+ghost use Rattle.yp_journal.specs.declared.receiver.ReceiverInfo.{ReceiverInfo as ReceiverInfoThere};
 ghost use Rattle.yp_journal.specs.History.{JournalState};
 ghost use Rattle.yp_core.specs.Steps.{attempts_of_changes, attempts_of_renewal, full_attempt};
-ghost use Rattle.yp_core.specs.Updates.{attempts_at};
+ghost use Rattle.yp_core.specs.Updates.{all_feeds, attempts_at};
+ghost use Rattle.yp_live.specs.Classes.{AreClassesOf};
 ghost use Rattle.yp_live.specs.Desks.{sent};
 ghost use Rattle.yp_live.specs.Feeds.{feeds_in, AreFeedsOf};
 ghost use Rattle.yp_live.specs.Readers.{rules_of_each, IsMoment};
@@ -12,6 +14,7 @@ ghost use Rattle.yp_live.specs.Records.{IsFormer, IsPatchOf};
 ghost use Rattle.yp_live.specs.Runs.{is_quiet, IsStep};
 ghost use Rattle.yp_live.specs.Selections.{AreSelected};
 
+use crate::classes::Classes;
 use crate::feeds::{Feed, due_feeds, first_feeds, renewed_feeds};
 use crate::former::follow_patch;
 use crate::moment::Moment;
@@ -44,6 +47,7 @@ pub struct Step<'a> {
 fn forget(alloc: Global, moment: &Moment, changed: &Changed, outbox: &mut Outbox)
     requires datastore { IsDatastore moment.now.schema.now moment.now.state.now.rows }
     requires patch { (before : JournalState) × IsPatchOf moment.now.schema.now before moment.now.state.now changed.now × AreSelected moment.now.schema.now before outbox.old.selections.items }
+    ensures classes { outbox.new.classes ≡ outbox.old.classes }
     ensures selections { AreSelected moment.now.schema.now moment.now.state.now outbox.new.selections.items }
     ensures former { outbox.new.former ≡ outbox.old.former }
     ensures desks { outbox.new.desks ≡ outbox.old.desks }
@@ -66,7 +70,9 @@ fn tell_edit<L: Ledger>(
 ) -> Result<(), NoMemory>
     requires moment { IsMoment moment.now.schema.now moment.now.state.now moment.now.readers.now }
     requires patch { (before : JournalState) × IsPatchOf moment.now.schema.now before moment.now.state.now changed.now × AreSelected moment.now.schema.now before outbox.old.selections.items × IsFormer before.rows outbox.old.former }
+    requires classes { AreClassesOf moment.now.schema.now moment.now.readers.now (all_feeds moment.now.state.now) outbox.old.classes }
     requires desks { length outbox.old.desks.items ≡ length moment.now.readers.now }
+    ensures classes { outbox.new.classes ≡ outbox.old.classes }
     ensures selections { OnOk result (AreSelected moment.now.schema.now moment.now.state.now outbox.new.selections.items) }
     ensures former { OnOk result (IsFormer moment.now.state.now.rows outbox.new.former) }
     ensures desks { OnOk result ((before : JournalState) → IsPatchOf moment.now.schema.now before moment.now.state.now changed.now → IsFormer before.rows outbox.old.former
@@ -78,7 +84,7 @@ fn tell_edit<L: Ledger>(
 }
 
 /// Sends what another policy makes; from now on users may read what it gives them. What was selected by the
-/// old one is let go.
+/// old one is let go, and the classes of the feeds are made anew.
 fn tell_rules<L: Ledger>(
     alloc: Global,
     setting: &Setting,
@@ -93,6 +99,7 @@ fn tell_rules<L: Ledger>(
     ensures state { run.new.state ≡ run.old.state }
     ensures entries { run.new.entries ≡ run.old.entries }
     ensures readers { OnOk result (run.new.readers ≡ rules_of_each run.old.state.policy setting.now.receivers.now) }
+    ensures classes { OnOk result (AreClassesOf setting.now.schema.now run.new.readers (all_feeds run.old.state) run.new.outbox.classes) }
     ensures selections { OnOk result (AreSelected setting.now.schema.now run.old.state run.new.outbox.selections.items) }
     ensures former { run.new.outbox.former ≡ run.old.outbox.former }
     ensures desks { OnOk result ((before : JournalState) → run.old.readers ≡ rules_of_each before.policy before.receivers
@@ -106,6 +113,7 @@ fn tell_rules<L: Ledger>(
         readers: &readers,
     };
     run.outbox.selections = Vec::new(alloc);
+    run.outbox.classes = Classes::of(alloc, &moment)?;
     let feeds = renewed_feeds(alloc, &moment, &run.readers)?;
     tell_fulls(alloc, &moment, feeds.as_slice(), &mut run.outbox, steps)?;
     drop(feeds);
@@ -141,6 +149,23 @@ fn feeds_to_tell<'a>(
     }
 }
 
+/// Adds the class of a new feed, where a command made one.
+fn push_new(
+    alloc: Global,
+    moment: &Moment,
+    step: &Step,
+    classes: &mut Classes,
+) -> Result<(), NoMemory>
+    requires { IsMoment moment.now.schema.now moment.now.state.now moment.now.readers.now }
+    ensures { OnOk result ((receivers : List ReceiverInfoThere) (before : JournalState) → IsStep moment.now.schema.now receivers moment.now.readers.now before step.now.command.now step.now.outcome.now moment.now.state.now
+        → AreClassesOf moment.now.schema.now moment.now.readers.now (all_feeds before) classes.old → AreClassesOf moment.now.schema.now moment.now.readers.now (all_feeds moment.now.state.now) classes.new) }
+{
+    match &step.outcome.reply {
+        Reply::Id(_) => classes.push_last(alloc, moment),
+        _ => Ok(()),
+    }
+}
+
 /// Sends what a step makes for receivers, where the step left the run's state.
 pub fn tell_step<L: Ledger>(
     alloc: Global,
@@ -149,12 +174,13 @@ pub fn tell_step<L: Ledger>(
     run: &mut Run,
     steps: &mut Steps<L>,
 ) -> Result<(), NoMemory>
-    requires step { (before : JournalState) × IsStep setting.now.schema.now setting.now.receivers.now run.old.readers before step.now.command.now step.now.outcome.now run.old.state × AreSelected setting.now.schema.now before run.old.outbox.selections.items × IsFormer before.rows run.old.outbox.former × (step.now.before ≡ before.stamp) }
+    requires step { (before : JournalState) × IsStep setting.now.schema.now setting.now.receivers.now run.old.readers before step.now.command.now step.now.outcome.now run.old.state × AreSelected setting.now.schema.now before run.old.outbox.selections.items × IsFormer before.rows run.old.outbox.former × (step.now.before ≡ before.stamp) × AreClassesOf setting.now.schema.now run.old.readers (all_feeds before) run.old.outbox.classes }
     requires before { step.now.before ≤ tick_limit }
     requires desks { length run.old.outbox.desks.items ≡ length setting.now.receivers.now }
     ensures state { run.new.state ≡ run.old.state }
     ensures entries { run.new.entries ≡ run.old.entries }
     ensures readers { OnOk result (run.new.readers ≡ rules_of_each run.old.state.policy setting.now.receivers.now) }
+    ensures classes { OnOk result (AreClassesOf setting.now.schema.now run.new.readers (all_feeds run.old.state) run.new.outbox.classes) }
     ensures selections { OnOk result (AreSelected setting.now.schema.now run.old.state run.new.outbox.selections.items) }
     ensures former { OnOk result (IsFormer run.old.state.rows run.new.outbox.former) }
     ensures desks { OnOk result ((before : JournalState) → IsStep setting.now.schema.now setting.now.receivers.now run.old.readers before step.now.command.now step.now.outcome.now run.old.state → step.now.before ≡ before.stamp
@@ -175,6 +201,7 @@ pub fn tell_step<L: Ledger>(
         let changed = &step.outcome.changed;
         return tell_edit(alloc, &moment, changed, &mut run.outbox, steps);
     }
+    push_new(alloc, &moment, step, &mut run.outbox.classes)?;
     let feeds = feeds_to_tell(alloc, &moment, step)?;
     tell_fulls(alloc, &moment, feeds.as_slice(), &mut run.outbox, steps)
 }

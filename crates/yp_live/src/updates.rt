@@ -28,6 +28,7 @@ fn tell_full<L: Ledger>(
     requires selections { AreSelected moment.now.schema.now moment.now.state.now outbox.old.selections.items }
     requires desks { length outbox.old.desks.items ≡ length moment.now.readers.now }
     ensures selections { OnOk result (AreSelected moment.now.schema.now moment.now.state.now outbox.new.selections.items) }
+    ensures classes { outbox.new.classes ≡ outbox.old.classes }
     ensures former { outbox.new.former ≡ outbox.old.former }
     ensures desks { OnOk result (outbox.new.desks.items ≡ sent moment.now.schema.now moment.now.start.now (full_attempt moment.now.schema.now moment.now.state.now (feed_of feed.now) ∷ []) outbox.old.desks.items) }
 {
@@ -57,6 +58,7 @@ pub fn tell_fulls<L: Ledger>(
     requires selections { AreSelected moment.now.schema.now moment.now.state.now outbox.old.selections.items }
     requires desks { length outbox.old.desks.items ≡ length moment.now.readers.now }
     ensures selections { OnOk result (AreSelected moment.now.schema.now moment.now.state.now outbox.new.selections.items) }
+    ensures classes { outbox.new.classes ≡ outbox.old.classes }
     ensures former { outbox.new.former ≡ outbox.old.former }
     ensures desks { OnOk result (outbox.new.desks.items ≡ sent moment.now.schema.now moment.now.start.now (map (full_attempt moment.now.schema.now moment.now.state.now) (feeds_in feeds.now)) outbox.old.desks.items) }
 {

@@ -1,82 +1,75 @@
-use Rattle.std.proofs.Common.{◌≡◌, ◌+◌, List, drop, length, refl, ap, sym, subst, ◌∙◌}
+use Rattle.std.proofs.Common.{List, length, ap, sym, subst, ◌∙◌}
 use Rattle.std.specs.List.{flat_map}
 use Rattle.yp_journal.specs.History.{JournalState}
 use Rattle.yp_core.specs.Steps.{changes_for}
-use Rattle.yp_core.specs.Updates.{Feed, all_feeds}
-use Rattle.yp_live.specs.declared.records.Kept.{Kept}
-use Rattle.yp_live.specs.Desks.{DeskState, sent}
-use Rattle.yp_live.specs.Feeds.{feed_of, feeds_in, AreFeedsOf}
-use Rattle.yp_live.specs.Records.{AreRecords}
-use Rattle.yp_live.proofs.Desks.{sent_joined, sent_length, sent_none}
-use Rattle.yp_live.proofs.FeedLaws.{feeds_left, none_left, of_moment}
+use Rattle.yp_core.specs.Updates.{Attempt, Feed, all_feeds}
+use Rattle.yp_live.specs.declared.classes.Class.{Class}
+use Rattle.yp_live.specs.Classes.{AreClasses}
+use Rattle.yp_live.specs.Desks.{sent}
+use Rattle.yp_live.specs.Feeds.{feeds_in, AreFeedsOf}
+use Rattle.yp_live.proofs.ClassLaws.{classes_in, nothing_told, records_in}
+use Rattle.yp_live.proofs.Desks.{sent_none}
+use Rattle.yp_live.proofs.FeedLaws.{of_moment}
 use Rattle.yp_live.proofs.RunLaws.{found_by}
+use Rattle.yp_live.proofs.StepLaws.{when_ok}
 use Rattle.yp_live.proofs.records.tell_patch.Goals as goal
 
-pub tell_change-requires-clause-feed : goal.tell_change-requires-clause-feed
-tell_change-requires-clause-feed g c =
-    let moment = c.args.moment.now in
-    (subst (AreFeedsOf moment.schema.now (length moment.readers.now)) (feeds_left c.loop-feed.feed-index _ c.feed-item.result c.loop-feed-test.true c.feed-item.is) c.loop-feed.invariant.feeds).0
+pub make_each-requires-clause-found : goal.make_each-requires-clause-found
+make_each-requires-clause-found g c =
+    let before : JournalState = c.requires.patch.0 in
+    (before.rows, found_by _ before c.args.moment.now.state.now c.args.changed.now c.args.outbox.now.former c.requires.patch.1 c.requires.patch.2)
 
-pub tell_change-requires-clause-found : goal.tell_change-requires-clause-found
-tell_change-requires-clause-found g c =
+pub make_each-requires-clause-classes : goal.make_each-requires-clause-classes
+make_each-requires-clause-classes g c =
+    let moment = c.args.moment.now in
+    subst (AreClasses moment.schema.now (length moment.readers.now)) (sym c.as_slice.ensures.value) c.requires.classes.fit
+
+pub returns-then-tell_nothing-clause-desks : goal.returns-then-tell_nothing-clause-desks
+returns-then-tell_nothing-clause-desks g c = λ before patch old.
+    let moment = c.args.moment.now in
+    let nodes = moment.schema.now in
+    let start = moment.start.now in
+    let state : JournalState = moment.state.now in
+    let classes : List Class = c.args.outbox.now.classes.classes.items in
+    let desks = c.args.outbox.now.desks.items in
+    let kept = records_in nodes state before.rows _ classes _ _ c.as_slice.ensures.value (sym c.as_slice-records.ensures.value) (c.in_ok-records.ensures.records before.rows (found_by nodes before state c.args.changed.now c.args.outbox.now.former patch old)) in
+    sym (sent_none nodes start desks)
+    ∙ ap (λ (attempts : List Attempt). sent nodes start attempts desks)
+    (sym (nothing_told nodes moment.readers.now before state c.args.changed.now c.requires.moment.rules patch classes c.as_slice-records.result.now (all_feeds state) c.args.outbox.now.classes.numbers.items (c.tell_nothing.ensures c.if-tell_nothing.true) kept
+    (of_moment nodes state moment.readers.now c.requires.moment) c.requires.classes.each))
+
+pub tell_feeds-requires-clause-feeds : goal.tell_feeds-requires-clause-feeds
+tell_feeds-requires-clause-feeds g c =
+    let moment = c.args.moment.now in
+    let all = ap feeds_in c.as_slice-2.ensures.value ∙ c.in_ok-feeds.ensures in
+    subst (AreFeedsOf moment.schema.now (length moment.readers.now)) (sym all) (of_moment moment.schema.now moment.state.now moment.readers.now c.requires.moment)
+
+pub tell_feeds-requires-clause-told : goal.tell_feeds-requires-clause-told
+tell_feeds-requires-clause-told g c =
+    let moment = c.args.moment.now in
+    let nodes = moment.schema.now in
+    let state : JournalState = moment.state.now in
     let before : JournalState = c.requires.patch.0 in
     let patch = c.requires.patch.1 in
-    let old = c.requires.patch.2 in
-    (before.rows, found_by _ before c.args.moment.now.state.now c.args.changed.now c.loop-feed.outbox.former patch (c.loop-feed.invariant.former before patch old), c.loop-feed.invariant.records before patch old)
-
-pub loop-feed-init : goal.loop-feed-init
-loop-feed-init g c =
-    let moment = c.args.moment.now in
-    let nodes = moment.schema.now in
-    let start = moment.start.now in
-    let state : JournalState = moment.state.now in
-    let all : feeds_in c.as_slice-feed-items.result.now ≡ all_feeds state = ap feeds_in c.as_slice-feed-items.ensures.value ∙ c.in_ok-feeds.ensures in
-    record {
-      count = c.requires.desks;
-      feeds = subst (AreFeedsOf nodes (length moment.readers.now)) (sym all) (of_moment nodes state moment.readers.now c.requires.moment);
-      records = λ before patch old. subst (λ (records : List Kept). AreRecords nodes state before.rows records) (sym c.new-records.ensures.items) tt;
-      former = λ before patch old. old;
-      selections = refl;
-      sent = λ before patch old. ap (λ (feeds : List Feed). sent nodes start (flat_map (changes_for nodes before state) feeds) c.args.outbox.now.desks.items) all;
-    }
-
-pub loop-feed-preserved : goal.loop-feed-preserved
-loop-feed-preserved g c =
-    let moment = c.args.moment.now in
-    let nodes = moment.schema.now in
-    let start = moment.start.now in
-    let state : JournalState = moment.state.now in
-    let feed = feed_of c.feed-item.result in
-    let was = c.loop-feed.outbox.desks.items in
-    let feeds = c.as_slice-feed-items.result.now in
-    let rest = feeds_in (drop (c.loop-feed.feed-index + 1) feeds) in
-    let left = feeds_left c.loop-feed.feed-index feeds c.feed-item.result c.loop-feed-test.true c.feed-item.is in
-    let is = c.loop-feed.invariant in
-    let here = c.requires.patch in
-    let told = c.in_ok-tell_change.ensures in
-    record {
-      count =
-          ap (λ (desks : List DeskState). length desks) (told.desks here.0 here.1 (is.former here.0 here.1 here.2) (is.records here.0 here.1 here.2))
-          ∙ sent_length nodes start (changes_for nodes here.0 state feed) was
-          ∙ is.count;
-      feeds = (subst (AreFeedsOf nodes (length moment.readers.now)) left is.feeds).1;
-      records = λ before patch old. told.records before.rows (found_by nodes before state c.args.changed.now c.loop-feed.outbox.former patch (is.former before patch old)) (is.records before patch old);
-      former = λ before patch old. told.former before.rows (found_by nodes before state c.args.changed.now c.loop-feed.outbox.former patch (is.former before patch old));
-      selections = c.tell_change.ensures.selections ∙ is.selections;
-      sent = λ before patch old.
-          ap (sent nodes start (flat_map (changes_for nodes before state) rest)) (told.desks before patch (is.former before patch old) (is.records before patch old))
-          ∙ sym (sent_joined nodes start (changes_for nodes before state feed) (flat_map (changes_for nodes before state) rest) was)
-          ∙ ap (λ (those : List Feed). sent nodes start (flat_map (changes_for nodes before state) those) was) (sym left)
-          ∙ is.sent before patch old;
-    }
+    let classes : List Class = c.args.outbox.now.classes.classes.items in
+    let all = ap feeds_in c.as_slice-2.ensures.value ∙ c.in_ok-feeds.ensures in (
+      before,
+      c.args.changed.now,
+      classes,
+      patch,
+      records_in nodes state before.rows _ classes _ _ c.as_slice.ensures.value (sym c.as_slice-records.ensures.value) (c.in_ok-records.ensures.records before.rows (found_by nodes before state c.args.changed.now c.args.outbox.now.former patch c.requires.patch.2)),
+      classes_in moment.readers.now classes _ _ _ _ (sym all) (sym c.as_slice-3.ensures.value) c.requires.classes.each,
+    )
 
 pub returns-clause-desks : goal.returns-clause-desks
-returns-clause-desks g c = λ before patch old.
+returns-clause-desks g c = when_ok c.tell_feeds.result c.tell_feeds.ensures (λ told. λ before patch old.
     let moment = c.args.moment.now in
     let nodes = moment.schema.now in
     let start = moment.start.now in
     let state : JournalState = moment.state.now in
-    let desks = c.loop-feed.outbox.desks.items in
-    sym (sent_none nodes start desks)
-    ∙ ap (λ (feeds : List Feed). sent nodes start (flat_map (changes_for nodes before state) feeds) desks) (sym (none_left c.loop-feed.feed-index c.as_slice-feed-items.result.now c.loop-feed-test.false))
-    ∙ c.loop-feed.invariant.sent before patch old
+    let classes : List Class = c.args.outbox.now.classes.classes.items in
+    let all = ap feeds_in c.as_slice-2.ensures.value ∙ c.in_ok-feeds.ensures in
+    told before c.args.changed.now classes patch
+    (records_in nodes state before.rows _ classes _ _ c.as_slice.ensures.value (sym c.as_slice-records.ensures.value) (c.in_ok-records.ensures.records before.rows (found_by nodes before state c.args.changed.now c.args.outbox.now.former patch old)))
+    (classes_in moment.readers.now classes _ _ _ _ (sym all) (sym c.as_slice-3.ensures.value) c.requires.classes.each)
+    ∙ ap (λ (feeds : List Feed). sent nodes start (flat_map (changes_for nodes before state) feeds) c.args.outbox.now.desks.items) all)

@@ -9,6 +9,7 @@ use Rattle.yp_live.specs.declared.selections.Selected.{Selected}
 use Rattle.yp_live.specs.Desks.{bare_desk, told_each}
 use Rattle.yp_live.specs.Readers.{rules_of_each}
 use Rattle.yp_live.specs.Selections.{AreSelected}
+use Rattle.yp_live.proofs.ClassLaws.{none_kept, still_classes}
 use Rattle.yp_live.proofs.Desks.{each_none}
 use Rattle.yp_live.proofs.run.opening.Goals as goal
 
@@ -25,7 +26,8 @@ returns-clause-run c =
       rules = c.in_ok-readers.ensures ∙ ap (λ (policy : Policy). rules_of_each policy receivers) c.policy.ensures.policy ∙ ap (λ (s : JournalState). rules_of_each s.policy receivers) (sym c.state.view_is);
       legal = subst (λ (es : List Entry). IsLegal nodes (first_state receivers) es) (sym c.new-2.ensures.items) tt;
       state = state ∙ ap (state_of nodes (first_state receivers)) (sym c.new-2.ensures.items);
-      selections = subst (λ (kept : List Selected). AreSelected nodes (the_view c.state.inside) kept) (sym c.new-3.ensures.items) tt;
+      classes = still_classes nodes c.in_ok-readers.readers (first_state receivers) (the_view c.state.inside) c.new-3.result (ap (λ (s : JournalState). s.registry.live) state) (none_kept nodes c.in_ok-readers.readers c.new-3.result c.new-3.ensures.classes c.new-3.ensures.numbers);
+      selections = subst (λ (kept : List Selected). AreSelected nodes (the_view c.state.inside) kept) (sym c.new-4.ensures.items) tt;
       former = tt;
       desks =
           c.in_ok-bare_desks.ensures

@@ -2,8 +2,9 @@ use Rattle.std.proofs.Common.{◌≡◌, ◌∷◌, ◌++◌, [], List, refl, sy
 use Rattle.yp_journal.specs.declared.entry.Entry.{Entry}
 use Rattle.yp_journal.specs.declared.receiver.ReceiverInfo.{ReceiverInfo}
 use Rattle.yp_journal.specs.History.{JournalState, first_state, MayCome}
-use Rattle.yp_core.specs.Updates.{attempts_at}
+use Rattle.yp_core.specs.Updates.{all_feeds, attempts_at}
 use Rattle.yp_live.specs.declared.run.Run.{Run}
+use Rattle.yp_live.specs.Classes.{AreClassesOf}
 use Rattle.yp_live.specs.Desks.{sent}
 use Rattle.yp_live.specs.Readers.{rules_of_each}
 use Rattle.yp_live.specs.Records.{IsFormer}
@@ -20,6 +21,7 @@ tell_step-requires-clause-step g c =
       c.requires.run.selections,
       c.requires.run.former,
       c.stamp-before.ensures.value,
+      c.requires.run.classes,
     )
 
 pub tell_step-requires-clause-desks : goal.tell_step-requires-clause-desks
@@ -52,6 +54,7 @@ returns-clause-run g c =
     (λ receiver. c.what_a_journal_makes_goes_on.ensures.more nodes receivers run.entries.items entry receiver)
     (stays ∙ c.in_ok-outcome.ensures.state) refl entries
     (c.in_ok-tell_step.ensures.readers ∙ ap (λ (s : JournalState). rules_of_each s.policy receivers) (sym stays))
+    (subst (λ (s : JournalState). AreClassesOf nodes told.readers (all_feeds s) told.outbox.classes) (sym stays) c.in_ok-tell_step.ensures.classes)
     (subst (λ (s : JournalState). AreSelected nodes s told.outbox.selections.items) (sym stays) c.in_ok-tell_step.ensures.selections)
     (subst (λ (s : JournalState). IsFormer s.rows told.outbox.former) (sym stays) c.in_ok-tell_step.ensures.former)
     (c.in_ok-tell_step.ensures.desks run.state step c.stamp-before.ensures.value is.former ∙ ap (λ (s : JournalState). sent nodes start (attempts_at nodes run.state s) run.outbox.desks.items) (sym stays))

@@ -3,13 +3,16 @@ use Rattle.yp_journal.specs.declared.command.Command.{Command}
 use Rattle.yp_journal.specs.History.{JournalState, next_state}
 use Rattle.yp_journal.specs.declared.receiver.ReceiverInfo.{ReceiverInfo}
 use Rattle.yp_core.specs.Steps.{attempts_of_changes, attempts_of_renewal, full_attempt}
-use Rattle.yp_core.specs.Updates.{Attempt, attempts_at}
+use Rattle.yp_core.specs.Updates.{Attempt, all_feeds, attempts_at}
+use Rattle.yp_live.specs.declared.classes.Classes.{Classes}
+use Rattle.yp_live.specs.Classes.{AreClassesOf}
 use Rattle.yp_live.specs.Desks.{sent}
 use Rattle.yp_live.specs.Readers.{rules_of_each}
 use Rattle.yp_live.specs.declared.feeds.Feed.{Feed}
 use Rattle.yp_live.specs.Feeds.{feeds_in, AreFeedsOf}
 use Rattle.yp_live.specs.Runs.{is_policy, is_quiet, IsStep}
 use Rattle.yp_live.specs.Selections.{AreSelected}
+use Rattle.yp_live.proofs.ClassLaws.{still_classes}
 use Rattle.yp_live.proofs.RunLaws.{selected_still, same_former, declared_after, former_after, fits_after, moment_after, rules_after, made_after, count_of_rules, patch_of, quiet_else, quiet_policy}
 use Rattle.yp_live.proofs.StepLaws.{when_ok}
 use Rattle.yp_live.proofs.steps.tell_step.Goals as goal
@@ -72,6 +75,7 @@ tell_edit-requires g c =
     record {
       moment = moment_after nodes receivers run.readers before command outcome run.state step (fits_after nodes receivers run.readers before command outcome run.state step (c.a_journal_keeps_its_state.ensures.command nodes)) run.readers (rules_after nodes receivers run.readers before command outcome run.state step other);
       patch = (before, patch_of nodes receivers run.readers before command outcome run.state step other outcome.changed refl, c.requires.step.2, c.requires.step.3);
+      classes = still_classes nodes run.readers before run.state run.outbox.classes (ap (λ (s : JournalState). s.registry.live) (step.state ∙ ap (next_state nodes before) c.in-Edit.is)) c.requires.step.5;
       desks = c.requires.desks ∙ sym (count_of_rules nodes receivers run.readers before command outcome run.state step);
     }
 
@@ -88,6 +92,10 @@ returns-in-Edit g c =
       state = refl;
       entries = refl;
       readers = when_ok c.tell_edit.result c.tell_edit.ensures.selections (λ kept. rules_after nodes receivers run.readers c.requires.step.0 command outcome run.state c.requires.step.1 other);
+      classes = when_ok c.tell_edit.result c.tell_edit.ensures.selections (λ kept.
+          let before : JournalState = c.requires.step.0 in
+          subst (λ (classes : Classes). AreClassesOf nodes run.readers (all_feeds run.state) classes) (sym c.tell_edit.ensures.classes)
+          (still_classes nodes run.readers before run.state run.outbox.classes (ap (λ (s : JournalState). s.registry.live) (c.requires.step.1.state ∙ ap (next_state nodes before) c.in-Edit.is)) c.requires.step.5));
       selections = c.tell_edit.ensures.selections;
       former = c.tell_edit.ensures.former;
       desks = when_ok c.tell_edit.result c.tell_edit.ensures.desks (λ told. λ before step same former.
@@ -130,6 +138,9 @@ returns g c =
       state = refl;
       entries = refl;
       readers = when_ok c.tell_fulls.result c.tell_fulls.ensures.selections (λ kept. rules_after nodes receivers run.readers c.requires.step.0 command outcome run.state c.requires.step.1 other);
+      classes = when_ok c.tell_fulls.result c.tell_fulls.ensures.selections (λ kept.
+          subst (λ (classes : Classes). AreClassesOf nodes run.readers (all_feeds run.state) classes) (sym c.tell_fulls.ensures.classes)
+          (c.in_ok-push_new.ensures receivers c.requires.step.0 c.requires.step.1 c.requires.step.5));
       selections = c.tell_fulls.ensures.selections;
       former = when_ok c.tell_fulls.result c.tell_fulls.ensures.selections (λ kept. former_after nodes receivers run.readers c.requires.step.0 command outcome run.state c.requires.step.1 quiet run.outbox.former c.tell_fulls.new.outbox.former c.tell_fulls.ensures.former c.requires.step.3);
       desks = when_ok c.tell_fulls.result c.tell_fulls.ensures.desks (λ told. λ before step same former.

@@ -26,6 +26,7 @@ loop-feed-preserved g c =
       count = ap length c.in_ok-tell_full.ensures.desks ∙ sent_length nodes start (make feed ∷ []) before ∙ c.loop-feed.invariant.count;
       feeds = (subst (AreFeedsOf nodes (length moment.readers.now)) left c.loop-feed.invariant.feeds).1;
       selections = c.in_ok-tell_full.ensures.selections;
+      classes = c.tell_full.ensures.classes ∙ c.loop-feed.invariant.classes;
       former = c.tell_full.ensures.former ∙ c.loop-feed.invariant.former;
       sent =
           ap (sent nodes start (map make rest)) c.in_ok-tell_full.ensures.desks
