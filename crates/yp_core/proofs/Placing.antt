@@ -7,7 +7,7 @@ use Rattle.yp_base.specs.declared.notice.Notice.TheVariants.{Full}
 use Rattle.yp_schema.specs.declared.schema.SchemaNode.{SchemaNode}
 use Rattle.yp_journal.specs.declared.entry.Entry.{Entry}
 use Rattle.yp_journal.specs.declared.receiver.ReceiverInfo.{ReceiverInfo}
-use Rattle.yp_journal.specs.History.{JournalState, first_state, next_state, state_of, MayFollow, IsLegal, state_at}
+use Rattle.yp_journal.specs.History.{JournalState, first_state, next_state, state_of, IsLegal, state_at}
 use Rattle.yp_journal.specs.JournalLaws.{entries_more, position_of}
 use Rattle.yp_core.specs.declared.made.Made.{Made}
 use Rattle.yp_core.specs.Updates.{Attempt, Feed, all_feeds, attempts_at, attempts_for, attempts_from, attempts_of, feed_at, full_update, made_for, made_by, updates_of, want}
@@ -15,11 +15,6 @@ use Rattle.yp_core.specs.AttemptLaws.{made_joined, made_mine, made_of}
 use Rattle.yp_core.proofs.Each.{all_joined, all_weaker, every}
 use Rattle.yp_core.proofs.Everywhere.{Holds, each_step}
 use Rattle.yp_core.proofs.Feeds.{found_id, is_feed}
-
--- it may follow those before it
-pub legal_at : (nodes : List SchemaNode) (state : JournalState) (before : List Entry) (entry : Entry) (after : List Entry) → IsLegal nodes state (before ++ entry ∷ after) → MayFollow nodes (state_of nodes state before) entry
-legal_at nodes state [] entry after legal = legal.0
-legal_at nodes state (first ∷ before) entry after legal = legal_at nodes (next_state nodes state first.command) before entry after legal.1
 
 attempts_split : (nodes : List SchemaNode) (state : JournalState) (before after : List Entry) → attempts_from nodes state (before ++ after) ≡ attempts_from nodes state before ++ attempts_from nodes (state_of nodes state before) after
 attempts_split nodes state [] after = refl

@@ -10,6 +10,7 @@ use Rattle.yp_journal.specs.declared.command.Command.TheVariants.{Tick, Edit, Ru
 use Rattle.yp_journal.specs.declared.entry.Entry.{Entry}
 use Rattle.yp_journal.specs.declared.receiver.ReceiverInfo.{ReceiverInfo}
 use Rattle.yp_journal.specs.History.{JournalState, first_state, next_state, state_of, rules_at, MayFollow, IsLegal, state_at}
+use Rattle.yp_journal.specs.JournalLaws.{legal_at}
 use Rattle.yp_core.specs.Renewed.{Renews, StaysSilent}
 use Rattle.yp_core.specs.States.{Fits}
 use Rattle.yp_core.specs.Steps.{full_attempt}
@@ -18,7 +19,7 @@ use Rattle.yp_core.proofs.Each.{all_found}
 use Rattle.yp_core.proofs.Everywhere.{each_mine}
 use Rattle.yp_core.proofs.Feeds.{found_receiver, is_feed, same_number, were_given}
 use Rattle.yp_core.proofs.Fitting.{StatesFit, fits_all}
-use Rattle.yp_core.proofs.Placing.{after_entry, at_entry, before_entry, full_among, legal_at, legal_front}
+use Rattle.yp_core.proofs.Placing.{after_entry, at_entry, before_entry, full_among, legal_front}
 use Rattle.yp_core.proofs.Steps.{policy_makes}
 
 -- ---- full updates

@@ -15,6 +15,7 @@ use Rattle.yp_journal.specs.declared.entry.Entry.{Entry}
 use Rattle.yp_journal.specs.declared.receiver.ReceiverInfo.{ReceiverInfo}
 use Rattle.yp_journal.specs.declared.reply.Reply.TheVariants.{Id}
 use Rattle.yp_journal.specs.History.{JournalState, first_state, next_state, state_of, reply_to, MayFollow, IsLegal}
+use Rattle.yp_journal.specs.JournalLaws.{legal_at}
 use Rattle.yp_core.specs.declared.made.Made.{Made}
 use Rattle.yp_core.specs.Received.{Opens}
 use Rattle.yp_core.specs.Served.{Serves}
@@ -23,7 +24,7 @@ use Rattle.yp_core.specs.Updates.{Attempt, Feed, attempt_of, attempts_at, first_
 use Rattle.yp_core.proofs.Concealing.{conceals}
 use Rattle.yp_core.proofs.Fitting.{StatesFit, fits_all}
 use Rattle.yp_core.proofs.Mirror.{mirrors, never_fall}
-use Rattle.yp_core.proofs.Placing.{IsAmong, legal_at, legal_front, made_among, next_place}
+use Rattle.yp_core.proofs.Placing.{IsAmong, legal_front, made_among, next_place}
 use Rattle.yp_core.proofs.Renewing.{renews, stays_silent}
 use Rattle.yp_core.proofs.Steps.{establish_makes}
 use Rattle.yp_core.proofs.Timing.{tells_where_due, only_where_due}

@@ -12,6 +12,7 @@ use Rattle.yp_registry.specs.Terms.{Terms, AreTermsOf, IsFollowed}
 use Rattle.yp_journal.specs.declared.entry.Entry.{Entry}
 use Rattle.yp_journal.specs.declared.receiver.ReceiverInfo.{ReceiverInfo}
 use Rattle.yp_journal.specs.History.{JournalState, first_state, next_state, state_of, rules_at, MayFollow, IsLegal, state_at}
+use Rattle.yp_journal.specs.JournalLaws.{legal_at}
 use Rattle.yp_core.specs.declared.made.Made.{Made}
 use Rattle.yp_core.specs.Received.{updates}
 use Rattle.yp_core.specs.States.{Fits}
@@ -23,7 +24,7 @@ use Rattle.yp_core.proofs.Everywhere.{Holds, each_mine, each_step}
 use Rattle.yp_core.proofs.Feeds.{all_apart, each_found, each_terms, found_receiver, is_feed, IsFound}
 use Rattle.yp_core.proofs.Fitting.{StatesFit, fits_all}
 use Rattle.yp_core.proofs.Own.{Tells, updates_own}
-use Rattle.yp_core.proofs.Placing.{after_entry, at_entry, before_entry, full_among, legal_at, legal_front}
+use Rattle.yp_core.proofs.Placing.{after_entry, at_entry, before_entry, full_among, legal_front}
 
 -- the trigger of a feed that is there can be followed
 followed : (nodes : List SchemaNode) (state : JournalState) (id receiver : ℕ) (feed : Feed) → Fits nodes state → feed_at id receiver state ≡ Some feed → IsFollowed feed.terms.trigger

@@ -1,5 +1,5 @@
 -- What follows of journals: of one more entry, of refusals, and of the rows that commands leave.
-use Rattle.std.proofs.Common.{◌≡◌, ℕ, ◌+◌, List, [], ◌∷◌, ◌++◌, length, true, false, true≢false, Option, Some, None, Result, Ok, Err, ◌≢◌, refl, sym, ◌∙◌, arith}
+use Rattle.std.proofs.Common.{◌≡◌, ℕ, ◌+◌, List, [], ◌∷◌, ◌++◌, length, true, true≢false, Option, Some, None, Result, Ok, Err, ◌≢◌, refl, sym, ◌∙◌, arith}
 use Rattle.yp_base.specs.declared.row.Row.{Row}
 use Rattle.yp_base.specs.RowLaws.{none_order}
 use Rattle.yp_schema.specs.declared.schema.SchemaNode.{SchemaNode}
@@ -45,6 +45,11 @@ entries_more nodes state (first ∷ entries) entry = entries_more nodes (next_st
 pub legal_more : (nodes : List SchemaNode) (state : JournalState) (entries : List Entry) (entry : Entry) → IsLegal nodes state entries → MayFollow nodes (state_of nodes state entries) entry → IsLegal nodes state (entries ++ entry ∷ [])
 legal_more nodes state [] entry legal follows = (follows, tt)
 legal_more nodes state (first ∷ entries) entry legal follows = (legal.0, legal_more nodes (next_state nodes state first.command) entries entry legal.1 follows)
+
+-- each entry of a legal journal may follow those before it
+pub legal_at : (nodes : List SchemaNode) (state : JournalState) (before : List Entry) (entry : Entry) (after : List Entry) → IsLegal nodes state (before ++ entry ∷ after) → MayFollow nodes (state_of nodes state before) entry
+legal_at nodes state [] entry after legal = legal.0
+legal_at nodes state (first ∷ before) entry after legal = legal_at nodes (next_state nodes state first.command) before entry after legal.1
 
 -- each command is one position further
 next_position : (nodes : List SchemaNode) (state : JournalState) (command : Command) → (next_state nodes state command).position ≡ state.position + 1

@@ -1,6 +1,7 @@
 -- The entries of a legal journal may come one after another: stamps don't fall, and no id is given twice. So a subscription starts with the trigger that was asked for.
 use Rattle.std.proofs.Common.{◌≡◌, ℕ, ◌==◌, ◌<◌, ◌≤◌, refl, sym, ap, subst, ◌∙◌, Bool, true, false, List, [], ◌∷◌, ◌++◌, Option, Some, Result, Ok, Err, arith}
 use Rattle.std.specs.Prelude.{if◌then◌else◌}
+use Rattle.std.specs.List.{list_any}
 use Rattle.yp_base.specs.declared.notice.Trigger.{Trigger}
 use Rattle.yp_base.specs.declared.notice.Trigger.TheVariants.{Periodic, OnChange}
 use Rattle.yp_schema.specs.declared.schema.SchemaNode.{SchemaNode}
@@ -18,6 +19,7 @@ use Rattle.yp_journal.specs.declared.receiver.ReceiverInfo.{ReceiverInfo}
 use Rattle.yp_journal.specs.declared.reply.Reply.{Reply}
 use Rattle.yp_journal.specs.declared.reply.Reply.TheVariants.{Id}
 use Rattle.yp_journal.specs.History.{JournalState, first_state, reply_by, after_establish, next_state, reply_to, state_of, MayFollow as EntryMayFollow, IsLegal}
+use Rattle.yp_journal.specs.JournalLaws.{legal_at}
 use Rattle.yp_attempt.specs.Moments.{Moment, Act, Quiet, Starts, Controls, Drops, last_stamp, starts_sub, was_started, IsUnused, MayFollow, AllMayFollow}
 use Rattle.yp_mirror.specs.Stories.{StartsAs, IsStory, Story, story_of}
 use Rattle.yp_moment.specs.Entries.{starts_with, given_by, act_of, moment_of, moments_from, moments_of}
@@ -173,30 +175,44 @@ given_ok : (answer : Result ℕ Refused) (id : ℕ) → Id id ≡ reply_by answe
 given_ok (Ok other) id e = let same : other ≡ id = cc in ap (λ (n : ℕ). Ok n) same
 given_ok (Err refusal) id e = let no_way : ⊥ = cc in absurd no_way
 
--- each entry of a legal journal may follow those before it
-legal_at : (nodes : List SchemaNode) (state : JournalState) (before : List Entry) (entry : Entry) (after : List Entry) → IsLegal nodes state (before ++ entry ∷ after) → EntryMayFollow nodes (state_of nodes state before) entry
-legal_at nodes state [] entry after legal = legal.0
-legal_at nodes state (first ∷ before) entry after legal = legal_at nodes (next_state nodes state first.command) before entry after legal.1
-
 module _ (laws : IdsAreNew) (nodes : List SchemaNode) where
   ids_all : (state : JournalState) (entries : List Entry) → HasRisingIds state.registry → HasRisingIds (state_of nodes state entries).registry
   ids_all state [] ids = ids
   ids_all state (entry ∷ entries) ids = ids_all (next_state nodes state entry.command) entries (ids_kept laws nodes state entry.command ids)
 
+  -- an ask that is given an id starts the subscription of this id: with the trigger that was asked for, for the receiver that asked
+  act_asked : (state : JournalState) (command : Command) (reply : Reply) (by id : ℕ) (ask : Ask) → HasRisingIds state.registry → command ≡ Establish by ask → reply ≡ Id id → reply ≡ reply_to nodes state command
+      → act_of command reply (next_state nodes state command) ≡ Starts id (with_anchor state.stamp ask.trigger) false (λ receiver. list_any (λ other. other == receiver) (by ∷ []))
+  act_asked state command reply by id ask ids asked given is =
+      let answer : Result ℕ Refused = establish_answer nodes state.policy state.registry by ask state.stamp in
+      let ok : answer ≡ Ok id = given_ok answer id (sym given ∙ is ∙ ap (reply_to nodes state) asked) in
+      let next = laws.next nodes state.policy state.registry by ask state.stamp id ok in
+      (λ i. act_of (asked i) (given i) (next_state nodes state (asked i)))
+      ∙ ap starts_with (laws.found nodes state.policy state.registry by ask state.stamp id ids ok)
+      ∙ (λ i. Starts (sym next.0 i) (with_anchor state.stamp ask.trigger) false (λ receiver. list_any (λ other. other == receiver) (by ∷ [])))
+
   -- what starts by the reply to an ask goes by the trigger that was asked for
   starts_asked : (story : Story) (state : JournalState) (command : Command) (reply : Reply) (by id : ℕ) (ask : Ask) → HasRisingIds state.registry → command ≡ Establish by ask → reply ≡ Id id → reply ≡ reply_to nodes state command
       → StartsAs story (act_of command reply (next_state nodes state command)) → GoesBy story id ask.trigger
   starts_asked story state command reply by id ask ids asked given is starts =
-      let answer : Result ℕ Refused = establish_answer nodes state.policy state.registry by ask state.stamp in
-      let ok : answer ≡ Ok id = given_ok answer id (sym given ∙ is ∙ ap (reply_to nodes state) asked) in
-      let new : Terms = terms_for nodes state.registry by ask state.stamp in
-      let next = laws.next nodes state.policy state.registry by ask state.stamp id ok in
-      let act : act_of command reply (next_state nodes state command) ≡ starts_with (Some new) =
-      (λ i. act_of (asked i) (given i) (next_state nodes state (asked i))) ∙ ap starts_with (laws.found nodes state.policy state.registry by ask state.stamp id ids ok) in
-      let goes : GoesBy story (next_id state.registry.given) (with_anchor state.stamp ask.trigger) = subst (StartsAs story) act starts in (
-        ap story.mirrored next.0 ∙ goes.0 ∙ anchored_mirrored state.stamp ask.trigger,
-        ap story.resyncing next.0 ∙ goes.1 ∙ anchored_resyncs state.stamp ask.trigger,
+      let goes : GoesBy story id (with_anchor state.stamp ask.trigger) = subst (StartsAs story) (act_asked state command reply by id ask ids asked given is) starts in (
+        goes.0 ∙ anchored_mirrored state.stamp ask.trigger,
+        goes.1 ∙ anchored_resyncs state.stamp ask.trigger,
       )
+
+  -- each establishment of a legal journal that is given an id starts its subscription
+  pub starts_it : (receivers : List ReceiverInfo) (entries : List Entry) → IsLegal nodes (first_state receivers) entries
+      → (before : List Entry) (entry : Entry) (after : List Entry) (by id : ℕ) (ask : Ask) → entries ≡ before ++ entry ∷ after → entry.command ≡ Establish by ask → entry.reply ≡ Id id
+      → (moment_of nodes (state_of nodes (first_state receivers) before) entry).act ≡ Starts id (with_anchor (state_of nodes (first_state receivers) before).stamp ask.trigger) false (λ receiver. list_any (λ other. other == receiver) (by ∷ []))
+  starts_it receivers entries legal before entry after by id ask is asked given =
+      let first : JournalState = first_state receivers in
+      let may : EntryMayFollow nodes (state_of nodes first before) entry = legal_at nodes first before entry after (subst (λ (es : List Entry). IsLegal nodes first es) is legal) in
+      act_asked (state_of nodes first before) entry.command entry.reply by id ask (ids_all first before (ids_rise laws nodes receivers)) asked given may.reply
+
+  -- each moment has the stamp of its entry
+  pub stamped : (receivers : List ReceiverInfo) (entries : List Entry) → IsLegal nodes (first_state receivers) entries
+      → (before : List Entry) (entry : Entry) (after : List Entry) → entries ≡ before ++ entry ∷ after → (moment_of nodes (state_of nodes (first_state receivers) before) entry).stamp ≡ entry.stamp
+  stamped receivers entries legal before entry after is = sym (legal_at nodes (first_state receivers) before entry after (subst (λ (es : List Entry). IsLegal nodes (first_state receivers) es) is legal)).stamp
 
   -- a journal tells of each subscription that it goes by the trigger that was asked for
   pub goes_by : ((journal : List Moment) (receiver : ℕ) → AllMayFollow [] journal → IsStory (story_of journal receiver) receiver journal)

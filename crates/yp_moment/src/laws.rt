@@ -1,9 +1,11 @@
 //! Laws of what legal journals make for receivers; nothing runs.
-ghost use Rattle.std.specs.Prelude.{◌≡◌, ℕ, ◌+◌, ◌≤◌, ◌++◌, not, List, [], ◌∷◌, length};
+ghost use Rattle.std.specs.Prelude.{◌≡◌, ℕ, ◌+◌, ◌≤◌, ◌==◌, ◌++◌, not, false, List, [], ◌∷◌, length};
+ghost use Rattle.std.specs.List.{list_any};
 ghost use Rattle.yp_schema.specs.declared.schema.SchemaNode.{SchemaNode};
 ghost use Rattle.yp_schema.specs.WellFormed.{IsSchema};
 ghost use Rattle.yp_nacm.specs.Same.{are_same_rules};
 ghost use Rattle.yp_registry.specs.declared.ask.Ask.{Ask};
+ghost use Rattle.yp_registry.specs.Terms.{with_anchor};
 ghost use Rattle.yp_journal.specs.declared.command.Command.TheVariants.{Establish};
 ghost use Rattle.yp_journal.specs.declared.entry.Entry.{Entry};
 ghost use Rattle.yp_journal.specs.declared.receiver.ReceiverInfo.{ReceiverInfo};
@@ -12,7 +14,7 @@ ghost use Rattle.yp_journal.specs.History.{first_state, state_of, state_at, rule
 ghost use Rattle.yp_feed.specs.Machine.{is_mirrored, resyncs};
 ghost use Rattle.yp_attempt.specs.Attempts.{replay};
 ghost use Rattle.yp_attempt.specs.Content.{IsLawful};
-ghost use Rattle.yp_attempt.specs.Moments.{AllMayFollow};
+ghost use Rattle.yp_attempt.specs.Moments.{Starts, AllMayFollow};
 ghost use Rattle.yp_attempt.specs.Runs.{first_run};
 ghost use Rattle.yp_attempt.specs.Tracks.{Answer, Attempt};
 ghost use Rattle.yp_mirror.specs.Links.{IsRunOf, IsAttemptOf};
@@ -74,6 +76,26 @@ pub fn a_legal_journal_tells_what_is_selected()
         → (story_of (moments_of nodes receivers entries) receiver).resyncing id ≡ resyncs ask.trigger }
 {
     a_journal_tells_its_story();
+    an_establishment_adds_one_subscription();
+    an_id_is_given_once();
+    ids_rise();
+}
+
+/// An establishment that is given an id starts the subscription of this id: with the trigger that was asked
+/// for, a periodic one with its anchor, for the receiver that asked and no other, and not as a configured
+/// one. And each moment has the stamp of its entry.
+pub fn an_establishment_starts_its_subscription()
+    ensures starts { (nodes : List SchemaNode) (receivers : List ReceiverInfo) (entries : List Entry)
+        → IsSchema nodes → IsLegal nodes (first_state receivers) entries
+        → (before : List Entry) (entry : Entry) (after : List Entry) (by id : ℕ) (ask : Ask) → entries ≡ before ++ entry ∷ after
+        → entry.command ≡ Establish by ask → entry.reply ≡ Id id
+        → (moment_of nodes (state_of nodes (first_state receivers) before) entry).act
+        ≡ Starts id (with_anchor (state_of nodes (first_state receivers) before).stamp ask.trigger) false (λ receiver. list_any (λ other. other == receiver) (by ∷ [])) }
+    ensures stamp { (nodes : List SchemaNode) (receivers : List ReceiverInfo) (entries : List Entry)
+        → IsSchema nodes → IsLegal nodes (first_state receivers) entries
+        → (before : List Entry) (entry : Entry) (after : List Entry) → entries ≡ before ++ entry ∷ after
+        → (moment_of nodes (state_of nodes (first_state receivers) before) entry).stamp ≡ entry.stamp }
+{
     an_establishment_adds_one_subscription();
     an_id_is_given_once();
     ids_rise();
