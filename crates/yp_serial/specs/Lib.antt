@@ -1,0 +1,4 @@
+pub mod Weights
+pub mod DueTicks
+pub mod Posts
+pub mod Serial
