@@ -1,0 +1,13 @@
+pub mod Numbers
+pub mod Results
+pub mod Standing
+pub mod Looks
+pub mod Going
+pub mod Entering
+pub mod Placing
+pub mod Offering
+pub mod Entered
+pub mod Begun
+pub mod Taking
+pub mod Journals
+pub mod Sound

@@ -1,0 +1,13 @@
+use Rattle.yp_roster.proofs.Placing.{turn_slot, turns}
+use Rattle.yp_roster.proofs.Results.{when_is_ok}
+use Rattle.yp_roster.proofs.roster.look_at.Goals as goal
+
+pub look-requires-clause-slot : goal.look-requires-clause-slot
+look-requires-clause-slot g c =
+    let present = c.args.present.now in
+    turn_slot present.schema.now present.state.now c.requires.looked.0 c.args.place c.args.slots.now.items c.index_mut.result.now c.requires.looked.1 c.requires.place c.index_mut.ensures.value
+
+pub returns-clause-turn : goal.returns-clause-turn
+returns-clause-turn g c = when_is_ok c.look.result c.look.ensures (λ found look. λ tracks looked.
+    let present = c.args.present.now in
+    turns present.schema.now present.state.now tracks c.args.place c.args.slots.now.items c.index_mut.result.now c.look.new.self found looked c.requires.place c.index_mut.ensures.value look)

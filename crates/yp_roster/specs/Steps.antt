@@ -1,0 +1,113 @@
+-- What becomes of a slot by an answer and by an entry.
+use Rattle.std.specs.List.{list_any}
+use Rattle.std.specs.Prelude.{◌==◌, filter, map, ◌≡◌, ℕ, zero, suc, length, List, [], ◌∷◌, ◌++◌, Bool, Some, None, if◌then◌else◌}
+use Rattle.yp_base.specs.declared.row.Row.{Row}
+use Rattle.yp_schema.specs.declared.schema.SchemaNode.{SchemaNode}
+use Rattle.yp_schema.specs.Datastore.{IsDatastore}
+use Rattle.yp_edit.specs.declared.changed.ChangedRow.{ChangedRow}
+use Rattle.yp_edit.specs.Changes.{changed_rows}
+use Rattle.yp_registry.specs.Registry.{live_at}
+use Rattle.yp_registry.specs.Terms.{Terms}
+use Rattle.yp_registry.specs.Ids.{HasRisingIds}
+use Rattle.yp_registry.specs.Registry.{IsRegistryOf}
+use Rattle.yp_registry.specs.declared.ask.Ask.{Ask}
+use Rattle.yp_journal.specs.declared.command.Command.TheVariants.{Establish}
+use Rattle.yp_journal.specs.declared.entry.Entry.{Entry}
+use Rattle.yp_journal.specs.declared.reply.Reply.TheVariants.{Id}
+use Rattle.yp_journal.specs.History.{JournalState, rules_at, next_state, reply_to}
+use Rattle.yp_attempt.specs.Moments.{Moment, after_rules, new_track}
+use Rattle.yp_attempt.specs.Tracks.{Track, Answer, Took, Full}
+use Rattle.yp_moment.specs.Entries.{selected_at, moment_between}
+use Rattle.yp_roster.specs.declared.following.Entered.{Entered}
+use Rattle.yp_roster.specs.declared.settling.Settled.{Settled}
+use Rattle.yp_roster.specs.declared.settling.Settled.TheVariants as settled
+use Rattle.yp_roster.specs.declared.slot.Slot.{Slot}
+use Rattle.yp_roster.specs.Slots.{AreRulesAt, AreSlotsOf, IsKeptAt, IsPresent, IsSlotOf}
+
+-- ---- answers
+
+abbrev pub answer_of : Settled → Answer
+answer_of settled.Took = Took
+answer_of settled.Full = Full
+
+-- a slot whose feed went a step on: where the base moved, no place is kept, and what was set aside goes where it isn't owed any more
+abbrev pub gone_on : Slot → Bool → Slot
+gone_on slot moved = record slot {
+  touched = if moved then [] else slot.touched;
+  frozen = if slot.feed.owed.incomplete then slot.frozen else None;
+}
+
+-- ---- entries
+
+-- one state comes after another: the receivers stay, and so do the terms of live subscriptions
+pub record ComesAfter (before after : JournalState) : Type 0 where
+  pub receivers : after.receivers ≡ before.receivers
+  pub live : (id : ℕ) (terms : Terms) → live_at id before.registry.live ≡ Some terms → live_at id after.registry.live ≡ Some terms
+
+-- a patch made one state of another, with the rows that it changed: users read alike
+pub record IsPatchOf (nodes : List SchemaNode) (before after : JournalState) (those : List ChangedRow) : Type 0 where
+  pub comes : ComesAfter before after
+  pub datastore : IsDatastore nodes before.rows
+  pub rules : (number : ℕ) → rules_at before number ≡ rules_at after number
+  pub changed : those ≡ changed_rows before.rows after.rows
+
+-- a track with what is selected at a state as one selection more
+abbrev pub with_next : List SchemaNode → JournalState → Track → Track
+with_next nodes state track = record track { later = track.later ++ selected_at nodes state track.feed.sub track.feed.receiver ∷ [] }
+
+-- what a patch found and what it changed, for a slot that is kept at the state that it found
+pub record IsMet (nodes : List SchemaNode) (after : JournalState) (slot : Slot) (tree : List Row) (those : List ChangedRow) (before : JournalState) : Type 0 where
+  pub patch : IsPatchOf nodes before after those
+  pub rows : tree ≡ before.rows
+  pub kept : IsKeptAt nodes before slot
+
+-- an entry found a state: it left the present one, its reply is that of the history, and the rows, the rules and the registry are those of the two states
+pub record IsEntered (entered : Entered) (before : JournalState) : Type 0 where
+  pub present : IsPresent entered.present.schema.now entered.present.state.now entered.present.rules.now
+  pub after : entered.present.state.now ≡ next_state entered.present.schema.now before entered.entry.now.command
+  pub reply : entered.entry.now.reply ≡ reply_to entered.present.schema.now before entered.entry.now.command
+  pub datastore : IsDatastore entered.present.schema.now before.rows
+  pub rows : entered.before.now ≡ before.rows
+  pub own : AreRulesAt before entered.rules.now
+  pub changed : entered.changed.now ≡ changed_rows before.rows entered.present.state.now.rows
+  pub ids : HasRisingIds before.registry
+  pub registry : IsRegistryOf entered.present.schema.now entered.present.state.now.registry
+  pub users : length entered.present.state.now.registry.users ≡ length entered.present.state.now.receivers
+
+-- what the entry is to feeds
+abbrev pub entered_moment : Entered → JournalState → Moment
+entered_moment entered before = moment_between entered.present.schema.now before entered.entry.now entered.present.state.now
+
+-- a track after it, before it is tried whether its record is to be set aside: the next look does that
+abbrev pub entered_track : Entered → JournalState → Track → Track
+entered_track entered before track = after_rules entered.present.state.now.position (entered_moment entered before) (with_next entered.present.schema.now entered.present.state.now track)
+
+-- so many of the slots went on by it, and the others not yet
+abbrev pub AreEnteredTo : Entered → JournalState → ℕ → List Slot → List Track → Type 0
+AreEnteredTo entered before zero slots tracks = AreSlotsOf entered.present.schema.now before slots tracks
+AreEnteredTo entered before (suc place) [] [] = Unit {0}
+AreEnteredTo entered before (suc place) [] (track ∷ tracks) = ⊥
+AreEnteredTo entered before (suc place) (slot ∷ slots) [] = ⊥
+AreEnteredTo entered before (suc place) (slot ∷ slots) (track ∷ tracks) = IsSlotOf entered.present.schema.now entered.present.state.now slot (entered_track entered before track) × AreEnteredTo entered before place slots tracks
+
+-- ---- new subscriptions
+
+-- an entry gave this id
+pub record IsGivenBy (entry : Entry) (id : ℕ) : Type 0 where
+  pub by : ℕ
+  pub ask : Ask
+  pub command : entry.command ≡ Establish by ask
+  pub reply : entry.reply ≡ Id id
+
+-- a moment of a state: at its tick, with what is selected there
+pub record IsMomentAt (nodes : List SchemaNode) (state : JournalState) (m : Moment) : Type 0 where
+  pub stamp : m.stamp ≡ state.stamp
+  pub selection : (id receiver : ℕ) → m.selection id receiver ≡ selected_at nodes state id receiver
+
+-- whether terms name a receiver
+abbrev pub names_of : Terms → ℕ → Bool
+names_of terms receiver = list_any (λ other. other == receiver) terms.receivers
+
+-- the tracks of a subscription that starts, for those of some receivers that it names
+abbrev pub new_tracks : Moment → ℕ → Terms → List ℕ → List Track
+new_tracks m n terms receivers = map (new_track m n terms.id terms.trigger terms.configured) (filter (names_of terms) receivers)
