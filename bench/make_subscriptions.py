@@ -12,8 +12,8 @@
     make_subscriptions.py toggled N    2,000 patches, each of which enables or disables an entry, with 4 such
                                        subscriptions of enabled entries, so that each patch has one enter or leave
 
-With `before-` before its name a shape of the last five ends before its patches. Before each update of the others a
-patch changes one leaf, and a tick meets what is due of all subscriptions.
+With `short-` before its name a shape of the last five has its first 100 patches alone, so that what comes once is in
+both. Before each update of the others a patch changes one leaf, and a tick meets what is due of all subscriptions.
 """
 
 from __future__ import annotations
@@ -32,6 +32,7 @@ PERIOD = 100
 FEEDS = 256
 FOLLOWERS = 64
 PATCHES = 2_000
+FEW_PATCHES = 100
 
 
 def device(count: int) -> Iterator[Line]:
@@ -66,12 +67,12 @@ def switch(number: int, count: int) -> tuple[str, str, Line]:
     return "replace", f"/acme:interfaces/interface={escaped(interface_name(place))}/enabled", {"acme:enabled": enabled}
 
 
-def followed(asked: list[Line], edit: Callable[[int, int], tuple[str, str, Line]]) -> Callable[[int, bool], Iterator[Line]]:
-    """A device of so many entries with subscriptions, and patches of one edit where they are wanted."""
-    def lines(count: int, patched: bool) -> Iterator[Line]:
+def followed(asked: list[Line], edit: Callable[[int, int], tuple[str, str, Line]]) -> Callable[[int, int], Iterator[Line]]:
+    """A device of so many entries with subscriptions, and so many patches of one edit."""
+    def lines(count: int, patches: int) -> Iterator[Line]:
         yield from device(count)
         yield from asked
-        for number in range(PATCHES if patched else 0):
+        for number in range(patches):
             yield patch(number, [edit(number, count)])
     return lines
 
@@ -108,7 +109,7 @@ def whole(count: int) -> Iterator[Line]:
 
 
 ENABLED = of_entry({"enabled": True, "mtu": [None]})
-FOLLOWED: dict[str, Callable[[int, bool], Iterator[Line]]] = {
+FOLLOWED: dict[str, Callable[[int, int], Iterator[Line]]] = {
     "idle": followed([], counter),
     "alike": followed([on_change(ENABLED)] * FOLLOWERS, counter),
     "apart": followed([on_change(of_entry({"name": interface_name(2 * number), "mtu": [None]})) for number in range(FOLLOWERS)], counter),
@@ -120,8 +121,8 @@ SHAPES: dict[str, Callable[[int], Iterator[Line]]] = {
     "bare": lambda count: keyed(count, False),
     "feeds": feeds,
     "whole": whole,
-    **{name: functools.partial(lines, patched=True) for name, lines in FOLLOWED.items()},
-    **{f"before-{name}": functools.partial(lines, patched=False) for name, lines in FOLLOWED.items()},
+    **{name: functools.partial(lines, patches=PATCHES) for name, lines in FOLLOWED.items()},
+    **{f"short-{name}": functools.partial(lines, patches=FEW_PATCHES) for name, lines in FOLLOWED.items()},
 }
 
 
