@@ -1,0 +1,5 @@
+mod Opened
+mod Places
+mod Said
+mod States
+mod Taken
