@@ -10,3 +10,4 @@ pub mod Those
 pub mod Apart
 pub mod Covering
 pub mod Reading
+pub mod Forms

@@ -2,6 +2,7 @@ pub mod Concealed
 pub mod SelectionLaws
 pub mod Matches
 pub mod Selection
+pub mod Form
 pub mod Visits
 pub mod Standing
 pub mod KeptLaws

@@ -13,6 +13,7 @@ ghost use Rattle.yp_select.specs.Matches.{keys_asked, node_holds, all_hold};
 ghost use Rattle.yp_select.specs.Selection.{is_match, only_matches, node_names, set_names, node_selects, set_selects, enters, node_leads, set_leads, keeps, kept};
 ghost use Rattle.yp_select.specs.Visits.{match_count, match_visits, inner_count, inner_visits};
 
+use crate::form::could_be_kept;
 use crate::matching::match_holds;
 use crate::visible::Visible;
 use std::alloc::Global;
@@ -149,7 +150,7 @@ pub(crate) fn set_names(schema: &Schema, segment: &Seg, set: &[FilterNode]) -> b
 }
 
 /// Whether a set keeps what is below an instance by itself, where none of its containment nodes does.
-fn keeps_here(schema: &Schema, segment: &Seg, is_last: bool, set: &[FilterNode]) -> bool
+pub(crate) fn keeps_here(schema: &Schema, segment: &Seg, is_last: bool, set: &[FilterNode]) -> bool
     requires { segment.now.node < length schema.now }
     ensures { result ≡ ((is_last && set_names schema.now segment.now (nodes_of (map node_view set.now)))
         || only_matches (nodes_of (map node_view set.now)) || set_selects segment.now.node (nodes_of (map node_view set.now))) }
@@ -276,7 +277,9 @@ fn node_leads<R: Readable, L: Ledger>(
 }
 
 /// Whether a filter keeps the row at a path, among the rows that may be read: what may not be read decides
-/// nothing. It counts at most one visit for each node of the filter.
+/// nothing. It counts at most one visit for each node of the filter. Where the filter's form alone says no,
+/// no row is looked up.
+#[tactic(auto, using(crate::proofs::Forms::not_kept))]
 pub fn kept<R: Readable, L: Ledger>(
     alloc: Global,
     schema: &Schema,
@@ -291,6 +294,9 @@ pub fn kept<R: Readable, L: Ledger>(
     ensures kept { IfOk result (λ is. is ≡ kept schema.now (filter_view filter.now) (visible_rows (R.may readable.now schema.now) tree.now) path.now) }
     ensures visits { OnOk result (steps.new ≤ steps.old + filter_size (filter_view filter.now)) }
 {
+    if !could_be_kept(schema, filter, path) {
+        return Ok(false);
+    }
     match filter {
         Filter::All => Ok(true),
         Filter::Set(set) => {

@@ -12,6 +12,7 @@ ghost use Rattle.yp_filter.specs.View.{filter_view, set_view};
 ghost use Rattle.yp_nacm.specs.Decision.{visible_rows};
 ghost use Rattle.yp_select.specs.Selection.{kept, selection};
 
+use crate::form::could_be_kept;
 use crate::keeping::kept;
 use crate::reached::rows_reached;
 use crate::reaches::reaches_of;
@@ -122,8 +123,9 @@ fn keep_selected<R: Readable, L: Ledger>(
 }
 
 /// The value that a reader's selection by a filter has at a path, and `None` exactly where it has no row
-/// there. It counts at most one visit, and one for each node of the filter.
-#[tactic(auto, using(crate::specs::KeptLaws::value_kept, yp_schema::specs::SchemaLaws::path_down))]
+/// there. It counts at most one visit, and one for each node of the filter. Where the filter's form alone
+/// says no, nothing is looked up.
+#[tactic(auto, using(crate::specs::KeptLaws::value_kept, crate::proofs::Forms::not_selected, yp_schema::specs::SchemaLaws::path_down))]
 pub fn select_at<'a, R: Readable, L: Ledger>(
     alloc: Global,
     schema: &Schema,
@@ -138,6 +140,9 @@ pub fn select_at<'a, R: Readable, L: Ledger>(
     ensures value { IfOk result (λ value. option_copied value ≡ value_at path.now (selection schema.now (filter_view filter.now) (R.may readable.now schema.now) tree.now)) }
     ensures visits { OnOk result (steps.new ≤ steps.old + (filter_size (filter_view filter.now) + 1)) }
 {
+    if !could_be_kept(schema, filter, path) {
+        return Ok(None);
+    }
     if !readable.readable(schema, path) {
         return Ok(None);
     }
