@@ -4,8 +4,9 @@ In cases/ each NAME.jsonl is a script. Beside it stands NAME.txt, the report tha
 NAME.fault, which has the line on standard error and then the exit status. Where NAME.lines stands beside
 them, the script is run once for each line of that file, with that line after it, and each run ends so.
 The scripts that are too large to be kept are made by large_cases.py, random ones with policies by
-access_cases.py, and with filters and periods by subscription_cases.py. Nothing here comes of a run: each expected text is worked out from the rules of docs/SCRIPT.md
-and docs/ACCESS.md.
+access_cases.py, with filters and periods by subscription_cases.py, and with queues that fill by queue_cases.py;
+feed_cases.py has a short one for each rule of feeds and queues. Nothing here comes of a run: each expected text is
+worked out from the rules of the guides in docs/.
 """
 
 from __future__ import annotations
@@ -18,7 +19,9 @@ from collections.abc import Iterator
 from dataclasses import dataclass
 
 from access_cases import access_cases
+from feed_cases import feed_cases
 from large_cases import large_cases
+from queue_cases import queue_cases
 from subscription_cases import subscription_cases
 
 BAD_ARGUMENTS: list[list[str]] = [
@@ -66,7 +69,7 @@ def made_cases() -> Iterator[Case]:
     """The large scripts, and those with policies."""
     for name, script, report in access_cases():
         yield Case(name, script, report)
-    for name, script, wanted in itertools.chain(large_cases(), subscription_cases()):
+    for name, script, wanted in itertools.chain(large_cases(), subscription_cases(), feed_cases(), queue_cases()):
         if isinstance(wanted, tuple):
             line, fault = wanted
             yield Case(f"made: {name}", script, b"", f"push: line {line}: fault {fault}\n".encode(), 3)

@@ -30,12 +30,10 @@ told_of : (before bytes text : List ℕ) (after : Option (List ℕ)) (over : Boo
 told_of before bytes text after over read told = record {
   script = told.script;
   entries = told.entries;
-  made = told.made;
   read = sym (ap script_in read.front ∙ ap script_of (take_twice (byte_limit + 1) before)) ∙ told.read;
   journal = told.journal;
   serial = told.serial;
   legal = told.legal;
-  each = told.each;
   serves = told.serves;
   report = told.report;
 }

@@ -106,6 +106,11 @@ pub data Answer : Type 0 where
   Took : Answer
   Full : Answer
 
+-- whether what is offered is taken
+abbrev pub is_taken : Answer → Bool
+is_taken Took = true
+is_taken Full = false
+
 -- one attempt: of which subscription and receiver an item was offered, what was made of it, at which position and stamp, and the answer
 pub record Attempt : Type 0 where
   pub sub : ℕ

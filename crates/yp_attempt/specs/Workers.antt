@@ -1,5 +1,5 @@
 -- A worker that looks at its tracks one after another: when it stands for entries and answers, and what its steps are.
-use Rattle.std.specs.Prelude.{◌≡◌, ℕ, ◌+◌, false, List, ◌++◌, map, filter}
+use Rattle.std.specs.Prelude.{◌≡◌, ◌==◌, ℕ, zero, suc, ◌+◌, ◌%◌, false, List, [], ◌∷◌, ◌++◌, map, filter, if◌then◌else◌}
 use Rattle.yp_feed.specs.declared.item.Item.{Item}
 use Rattle.yp_feed.specs.Machine.{taken, refused, rebases}
 use Rattle.yp_attempt.specs.Content.{Content}
@@ -43,3 +43,8 @@ answered_alone n stamp track item Full = with_feed track (refused track.feed ite
 -- the worker puts an answer in
 abbrev pub puts : Standing → Found → Answer → Standing
 puts standing found answer = record standing { tracks = found.before ++ (unless_ended (answered_alone standing.position standing.stamp found.track found.item answer) ++ found.after) }
+
+-- of so many receivers the numbers of those that a worker serves, in order: the remainder by the number of workers is the worker's
+abbrev pub numbers_of : ℕ → ℕ → ℕ → List ℕ
+numbers_of worker workers zero = []
+numbers_of worker workers (suc count) = numbers_of worker workers count ++ (if count % workers == worker then count ∷ [] else [])

@@ -311,6 +311,13 @@ impl Feed {
         self.base
     }
 
+    /// Whether it owes all that it selects, so that it tells no changes before that (RFC 8641 section 3.3).
+    pub fn awaits_full(&self) -> bool
+        ensures { result ≡ self.now.owed.sync }
+    {
+        self.owed.sync
+    }
+
     /// Whether its end was taken.
     pub fn ended(&self) -> bool
         ensures { result ≡ self.now.ended }

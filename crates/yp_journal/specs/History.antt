@@ -10,8 +10,6 @@ use Rattle.yp_nacm.specs.declared.policy.Policy.{Policy}
 use Rattle.yp_nacm.specs.Decision.{is_readable}
 use Rattle.yp_nacm.specs.Own.{own_rules}
 use Rattle.yp_nacm.specs.Policies.{opening_policy, IsPolicyOf}
-use Rattle.yp_base.specs.declared.notice.Trigger.{Trigger}
-use Rattle.yp_base.specs.declared.notice.Trigger.TheVariants.{Periodic, OnChange}
 use Rattle.yp_registry.specs.declared.ask.Ask.{Ask}
 use Rattle.yp_registry.specs.declared.refused.Refused.{Refused}
 use Rattle.yp_registry.specs.Registry.{Subscriptions, no_subscriptions, established, establish_answer}
@@ -22,7 +20,7 @@ use Rattle.yp_edit.specs.Patches.{RefusedEdit, applied}
 use Rattle.yp_edit.specs.Shapes.{ids_of, patch_in}
 use Rattle.yp_time.specs.Ticks.{tick_limit}
 use Rattle.yp_journal.specs.declared.command.Command.{Command}
-use Rattle.yp_journal.specs.declared.command.Command.TheVariants.{Tick, Edit, Rules, Establish}
+use Rattle.yp_journal.specs.declared.command.Command.TheVariants.{Tick, Edit, Rules, Establish, Take}
 use Rattle.yp_journal.specs.declared.entry.Entry.{Entry}
 use Rattle.yp_journal.specs.declared.receiver.ReceiverInfo.{ReceiverInfo}
 use Rattle.yp_journal.specs.declared.reply.Reply.{Reply}
@@ -121,6 +119,7 @@ accepted nodes state (Edit patch) =
     (record (one_further state) { rows = rows_after state.rows (applied nodes state.rows patch) }, patch_reply patch (applied nodes state.rows patch))
 accepted nodes state (Rules policy) = (with_policy state policy, Done)
 accepted nodes state (Establish by ask) = (after_establish nodes state by ask, establish_reply nodes state by ask)
+accepted nodes state (Take receiver count) = (one_further state, Done)
 
 abbrev pub next_state : List SchemaNode → JournalState → Command → JournalState
 next_state nodes state command = (accepted nodes state command).0
@@ -159,21 +158,25 @@ pub record IsRead (patch : Patch) : Type 0 where
   pub read : patch_in json ≡ Some patch
   pub few : length patch.edits < 2 ^ 32
 
--- updates on change as they are made so far: of each change at once, with a full update first, and of changes of each kind (RFC 8641 section 3.1)
-abbrev pub at_once : Trigger
-at_once = OnChange 0 true (record { create = false; delete = false; insert = false; moved = false; replace = false })
+-- how many packets a receiver takes at most by one command
+abbrev pub take_limit : ℕ
+take_limit = 32
 
--- a trigger as it is served so far: one on change is told at once
-abbrev pub IsServed : Trigger → Type 0
-IsServed (Periodic period anchor) = Unit {0}
-IsServed (OnChange dampening sync excluded) = OnChange dampening sync excluded ≡ at_once
+-- a receiver of this number takes up to so many packets by a command: it is one that doesn't take each by itself
+pub record IsTakeOf (receivers : List ReceiverInfo) (receiver count : ℕ) : Type 0 where
+  pub info : ReceiverInfo
+  pub there : slice_get receivers receiver ≡ Some info
+  pub by_command : info.auto ≡ false
+  pub some : 0 < count
+  pub few : count ≤ take_limit
 
 -- a command that can come of a script that declares these receivers
 abbrev pub MayCome : List SchemaNode → List ReceiverInfo → Command → Type 0
 MayCome nodes receivers (Tick tick) = tick ≤ tick_limit
 MayCome nodes receivers (Edit patch) = IsRead patch
 MayCome nodes receivers (Rules policy) = IsPolicyOf nodes policy
-MayCome nodes receivers (Establish by ask) = (by < length receivers) × HasAnchor ask.trigger × IsServed ask.trigger
+MayCome nodes receivers (Establish by ask) = (by < length receivers) × HasAnchor ask.trigger
+MayCome nodes receivers (Take receiver count) = IsTakeOf receivers receiver count
 
 -- an entry that may follow where the journal has this state: its command may come, and its reply and its stamp are those of the fold
 pub record MayFollow (nodes : List SchemaNode) (state : JournalState) (entry : Entry) : Type 0 where

@@ -10,7 +10,7 @@ use Rattle.yp_registry.specs.Registry.{Subscriptions, established, first_refusal
 use Rattle.yp_nacm.specs.declared.policy.Policy.{Policy}
 use Rattle.yp_edit.specs.Patches.{RefusedEdit, applied}
 use Rattle.yp_journal.specs.declared.command.Command.{Command}
-use Rattle.yp_journal.specs.declared.command.Command.TheVariants.{Tick, Edit, Rules, Establish}
+use Rattle.yp_journal.specs.declared.command.Command.TheVariants.{Tick, Edit, Rules, Establish, Take}
 use Rattle.yp_journal.specs.declared.entry.Entry.{Entry}
 use Rattle.yp_journal.specs.declared.receiver.ReceiverInfo.{ReceiverInfo}
 use Rattle.yp_journal.specs.History.{JournalState, first_state, one_further, rows_after, patch_reply, reply_by, with_registry, next_state, reply_to, is_refusal, state_after, state_of, MayFollow, IsLegal}
@@ -19,6 +19,7 @@ use Rattle.yp_journal.specs.History.{JournalState, first_state, one_further, row
 pub refusal_alone : (nodes : List SchemaNode) (state : JournalState) (command : Command) → is_refusal (reply_to nodes state command) ≡ true → next_state nodes state command ≡ one_further state
 refusal_alone nodes state (Tick tick) h = cc
 refusal_alone nodes state (Rules policy) h = cc
+refusal_alone nodes state (Take receiver count) h = cc
 refusal_alone nodes state (Establish by ask) h =
     let terms = terms_for nodes state.registry by ask state.stamp in
     elim (first_refusal (reasons_against nodes state.policy state.registry by ask)) as (λ (found : Option Refused). is_refusal (reply_by (or_refused found terms.id)) ≡ true → with_registry state (after_refusal found state.registry terms) ≡ one_further state) [
@@ -57,6 +58,7 @@ next_position nodes state (Tick tick) = refl
 next_position nodes state (Edit patch) = refl
 next_position nodes state (Rules policy) = refl
 next_position nodes state (Establish by ask) = refl
+next_position nodes state (Take receiver count) = refl
 
 pub position_of : (nodes : List SchemaNode) (state : JournalState) (entries : List Entry) → (state_of nodes state entries).position ≡ state.position + length entries
 position_of nodes state [] = let same : state.position ≡ state.position + 0 = omega arith in same
@@ -71,6 +73,7 @@ next_receivers nodes state (Tick tick) = refl
 next_receivers nodes state (Edit patch) = refl
 next_receivers nodes state (Rules policy) = refl
 next_receivers nodes state (Establish by ask) = refl
+next_receivers nodes state (Take receiver count) = refl
 
 pub receivers_stay : (nodes : List SchemaNode) (state : JournalState) (entries : List Entry) → (state_of nodes state entries).receivers ≡ state.receivers
 receivers_stay nodes state [] = refl
@@ -97,12 +100,14 @@ next_users nodes state (Tick tick) = refl
 next_users nodes state (Edit patch) = refl
 next_users nodes state (Rules policy) = refl
 next_users nodes state (Establish by ask) = established_users nodes state.policy state.registry by ask state.stamp
+next_users nodes state (Take receiver count) = refl
 
 pub next_names : (nodes : List SchemaNode) (state : JournalState) (command : Command) → (next_state nodes state command).registry.names ≡ state.registry.names
 next_names nodes state (Tick tick) = refl
 next_names nodes state (Edit patch) = refl
 next_names nodes state (Rules policy) = refl
 next_names nodes state (Establish by ask) = established_names nodes state.policy state.registry by ask state.stamp
+next_names nodes state (Take receiver count) = refl
 
 pub users_stay : (nodes : List SchemaNode) (state : JournalState) (entries : List Entry) → (state_of nodes state entries).registry.users ≡ state.registry.users
 users_stay nodes state [] = refl
@@ -118,6 +123,7 @@ policy_stays nodes state (Tick tick) other = refl
 policy_stays nodes state (Edit patch) other = refl
 policy_stays nodes state (Rules policy) other = absurd (other policy refl)
 policy_stays nodes state (Establish by ask) other = refl
+policy_stays nodes state (Take receiver count) other = refl
 
 -- no rows are a datastore
 pub opening_datastore : (nodes : List SchemaNode) (receivers : List ReceiverInfo) → IsDatastore nodes (first_state receivers).rows

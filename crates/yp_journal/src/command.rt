@@ -18,6 +18,8 @@ pub enum Command {
     /// A subscription is asked for (RFC 8639 section 2.4.2) by the receiver of this number, from 0 on in
     /// the order of their declaration.
     Establish { by: u32, ask: Ask },
+    /// The receiver of this number takes up to so many packets from its queue.
+    Take { receiver: u32, count: u32 },
 }
 
 /// Commands, in order.
@@ -32,6 +34,10 @@ impl Duplicate for Command {
             Command::Establish { by, ask } => Command::Establish {
                 by: *by,
                 ask: ask.copy(alloc)?,
+            },
+            Command::Take { receiver, count } => Command::Take {
+                receiver: *receiver,
+                count: *count,
             },
         })
     }

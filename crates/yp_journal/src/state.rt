@@ -214,6 +214,7 @@ impl State {
             Command::Edit(patch) => self.edit(alloc, schema, patch),
             Command::Rules(policy) => self.govern(alloc, policy),
             Command::Establish { by, ask } => self.establish(alloc, schema, *by, ask),
+            Command::Take { .. } => Ok(self.advance(Reply::Done, no_changes(alloc))),
         }
     }
 

@@ -1,145 +1,257 @@
--- What receivers are sent, one after another.
-use Rattle.std.proofs.Common.{◌≡◌, ℕ, ◌+◌, ◌<◌, ◌==◌, suc, zero, get_or, slice_set, Bool, true, false, List, [], ◌∷◌, ◌++◌, map, length, refl, sym, ap, subst, ◌∙◌, cond, arith, append_assoc, append-nil}
-use Rattle.std.specs.Prelude.{filter}
-use Rattle.std.specs.List.{AllByRecursion, flat_map}
-use Rattle.yp_base.specs.declared.notice.Change.{Change}
+-- The desk of a receiver along a serial run.
+use Rattle.std.proofs.Common.{◌≡◌, ℕ, zero, suc, ◌+◌, ◌-◌, ◌≤◌, ◌==◌, min, Bool, true, false, List, [], ◌∷◌, ◌++◌, length, map, take, drop, get_or, slice_set, Some, refl, sym, ap, ◌∙◌, arith, append-nil, length-append}
+use Rattle.std.specs.Prelude.{if◌then◌else◌, nat_lt}
+use Rattle.std.specs.List.{slice_get}
+use Rattle.std.proofs.lemmas.List.{drop-append-le, drop-map, drop_all, length-drop, length-map, map-append, take-append-le, take-map, take_all}
+use Rattle.std.proofs.lemmas.List.Elements.{filter-append}
 use Rattle.yp_base.specs.declared.notice.Notice.{Notice}
-use Rattle.yp_base.specs.declared.notice.Notice.TheVariants.{Changes}
-use Rattle.yp_base.specs.declared.row.Row.{Row}
 use Rattle.yp_schema.specs.declared.schema.SchemaNode.{SchemaNode}
 use Rattle.yp_journal.specs.declared.receiver.ReceiverInfo.{ReceiverInfo}
-use Rattle.yp_journal.specs.History.{JournalState}
-use Rattle.yp_core.specs.declared.made.Made.{Made}
-use Rattle.yp_core.specs.AttemptLaws.{made_of, made_joined}
-use Rattle.yp_core.specs.Received.{heard, received}
-use Rattle.yp_core.specs.Sending.{CanBeShown}
-use Rattle.yp_core.specs.Updates.{Attempt, Feed, attempt_of, change_update, made_for, made_for_each}
-use Rattle.yp_live.specs.Desks.{DeskState, bare_desk, told, told_all, told_each, sent}
-use Rattle.yp_live.specs.Report.{receiver_report, receiver_reports, sent_text, receiver_text}
-use Rattle.yp_live.specs.Runs.{desk_text}
+use Rattle.yp_feed.specs.declared.item.Item.{Item}
+use Rattle.yp_queue.specs.declared.packet.Packet.{Packet}
+use Rattle.yp_attempt.specs.Attempts.{Notification, if_taken, notification_of, taken_of}
+use Rattle.yp_attempt.specs.Content.{Content}
+use Rattle.yp_attempt.specs.ListLaws.{filter_fail, filter_pass}
+use Rattle.yp_attempt.specs.Tracks.{Answer, Took, Full, Attempt, Track, attempt}
+use Rattle.yp_attempt.specs.Runs.{Found}
+use Rattle.yp_serial.specs.Posts.{Post, answer_by, after_offer, after_take}
+use Rattle.yp_serial.specs.Serial.{Served, found_answer, served_settled}
+use Rattle.yp_roster.specs.declared.settling.Settled.TheVariants as settled
+use Rattle.yp_roster.specs.Steps.{answer_of}
+use Rattle.yp_worker.specs.Packets.{packet_of}
+use Rattle.yp_promise.specs.Posts.{HasPost}
+use Rattle.yp_promise.specs.Received.{received}
+use Rattle.yp_promise.specs.Serving.{places_of, queueing_of, takes_itself}
+use Rattle.yp_promise.specs.Shown.{offered_to}
+use Rattle.yp_live.specs.Desks.{DeskState, desk_answer, desk_at, desk_offered, desk_offered_by, desk_took, desks_at, hears_all, logged}
+use Rattle.yp_live.proofs.Taking.{drop_most, hears_received, notice_in, received_more, take_most}
+
+-- ---- what was accepted
+
+pub accepted_more : (xs ys : List Attempt) → taken_of (xs ++ ys) ≡ taken_of xs ++ taken_of ys
+accepted_more [] ys = refl
+accepted_more (x ∷ xs) ys = by x.answer (accepted_more xs ys)
+  where
+    by : (answer : Answer) → taken_of (xs ++ ys) ≡ taken_of xs ++ taken_of ys → if_taken answer (notification_of x) (taken_of (xs ++ ys)) ≡ if_taken answer (notification_of x) (taken_of xs) ++ taken_of ys
+    by Took later = ap (λ (ns : List Notification). notification_of x ∷ ns) later
+    by Full later = later
 
 module _ (nodes : List SchemaNode) (start : ℕ) where
-  -- ---- one desk
+  abbrev packet_in : Notification → Packet
+  packet_in n = packet_of nodes start n.sub n.made
 
-  told_joined : (desk : DeskState) (made more : List Made) → told_all nodes start desk (made ++ more) ≡ told_all nodes start (told_all nodes start desk made) more
-  told_joined desk [] more = refl
-  told_joined desk (m ∷ made) more = told_joined (told nodes start desk m) made more
+  -- the desk of a receiver by what was offered to it, what its queue accepted, and how many of these it took
+  abbrev desk_by : List ℕ → Bool → ℕ → List Attempt → List Notification → ℕ → DeskState
+  desk_by name automatic places offered accepted taken = record {
+    name = name;
+    automatic = automatic;
+    log = map (logged nodes start) offered;
+    taken = taken;
+    queue = record { packets = map packet_in (drop taken accepted); places = places };
+    waiting = map notice_in (drop taken accepted);
+    trees = received [] (take taken accepted);
+  }
 
-  lines_told : (desk : DeskState) (made : List Made) → (told_all nodes start desk made).lines ≡ desk.lines ++ flat_map (sent_text nodes start desk.name) made
-  lines_told desk [] = sym (append-nil desk.lines)
-  lines_told desk (m ∷ made) = lines_told (told nodes start desk m) made ∙ append_assoc desk.lines (sent_text nodes start desk.name m) (flat_map (sent_text nodes start desk.name) made)
+  -- ---- an offer
 
-  name_told : (desk : DeskState) (made : List Made) → (told_all nodes start desk made).name ≡ desk.name
-  name_told desk [] = refl
-  name_told desk (m ∷ made) = name_told (told nodes start desk m) made
+  -- what is offered to its queue is an attempt with the answer that this gives
+  module _ (name : List ℕ) (places : ℕ) (offered : List Attempt) (c : Content) (n stamp : ℕ) (track : Track) (item : Item) where
+    abbrev made : Answer → Attempt
+    made answer = attempt c n stamp track item answer
 
-  trees_told : (desk : DeskState) (made : List Made) → (told_all nodes start desk made).trees ≡ received desk.trees made
-  trees_told desk [] = refl
-  trees_told desk (m ∷ made) = trees_told (told nodes start desk m) made
+    abbrev given : Notification
+    given = notification_of (made Took)
 
-  -- ---- each in turn
+    abbrev here : Bool → List Attempt → List Notification → ℕ → DeskState
+    here automatic those accepted taken = desk_by name automatic places those accepted taken
 
-  each_joined : (made more : ℕ → List Made) (number : ℕ) (desks : List DeskState)
-      → told_each nodes start (λ n. made n ++ more n) number desks ≡ told_each nodes start more number (told_each nodes start made number desks)
-  each_joined made more number [] = refl
-  each_joined made more number (desk ∷ desks) = λ i. told_joined desk (made number) (more number) i ∷ each_joined made more (number + 1) desks i
+    log_more : (answer : Answer) → map (logged nodes start) (offered ++ made answer ∷ []) ≡ map (logged nodes start) offered ++ logged nodes start (made answer) ∷ []
+    log_more answer = map-append (logged nodes start) offered (made answer ∷ [])
 
-  pub each_same : (made other : ℕ → List Made) → ((n : ℕ) → made n ≡ other n) → (number : ℕ) (desks : List DeskState) → told_each nodes start made number desks ≡ told_each nodes start other number desks
-  each_same made other same number [] = refl
-  each_same made other same number (desk ∷ desks) = λ i. told_all nodes start desk (same number i) ∷ each_same made other same (number + 1) desks i
+    -- it is full
+    full_offer : (automatic : Bool) (post : Post) → here automatic (offered ++ made Full ∷ []) (taken_of (offered ++ made Full ∷ [])) post.taken
+        ≡ desk_offered_by false (packet_in given) (notice_in given) n (here automatic offered (taken_of offered) post.taken)
+    full_offer automatic post =
+        let same : taken_of (offered ++ made Full ∷ []) ≡ taken_of offered = accepted_more offered (made Full ∷ []) ∙ append-nil (taken_of offered) in
+        λ i. record (here automatic offered (same i) post.taken) { log = log_more Full i }
 
-  pub each_none : (made : ℕ → List Made) → ((n : ℕ) → made n ≡ []) → (number : ℕ) (desks : List DeskState) → told_each nodes start made number desks ≡ desks
-  each_none made none number [] = refl
-  each_none made none number (desk ∷ desks) = λ i. told_all nodes start desk (none number i) ∷ each_none made none (number + 1) desks i
+    -- it has room, and the packet stands there
+    held_offer : (post : Post) → length (taken_of offered) ≡ post.taken + post.held → here false (offered ++ made Took ∷ []) (taken_of (offered ++ made Took ∷ [])) post.taken
+        ≡ desk_offered_by true (packet_in given) (notice_in given) n (here false offered (taken_of offered) post.taken)
+    held_offer post parts =
+        let xs : List Notification = taken_of offered in
+        let few : post.taken ≤ length xs = omega (arith, parts) in
+        let all : taken_of (offered ++ made Took ∷ []) ≡ xs ++ given ∷ [] = accepted_more offered (made Took ∷ []) in
+        let got : take post.taken (taken_of (offered ++ made Took ∷ [])) ≡ take post.taken xs = ap (take post.taken) all ∙ take-append-le post.taken xs (given ∷ []) few in
+        let kept : drop post.taken (taken_of (offered ++ made Took ∷ [])) ≡ drop post.taken xs ++ given ∷ [] = ap (drop post.taken) all ∙ drop-append-le post.taken xs (given ∷ []) few in
+        λ i. record {
+          name = name;
+          automatic = false;
+          log = log_more Took i;
+          taken = post.taken;
+          queue = record { packets = (ap (map packet_in) kept ∙ map-append packet_in (drop post.taken xs) (given ∷ [])) i; places = places };
+          waiting = (ap (map notice_in) kept ∙ map-append notice_in (drop post.taken xs) (given ∷ [])) i;
+          trees = received [] (got i);
+        }
 
-  pub each_length : (made : ℕ → List Made) (number : ℕ) (desks : List DeskState) → length (told_each nodes start made number desks) ≡ length desks
-  each_length made number [] = refl
-  each_length made number (desk ∷ desks) = ap (λ n. suc n) (each_length made (number + 1) desks)
+    -- it has room, and the receiver takes it at once
+    taken_offer : (post : Post) → length (taken_of offered) ≡ post.taken + post.held → post.held ≡ 0 → here true (offered ++ made Took ∷ []) (taken_of (offered ++ made Took ∷ [])) (post.taken + 1)
+        ≡ desk_offered_by true (packet_in given) (notice_in given) n (here true offered (taken_of offered) post.taken)
+    taken_offer post parts none =
+        let xs : List Notification = taken_of offered in
+        let few : length xs ≤ post.taken = omega (arith, parts, none) in
+        let all : taken_of (offered ++ made Took ∷ []) ≡ xs ++ given ∷ [] = accepted_more offered (made Took ∷ []) in
+        let count : length (xs ++ given ∷ []) ≤ post.taken + 1 = omega (arith, few, length-append xs (given ∷ [])) in
+        let before : drop post.taken xs ≡ [] = drop_all post.taken xs few in
+        let got : take (post.taken + 1) (taken_of (offered ++ made Took ∷ [])) ≡ take post.taken xs ++ given ∷ [] =
+        ap (take (post.taken + 1)) all ∙ (take_all (post.taken + 1) (xs ++ given ∷ []) count ∙ ap (λ (ys : List Notification). ys ++ given ∷ []) (sym (take_all post.taken xs few))) in
+        let kept : drop (post.taken + 1) (taken_of (offered ++ made Took ∷ [])) ≡ [] = ap (drop (post.taken + 1)) all ∙ drop_all (post.taken + 1) (xs ++ given ∷ []) count in
+        λ i. record {
+          name = name;
+          automatic = true;
+          log = log_more Took i;
+          taken = post.taken + min 1 (length (map packet_in (sym before i) ++ packet_in given ∷ []));
+          queue = record { packets = (ap (map packet_in) kept ∙ ap (λ (ys : List Notification). drop 1 (map packet_in ys ++ packet_in given ∷ [])) (sym before)) i; places = places };
+          waiting = (ap (map notice_in) kept ∙ ap (λ (ys : List Notification). drop 1 (map notice_in ys ++ notice_in given ∷ [])) (sym before)) i;
+          trees = (ap (received []) got ∙ (received_more [] (take post.taken xs) (given ∷ []) ∙ ap (λ (ys : List Notification). hears_all (take 1 (map notice_in ys ++ notice_in given ∷ [])) (received [] (take post.taken xs))) (sym before))) i;
+        }
 
-  -- ---- attempts
+    -- by whether there is room
+    offer_by : (room automatic : Bool) (post : Post) → length (taken_of offered) ≡ post.taken + post.held → (automatic ≡ true → post.held ≡ 0)
+        → here automatic (offered ++ made (if room then Took else Full) ∷ []) (taken_of (offered ++ made (if room then Took else Full) ∷ [])) (after_offer automatic (if room then Took else Full) post).taken
+        ≡ desk_offered_by room (packet_in given) (notice_in given) n (here automatic offered (taken_of offered) post.taken)
+    offer_by true true post parts none = taken_offer post parts (none refl)
+    offer_by true false post parts none = held_offer post parts
+    offer_by false automatic post parts none = full_offer automatic post
 
-  pub sent_none : (desks : List DeskState) → sent nodes start [] desks ≡ desks
-  sent_none desks = each_none (λ n. []) (λ n. refl) 0 desks
+    pub offer_made : (automatic : Bool) (post : Post) → length (taken_of offered) ≡ post.taken + post.held → (automatic ≡ true → post.held ≡ 0)
+        → here automatic (offered ++ made (answer_by places post) ∷ []) (taken_of (offered ++ made (answer_by places post) ∷ [])) (after_offer automatic (answer_by places post) post).taken
+        ≡ desk_offered (packet_in given) (notice_in given) n (here automatic offered (taken_of offered) post.taken)
+    offer_made automatic post parts none =
+        let xs : List Notification = taken_of offered in
+        let left : length (drop post.taken xs) ≡ length xs - post.taken = length-drop post.taken xs in
+        let held : length (drop post.taken xs) ≡ post.held = omega (arith, left, parts) in
+        let count : length (map packet_in (drop post.taken xs)) ≡ post.held = length-map (drop post.taken xs) packet_in ∙ held in
+        offer_by (nat_lt post.held places) automatic post parts none
+        ∙ ap (λ (k : ℕ). desk_offered_by (nat_lt k places) (packet_in given) (notice_in given) n (here automatic offered xs post.taken)) (sym count)
 
-  pub sent_joined : (attempts more : List Attempt) (desks : List DeskState) → sent nodes start (attempts ++ more) desks ≡ sent nodes start more (sent nodes start attempts desks)
-  sent_joined attempts more desks =
-      each_same (λ n. made_for n (attempts ++ more)) (λ n. made_for n attempts ++ made_for n more) (λ n. made_joined n attempts more) 0 desks
-      ∙ each_joined (λ n. made_for n attempts) (λ n. made_for n more) 0 desks
+  -- ---- the receivers of a serial run
 
-  pub sent_length : (attempts : List Attempt) (desks : List DeskState) → length (sent nodes start attempts desks) ≡ length desks
-  sent_length attempts desks = each_length (λ n. made_for n attempts) 0 desks
+  module _ (c : Content) (receivers : List ReceiverInfo) (served : Served) (found : Found) where
+    abbrev next : Served
+    next = served_settled c (queueing_of receivers) found served
 
-  -- what a journal makes, and what one entry more makes
-  pub each_further : (before more after : ℕ → List Made) → ((n : ℕ) → after n ≡ before n ++ more n) → (desks : List DeskState)
-      → told_each nodes start more 0 (told_each nodes start before 0 desks) ≡ told_each nodes start after 0 desks
-  each_further before more after is desks = sym (each_joined before more 0 desks) ∙ each_same (λ n. before n ++ more n) after (λ n. sym (is n)) 0 desks
+    abbrev answered : Answer → Attempt
+    answered answer = attempt c served.run.standing.position served.run.standing.stamp found.track found.item answer
 
-  -- ---- notices of one feed
+    -- another one than that of the offer
+    pub other_desk : (number : ℕ) (receiver : ReceiverInfo) → (found.track.feed.receiver == number) ≡ false → desk_at nodes start next number receiver ≡ desk_at nodes start served number receiver
+    other_desk number receiver other =
+        let answer : Answer = found_answer (queueing_of receivers) found served in
+        let offered : offered_to number next ≡ offered_to number served =
+        filter-append (λ (a : Attempt). a.receiver == number) served.run.done (answered answer ∷ [])
+        ∙ (ap (λ (xs : List Attempt). offered_to number served ++ xs) (filter_fail (λ (a : Attempt). a.receiver == number) (answered answer) [] other) ∙ append-nil (offered_to number served)) in
+        let taken : (next.posts number).taken ≡ (served.posts number).taken =
+        ap (λ (b : Bool). (if b then after_offer ((queueing_of receivers).automatic number) answer (served.posts number) else served.posts number).taken) other in
+        λ i. desk_by receiver.name receiver.auto receiver.places (offered i) (taken_of (offered i)) (taken i)
 
-  others_past : (number receiver : ℕ) (made : List Made) (desks : List DeskState) → receiver < number → told_each nodes start (λ n. cond (receiver == n) made []) number desks ≡ desks
-  others_past number receiver made [] past = refl
-  others_past number receiver made (desk ∷ desks) past =
-      let other : (receiver == number) ≡ false = grind (arith, past) in
-      λ i. told_all nodes start desk (cond (other i) made []) ∷ others_past (number + 1) receiver made desks (omega (arith, past)) i
+    -- that of the offer
+    pub own_desk : (number : ℕ) (receiver : ReceiverInfo) → slice_get receivers number ≡ Some receiver → found.track.feed.receiver ≡ number → HasPost receivers served number
+        → desk_at nodes start next number receiver
+        ≡ desk_offered (packet_in (notification_of (answered Took))) (notice_in (notification_of (answered Took))) served.run.standing.position (desk_at nodes start served number receiver)
+    own_desk number receiver there own post =
+        let test : (found.track.feed.receiver == number) ≡ true = grind (arith, own) in
+        let answer : Answer = found_answer (queueing_of receivers) found served in
+        let places : places_of (slice_get receivers number) ≡ receiver.places = ap places_of there in
+        let automatic : takes_itself (slice_get receivers number) ≡ receiver.auto = ap takes_itself there in
+        let same : answer ≡ answer_by receiver.places (served.posts number) =
+        ap (λ (r : ℕ). answer_by (places_of (slice_get receivers r)) (served.posts r)) own ∙ ap (λ (k : ℕ). answer_by k (served.posts number)) places in
+        let offered : offered_to number next ≡ offered_to number served ++ answered answer ∷ [] =
+        filter-append (λ (a : Attempt). a.receiver == number) served.run.done (answered answer ∷ [])
+        ∙ ap (λ (xs : List Attempt). offered_to number served ++ xs) (filter_pass (λ (a : Attempt). a.receiver == number) (answered answer) [] test) in
+        let taken : (next.posts number).taken ≡ (after_offer (takes_itself (slice_get receivers number)) answer (served.posts number)).taken =
+        ap (λ (b : Bool). (if b then after_offer (takes_itself (slice_get receivers number)) answer (served.posts number) else served.posts number).taken) test in
+        (λ i. desk_by receiver.name receiver.auto receiver.places (offered i) (taken_of (offered i)) (taken i))
+        ∙ ((λ i. desk_by receiver.name receiver.auto receiver.places (offered_to number served ++ answered (same i) ∷ []) (taken_of (offered_to number served ++ answered (same i) ∷ [])) (after_offer (automatic i) (same i) (served.posts number)).taken)
+        ∙ offer_made receiver.name receiver.places (offered_to number served) c served.run.standing.position served.run.standing.stamp found.track found.item receiver.auto (served.posts number) post.parts
+        (λ e. post.none (automatic ∙ e)))
 
-  one_told : (number place receiver : ℕ) (made : List Made) (desks : List DeskState) (d : DeskState) → receiver ≡ number + place → place < length desks
-      → slice_set desks place (told_all nodes start (get_or desks place d) made) ≡ told_each nodes start (λ n. cond (receiver == n) made []) number desks
-  one_told number place receiver made [] d at less = absurd (omega (arith, less))
-  one_told number zero receiver made (desk ∷ desks) d at less =
-      let mine : (receiver == number) ≡ true = grind (arith, at) in
-      λ i. told_all nodes start desk (cond (sym mine i) made []) ∷ sym (others_past (number + 1) receiver made desks (omega (arith, at))) i
-  one_told number (suc place) receiver made (desk ∷ desks) d at less =
-      let other : (receiver == number) ≡ false = grind (arith, at) in
-      λ i. told_all nodes start desk (cond (sym other i) made []) ∷ one_told (number + 1) place receiver made desks d (omega (arith, at)) (omega (arith, less)) i
+    -- and what it is answered
+    pub own_answer : (number : ℕ) (receiver : ReceiverInfo) → slice_get receivers number ≡ Some receiver → found.track.feed.receiver ≡ number → HasPost receivers served number
+        → answer_of (desk_answer (desk_at nodes start served number receiver)) ≡ found_answer (queueing_of receivers) found served
+    own_answer number receiver there own post =
+        let accepted : List Notification = taken_of (offered_to number served) in
+        let place : ℕ = (served.posts number).taken in
+        let left : length (drop place accepted) ≡ length accepted - place = length-drop place accepted in
+        let parts : length accepted ≡ place + (served.posts number).held = post.parts in
+        let held : length (drop place accepted) ≡ (served.posts number).held = omega (arith, left, parts) in
+        let count : length (map packet_in (drop place accepted)) ≡ (served.posts number).held = length-map (drop place accepted) packet_in ∙ held in
+        let same : found_answer (queueing_of receivers) found served ≡ answer_by receiver.places (served.posts number) =
+        ap (λ (r : ℕ). answer_by (places_of (slice_get receivers r)) (served.posts r)) own ∙ ap (λ (k : ℕ). answer_by k (served.posts number)) (ap places_of there) in
+        told (nat_lt (length (map packet_in (drop place accepted))) receiver.places)
+        ∙ (ap (λ (k : ℕ). if nat_lt k receiver.places then Took else Full) count ∙ sym same)
+      where
+        told : (room : Bool) → answer_of (if room then settled.Took else settled.Full) ≡ (if room then Took else Full)
+        told true = refl
+        told false = refl
 
-  -- a receiver is told the notices of its feed, and no other is
-  pub told_to : (state : JournalState) (feed : Feed) (notices : List Notice) (desks : List DeskState) (d : DeskState) → feed.receiver < length desks
-      → slice_set desks feed.receiver (told_all nodes start (get_or desks feed.receiver d) (made_of state notices)) ≡ sent nodes start (map (attempt_of state feed) notices) desks
-  told_to state feed notices desks d less =
-      one_told 0 feed.receiver feed.receiver (made_of state notices) desks d (omega arith) less
-      ∙ each_same (λ n. cond (feed.receiver == n) (made_of state notices) []) (λ n. made_for n (map (attempt_of state feed) notices)) (λ n. sym (mine n notices)) 0 desks
-    where
-      mine : (n : ℕ) (those : List Notice) → made_for n (map (attempt_of state feed) those) ≡ cond (feed.receiver == n) (made_of state those) []
-      mine n [] = none (feed.receiver == n)
-        where
-          none : (b : Bool) → made_of state [] ≡ cond b (made_of state []) []
-          none true = refl
-          none false = refl
-      mine n (notice ∷ those) = at (feed.receiver == n) (mine n those)
-        where
-          rest : List Attempt
-          rest = filter (λ (a : Attempt). a.receiver == n) (map (attempt_of state feed) those)
+  -- ---- takes
 
-          at : (b : Bool) → map (λ (a : Attempt). a.made) rest ≡ cond b (made_of state those) [] → map (λ (a : Attempt). a.made) (cond b (attempt_of state feed notice ∷ rest) rest) ≡ cond b (made_of state (notice ∷ those)) []
-          at true is = ap (λ (made : List Made). record { position = state.position; stamp = state.stamp; notice = notice } ∷ made) is
-          at false is = is
+  -- a receiver that takes what it takes by an entry
+  pub taking_desk : (count : ℕ) (receiver : ReceiverInfo) (offered : List Attempt) (post : Post) → length (taken_of offered) ≡ post.taken + post.held
+      → desk_by receiver.name receiver.auto receiver.places offered (taken_of offered) (after_take count post).taken ≡ desk_took count (desk_by receiver.name receiver.auto receiver.places offered (taken_of offered) post.taken)
+  taking_desk count receiver offered post parts =
+      let xs : List Notification = taken_of offered in
+      let left : length (drop post.taken xs) ≡ length xs - post.taken = length-drop post.taken xs in
+      let held : post.held ≡ length (drop post.taken xs) = omega (arith, left, parts) in
+      let packets : length (map packet_in (drop post.taken xs)) ≡ length (drop post.taken xs) = length-map (drop post.taken xs) packet_in in
+      let taken : post.taken + min count post.held ≡ post.taken + min count (length (drop post.taken xs)) = ap (λ (k : ℕ). post.taken + min count k) held in
+      let kept : drop (post.taken + min count post.held) xs ≡ drop count (drop post.taken xs) = ap (λ (k : ℕ). drop k xs) taken ∙ sym (drop_most post.taken count xs) in
+      let got : take (post.taken + min count post.held) xs ≡ take post.taken xs ++ take count (drop post.taken xs) = ap (λ (k : ℕ). take k xs) taken ∙ sym (take_most post.taken count xs) in
+      λ i. record {
+        name = receiver.name;
+        automatic = receiver.auto;
+        log = map (logged nodes start) offered;
+        taken = (taken ∙ ap (λ (k : ℕ). post.taken + min count k) (sym packets)) i;
+        queue = record { packets = (ap (map packet_in) kept ∙ sym (drop-map packet_in count (drop post.taken xs))) i; places = receiver.places };
+        waiting = (ap (map notice_in) kept ∙ sym (drop-map notice_in count (drop post.taken xs))) i;
+        trees =
+            (ap (received []) got
+            ∙ (received_more [] (take post.taken xs) (take count (drop post.taken xs))
+            ∙ (sym (hears_received (received [] (take post.taken xs)) (take count (drop post.taken xs)))
+            ∙ ap (λ (ns : List Notice). hears_all ns (received [] (take post.taken xs))) (sym (take-map notice_in count (drop post.taken xs)))))) i;
+      }
 
-  -- a receiver that is told changes, where there are any
-  pub changes_told : (state : JournalState) (desk : DeskState) (id : ℕ) (changes : List Change) (lines : List ℕ) (trees : List (ℕ × List Row)) → (length changes ≡ 0 → ⊥)
-      → lines ≡ desk.lines ++ sent_text nodes start desk.name (record { position = state.position; stamp = state.stamp; notice = Changes id state.position changes false }) → trees ≡ heard (Changes id state.position changes false) desk.trees
-      → record { name = desk.name; lines = lines; trees = trees } ≡ told_all nodes start desk (made_of state (change_update id state.position changes))
-  changes_told state desk id [] lines trees some first second = absurd (some refl)
-  changes_told state desk id (change ∷ changes) lines trees some first second = λ i. record { name = desk.name; lines = first i; trees = second i }
+  -- ---- the desks of all receivers
 
-  -- ---- in the end
+  -- there is one for each receiver
+  pub desks_length : (served : Served) (number : ℕ) (receivers : List ReceiverInfo) → length (desks_at nodes start served number receivers) ≡ length receivers
+  desks_length served number [] = refl
+  desks_length served number (receiver ∷ receivers) = ap (λ (n : ℕ). suc n) (desks_length served (number + 1) receivers)
 
-  -- the lines of a receiver
-  pub desk_told : (receiver : ReceiverInfo) (made : List Made) → desk_text nodes (told_all nodes start (bare_desk receiver) made) ≡ receiver_text nodes start (receiver_report receiver made)
-  desk_told receiver made = record_text (lines_told (bare_desk receiver) made) (name_told (bare_desk receiver) made) (trees_told (bare_desk receiver) made)
-    where
-      record_text : {desk other : DeskState} → desk.lines ≡ other.lines → desk.name ≡ other.name → desk.trees ≡ other.trees → desk_text nodes desk ≡ desk_text nodes other
-      record_text lines name trees = λ i. desk_text nodes (record { name = name i; lines = lines i; trees = trees i })
+  pub desk_there : (served : Served) (number place at : ℕ) (receivers : List ReceiverInfo) (receiver : ReceiverInfo) (d : DeskState) → at ≡ number + place → slice_get receivers place ≡ Some receiver
+      → get_or (desks_at nodes start served number receivers) place d ≡ desk_at nodes start served at receiver
+  desk_there served number place at [] receiver d is there = absurd cc
+  desk_there served number zero at (one ∷ receivers) receiver d is there =
+      let same : one ≡ receiver = cc in
+      let first : number ≡ at = omega (arith, is) in
+      λ i. desk_at nodes start served (first i) (same i)
+  desk_there served number (suc place) at (one ∷ receivers) receiver d is there = desk_there served (number + 1) place at receivers receiver d (omega (arith, is)) there
 
-  pub desks_told : (made : ℕ → List Made) (number : ℕ) (receivers : List ReceiverInfo)
-      → flat_map (desk_text nodes) (told_each nodes start made number (map bare_desk receivers)) ≡ flat_map (receiver_text nodes start) (receiver_reports (made_for_each made number receivers) receivers)
-  desks_told made number [] = refl
-  desks_told made number (receiver ∷ receivers) = λ i. desk_told receiver (made number) i ++ desks_told made (number + 1) receivers i
+  -- where those of all others stay
+  same_desks : (served next : Served) (number : ℕ) (receivers : List ReceiverInfo) → ((k : ℕ) (r : ReceiverInfo) → number ≤ k → desk_at nodes start next k r ≡ desk_at nodes start served k r)
+      → desks_at nodes start served number receivers ≡ desks_at nodes start next number receivers
+  same_desks served next number [] same = refl
+  same_desks served next number (one ∷ receivers) same = λ i. sym (same number one (omega arith)) i ∷ same_desks served next (number + 1) receivers (λ k r later. same k r (omega (arith, later))) i
 
-  -- what receivers hold can be written, where what they were made leaves what can be shown
-  pub desks_writable : (made : ℕ → List Made) → ((n : ℕ) → CanBeShown nodes (received [] (made n))) → (number : ℕ) (receivers : List ReceiverInfo)
-      → AllByRecursion (λ (desk : DeskState). CanBeShown nodes desk.trees) (told_each nodes start made number (map bare_desk receivers))
-  desks_writable made shown number [] = tt
-  desks_writable made shown number (receiver ∷ receivers) = (shown_at (sym (trees_told (bare_desk receiver) (made number))) (shown number), desks_writable made shown (number + 1) receivers)
-    where
-      shown_at : {held other : List (ℕ × List Row)} → held ≡ other → CanBeShown nodes held → CanBeShown nodes other
-      shown_at is can = subst (λ (trees : List (ℕ × List Row)). CanBeShown nodes trees) is can
+  -- where one changes, and those of all others stay
+  pub one_desk : (served next : Served) (number place at : ℕ) (receivers : List ReceiverInfo) (receiver : ReceiverInfo) → at ≡ number + place → slice_get receivers place ≡ Some receiver
+      → ((k : ℕ) (r : ReceiverInfo) → (at == k) ≡ false → desk_at nodes start next k r ≡ desk_at nodes start served k r)
+      → slice_set (desks_at nodes start served number receivers) place (desk_at nodes start next at receiver) ≡ desks_at nodes start next number receivers
+  one_desk served next number place at [] receiver is there same = absurd cc
+  one_desk served next number zero at (one ∷ receivers) receiver is there same =
+      let this : receiver ≡ one = cc in
+      let first : at ≡ number = omega (arith, is) in
+      λ i. desk_at nodes start next (first i) (this i) ∷ same_desks served next (number + 1) receivers (λ k r later. same k r (grind (arith, later, first))) i
+  one_desk served next number (suc place) at (one ∷ receivers) receiver is there same =
+      λ i. sym (same number one (grind (arith, is))) i ∷ one_desk served next (number + 1) place at receivers receiver (omega (arith, is)) there same i

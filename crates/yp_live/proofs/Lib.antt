@@ -1,10 +1,12 @@
-pub mod ClassLaws
+pub mod Accepting
 pub mod Desks
-pub mod FeedLaws
 pub mod Held
 pub mod Journals
-pub mod Lines
 pub mod Promises
-pub mod RunLaws
-pub mod StepLaws
+pub mod Reached
+pub mod Results
+pub mod Running
+pub mod Taking
+pub mod Told
 pub mod TurnLaws
+pub mod Turning

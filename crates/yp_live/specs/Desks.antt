@@ -1,37 +1,124 @@
--- What receivers are sent, as desks keep it.
-use Rattle.std.specs.Prelude.{ℕ, ◌+◌, List, [], ◌∷◌, ◌++◌}
+-- The desk of a receiver: what was offered to it, what stands in its queue, and what it holds.
+use Rattle.std.specs.Prelude.{ℕ, zero, suc, ◌+◌, min, List, [], ◌∷◌, ◌++◌, length, map, take, drop, Bool, true, false, codes, decimal, if◌then◌else◌}
+use Rattle.std.specs.List.{flat_map}
+use Rattle.yp_base.specs.declared.notice.Notice.{Notice}
 use Rattle.yp_base.specs.declared.row.Row.{Row}
 use Rattle.yp_schema.specs.declared.schema.SchemaNode.{SchemaNode}
+use Rattle.yp_encode.specs.Lines.{line_of}
 use Rattle.yp_journal.specs.declared.receiver.ReceiverInfo.{ReceiverInfo}
-use Rattle.yp_core.specs.declared.made.Made.{Made}
-use Rattle.yp_core.specs.Received.{heard}
-use Rattle.yp_core.specs.Updates.{Attempt, made_for}
-use Rattle.yp_live.specs.Report.{sent_text}
+use Rattle.yp_queue.specs.declared.packet.Packet.{Packet}
+use Rattle.yp_queue.specs.Queues.{QueueState, has_room, with_packets}
+use Rattle.yp_roster.specs.declared.settling.Settled.{Settled}
+use Rattle.yp_roster.specs.declared.settling.Settled.TheVariants as answers
+use Rattle.yp_attempt.specs.Tracks.{Answer, Took, Full, Attempt}
+use Rattle.yp_serial.specs.Serial.{Served}
+use Rattle.yp_worker.specs.Packets.{packet_of}
+use Rattle.yp_moment.specs.Notices.{notice_of}
+use Rattle.yp_promise.specs.Received.{hears, received}
+use Rattle.yp_promise.specs.Shown.{count_taken, got_by, kept_for, offered_to}
+use Rattle.yp_live.specs.declared.desk.Logged.{Logged}
+use Rattle.yp_live.specs.declared.desk.Logged.TheVariants as logs
+use Rattle.yp_live.specs.Report.{tree_text}
 
--- what a receiver was sent: its name, the lines of all notices, and what it holds of each subscription
+-- what a desk has: the receiver's name and whether it takes each packet at once; of each offer the line that was accepted, or that the queue was full; how many packets it took; its queue, with the notifications of the packets there; and what it holds of each subscription
 pub record DeskState : Type 0 where
   pub name : List ℕ
-  pub lines : List ℕ
+  pub automatic : Bool
+  pub log : List Logged
+  pub taken : ℕ
+  pub queue : QueueState
+  pub waiting : List Notice
   pub trees : List (ℕ × List Row)
 
--- a receiver that was sent nothing
-abbrev pub bare_desk : ReceiverInfo → DeskState
-bare_desk receiver = record { name = receiver.name; lines = []; trees = [] }
+-- ---- by a serial run
 
--- after one notice more
-abbrev pub told : List SchemaNode → ℕ → DeskState → Made → DeskState
-told nodes start desk made = record { name = desk.name; lines = desk.lines ++ sent_text nodes start desk.name made; trees = heard made.notice desk.trees }
+-- what is logged of an attempt
+abbrev pub logged_by : Answer → List SchemaNode → ℕ → Attempt → Logged
+logged_by Took nodes start a = logs.Line (line_of nodes start a.made.tick (notice_of a.sub a.made))
+logged_by Full nodes start a = logs.FullAt a.sub a.at
 
--- after more notices, in order
-abbrev pub told_all : List SchemaNode → ℕ → DeskState → List Made → DeskState
-told_all nodes start desk [] = desk
-told_all nodes start desk (made ∷ more) = told_all nodes start (told nodes start desk made) more
+abbrev pub logged : List SchemaNode → ℕ → Attempt → Logged
+logged nodes start a = logged_by a.answer nodes start a
 
--- receivers in order, the first of which has this number, after so much more for each
-abbrev pub told_each : List SchemaNode → ℕ → (ℕ → List Made) → ℕ → List DeskState → List DeskState
-told_each nodes start more number [] = []
-told_each nodes start more number (desk ∷ desks) = told_all nodes start desk (more number) ∷ told_each nodes start more (number + 1) desks
+-- the desk of the receiver of a number where a serial run stands
+abbrev pub desk_at : List SchemaNode → ℕ → Served → ℕ → ReceiverInfo → DeskState
+desk_at nodes start served number receiver = record {
+  name = receiver.name;
+  automatic = receiver.auto;
+  log = map (logged nodes start) (offered_to number served);
+  taken = count_taken number served;
+  queue = record { packets = map (λ n. packet_of nodes start n.sub n.made) (kept_for number served); places = receiver.places };
+  waiting = map (λ n. notice_of n.sub n.made) (kept_for number served);
+  trees = received [] (got_by number served);
+}
 
--- all receivers after attempts
-abbrev pub sent : List SchemaNode → ℕ → List Attempt → List DeskState → List DeskState
-sent nodes start attempts desks = told_each nodes start (λ number. made_for number attempts) 0 desks
+-- the desks of receivers in order, the first of which has this number
+abbrev pub desks_at : List SchemaNode → ℕ → Served → ℕ → List ReceiverInfo → List DeskState
+desks_at nodes start served number [] = []
+desks_at nodes start served number (receiver ∷ receivers) = desk_at nodes start served number receiver ∷ desks_at nodes start served (number + 1) receivers
+
+-- ---- takes
+
+-- what is held after notifications that are taken, in order
+abbrev pub hears_all : List Notice → List (ℕ × List Row) → List (ℕ × List Row)
+hears_all [] trees = trees
+hears_all (notice ∷ notices) trees = hears_all notices (hears notice trees)
+
+-- the receiver takes up to so many packets
+abbrev pub desk_took : ℕ → DeskState → DeskState
+desk_took count desk = record desk {
+  taken = desk.taken + min count (length desk.queue.packets);
+  queue = record { packets = drop count desk.queue.packets; places = desk.queue.places };
+  waiting = drop count desk.waiting;
+  trees = hears_all (take count desk.waiting) desk.trees;
+}
+
+-- ---- offers
+
+-- where the receiver takes each packet at once, it takes the oldest one
+abbrev pub desk_served : Bool → DeskState → DeskState
+desk_served true desk = desk_took 1 desk
+desk_served false desk = desk
+
+-- an offer that is accepted: its line is kept, and its packet and its notification are the newest
+abbrev pub desk_accepted : Packet → Notice → DeskState → DeskState
+desk_accepted packet notice desk = record desk {
+  log = desk.log ++ logs.Line packet.line ∷ [];
+  queue = with_packets desk.queue (desk.queue.packets ++ packet ∷ []);
+  waiting = desk.waiting ++ notice ∷ [];
+}
+
+-- the desk after an offer at a position, by whether there is room in its queue
+abbrev pub desk_offered_by : Bool → Packet → Notice → ℕ → DeskState → DeskState
+desk_offered_by true packet notice at desk = desk_served desk.automatic (desk_accepted packet notice desk)
+desk_offered_by false packet notice at desk = record desk { log = desk.log ++ logs.FullAt packet.sub at ∷ [] }
+
+abbrev pub desk_offered : Packet → Notice → ℕ → DeskState → DeskState
+desk_offered packet notice at desk = desk_offered_by (has_room desk.queue) packet notice at desk
+
+-- what an offer is answered
+abbrev pub desk_answer : DeskState → Settled
+desk_answer desk = if has_room desk.queue then answers.Took else answers.Full
+
+-- ---- lines
+
+-- what is told of an offer, where so many packets that were accepted are taken and not told yet: a packet that is taken, or that the queue was full
+abbrev pub logged_text : List ℕ → Logged → ℕ → List ℕ
+logged_text name (logs.Line line) zero = []
+logged_text name (logs.Line line) (suc taken) = codes "to " ++ name ++ codes " " ++ line ++ codes "\n"
+logged_text name (logs.FullAt sub position) taken = codes "full " ++ name ++ codes " " ++ decimal sub ++ codes " " ++ decimal position ++ codes "\n"
+
+-- how many are taken and not told after it
+abbrev pub left_after : Logged → ℕ → ℕ
+left_after (logs.Line line) zero = zero
+left_after (logs.Line line) (suc taken) = taken
+left_after (logs.FullAt sub position) taken = taken
+
+-- what is told of a log
+abbrev pub log_text : List ℕ → ℕ → List Logged → List ℕ
+log_text name taken [] = []
+log_text name taken (one ∷ log) = logged_text name one taken ++ log_text name (left_after one taken) log
+
+-- the lines of a desk: those of its log, and then what it holds
+abbrev pub desk_text : List SchemaNode → DeskState → List ℕ
+desk_text nodes desk = log_text desk.name desk.taken desk.log ++ flat_map (tree_text nodes desk.name) desk.trees

@@ -1,12 +1,7 @@
-pub mod Classes
 pub mod Desks
-pub mod Feeds
 pub mod Holdings
 pub mod Journal
 pub mod Promise
-pub mod Readers
-pub mod Records
 pub mod Report
 pub mod Runs
-pub mod Selections
 pub mod Turns

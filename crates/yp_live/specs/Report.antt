@@ -1,4 +1,4 @@
--- The report of a run, as a value and as a text: the replies by position, then for each receiver what it was sent and what it holds, and `end`.
+-- The report of a run, as a value and as a text: the replies by position, then for each receiver what it took, where its queue was full and what it holds, and `end`.
 use Rattle.std.specs.Prelude.{ℕ, ◌+◌, List, [], ◌∷◌, ◌++◌, true, Option, Some, None, codes, decimal}
 use Rattle.std.specs.List.{flat_map}
 use Rattle.serde_json.specs.Data.{Data, boolean, number, unsigned, string, object, Members, no_members, member}
@@ -15,8 +15,10 @@ use Rattle.yp_journal.specs.declared.reply.Reply.{Reply}
 use Rattle.yp_journal.specs.declared.reply.Reply.TheVariants.{Id, Done, Registry, Edit}
 use Rattle.yp_registry.specs.declared.refused.Refused.{Refused}
 use Rattle.yp_registry.specs.declared.refused.Refused.TheVariants.{AccessDenied, EncodingUnsupported, DatastoreNotSubscribable, FilterUnsupported, PeriodUnsupported, InsufficientResources, Memory}
-use Rattle.yp_core.specs.declared.made.Made.{Made}
-use Rattle.yp_core.specs.Received.{received}
+use Rattle.yp_serial.specs.Serial.{Served}
+use Rattle.yp_moment.specs.Notices.{notice_of}
+use Rattle.yp_promise.specs.Received.{received}
+use Rattle.yp_promise.specs.Shown.{Shown, Got, FullAt, count_taken, got_by, offered_to, shown_of}
 
 -- ---- the value
 
@@ -27,10 +29,10 @@ pub record ReplyLine : Type 0 where
   pub index : ℕ
   pub reply : Reply
 
--- what is told of a receiver: what it was sent, and what it holds of each subscription
+-- what is told of a receiver: what it took and where its queue was full, in the order of the offers, and what it holds of each subscription
 pub record ReceiverReport : Type 0 where
   pub name : List ℕ
-  pub sent : List Made
+  pub shown : List Shown
   pub trees : List (ℕ × List Row)
 
 -- the replies by position, and what is told of each receiver, in the order of their declaration
@@ -43,19 +45,22 @@ abbrev pub reply_lines : ℕ → List Entry → List ReplyLine
 reply_lines n [] = []
 reply_lines n (entry ∷ entries) = record { position = n; lane = entry.lane; index = entry.index; reply = entry.reply } ∷ reply_lines (n + 1) entries
 
--- what is told of a receiver: its name, all that it was made, and what it holds of that; a queue of one place or more never fills, since a receiver that takes by itself takes each packet at once
-abbrev pub receiver_report : ReceiverInfo → List Made → ReceiverReport
-receiver_report receiver made = record { name = receiver.name; sent = made; trees = received [] made }
+-- what is told of the receiver of a number, by a serial run
+abbrev pub receiver_report : Served → ℕ → ReceiverInfo → ReceiverReport
+receiver_report served n receiver = record {
+  name = receiver.name;
+  shown = shown_of (count_taken n served) (offered_to n served);
+  trees = received [] (got_by n served);
+}
 
--- the same of receivers in order
-abbrev pub receiver_reports : List (List Made) → List ReceiverInfo → List ReceiverReport
-receiver_reports [] receivers = []
-receiver_reports (mine ∷ made) [] = []
-receiver_reports (mine ∷ made) (receiver ∷ receivers) = receiver_report receiver mine ∷ receiver_reports made receivers
+-- the same of receivers in order, the first of which has this number
+abbrev pub receiver_reports : Served → ℕ → List ReceiverInfo → List ReceiverReport
+receiver_reports served n [] = []
+receiver_reports served n (receiver ∷ receivers) = receiver_report served n receiver ∷ receiver_reports served (n + 1) receivers
 
--- the report of the entries of a journal and of what was made for each receiver
-abbrev pub report_of : List ReceiverInfo → List Entry → List (List Made) → Report
-report_of receivers entries made = record { replies = reply_lines 1 entries; receivers = receiver_reports made receivers }
+-- the report of the entries of a journal and of its serial run
+abbrev pub report_of : List ReceiverInfo → List Entry → Served → Report
+report_of receivers entries served = record { replies = reply_lines 1 entries; receivers = receiver_reports served 0 receivers }
 
 -- ---- its text
 
@@ -100,9 +105,10 @@ reply_data (Edit edit_id tag path) = object (member (codes "edit-id") (string ed
 unfoldable pub reply_text : ReplyLine → List ℕ
 reply_text line = codes "reply " ++ decimal line.position ++ codes " " ++ decimal line.lane ++ codes " " ++ decimal line.index ++ codes " " ++ compact_text (reply_data line.reply) ++ codes "\n"
 
--- the line of a notice that the receiver of this name was sent
-unfoldable pub sent_text : List SchemaNode → ℕ → List ℕ → Made → List ℕ
-sent_text nodes start name made = codes "to " ++ name ++ codes " " ++ line_of nodes start made.stamp made.notice ++ codes "\n"
+-- the line of what is shown of the receiver of this name: a notification that it took, or that its queue was full when something of a subscription was offered at a position
+unfoldable pub shown_text : List SchemaNode → ℕ → List ℕ → Shown → List ℕ
+shown_text nodes start name (Got n) = codes "to " ++ name ++ codes " " ++ line_of nodes start n.made.tick (notice_of n.sub n.made) ++ codes "\n"
+shown_text nodes start name (FullAt sub position) = codes "full " ++ name ++ codes " " ++ decimal sub ++ codes " " ++ decimal position ++ codes "\n"
 
 -- the line of what it holds of a subscription, by id
 unfoldable pub tree_text : List SchemaNode → List ℕ → ℕ × List Row → List ℕ
@@ -110,7 +116,7 @@ tree_text nodes name tree = codes "tree " ++ name ++ codes " " ++ decimal tree.0
 
 -- the lines of a receiver
 abbrev pub receiver_text : List SchemaNode → ℕ → ReceiverReport → List ℕ
-receiver_text nodes start receiver = flat_map (sent_text nodes start receiver.name) receiver.sent ++ flat_map (tree_text nodes receiver.name) receiver.trees
+receiver_text nodes start receiver = flat_map (shown_text nodes start receiver.name) receiver.shown ++ flat_map (tree_text nodes receiver.name) receiver.trees
 
 -- the text of a report
 abbrev pub report_text : List SchemaNode → ℕ → Report → List ℕ

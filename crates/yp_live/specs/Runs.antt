@@ -1,75 +1,95 @@
 -- How far a run has come, and what of it can be written.
-use Rattle.std.specs.Prelude.{◌≡◌, ℕ, List, ◌++◌, Bool, true, false, map, codes}
+use Rattle.std.specs.Prelude.{◌≡◌, ℕ, ◌+◌, ◌≤◌, Bool, true, false, List, [], ◌∷◌, ◌++◌, map, codes}
 use Rattle.std.specs.List.{AllByRecursion, flat_map}
 use Rattle.yp_schema.specs.declared.schema.SchemaNode.{SchemaNode}
-use Rattle.yp_nacm.specs.declared.compile.UserRules.{UserRules}
-use Rattle.yp_edit.specs.Changes.{changed_rows}
 use Rattle.yp_journal.specs.declared.command.Command.{Command}
-use Rattle.yp_journal.specs.declared.command.Command.TheVariants.{Tick, Edit, Rules, Establish}
 use Rattle.yp_journal.specs.declared.entry.Entry.{Entry}
 use Rattle.yp_journal.specs.declared.receiver.ReceiverInfo.{ReceiverInfo}
-use Rattle.yp_journal.specs.declared.state.Outcome.{Outcome}
-use Rattle.yp_journal.specs.History.{JournalState, first_state, next_state, reply_to, state_of, MayCome, IsLegal}
-use Rattle.yp_core.specs.Sending.{CanBeShown}
-use Rattle.yp_core.specs.States.{Fits}
-use Rattle.yp_core.specs.Updates.{all_feeds, made_by}
+use Rattle.yp_attempt.specs.Attempts.{answers_in}
+use Rattle.yp_moment.specs.Windows.{recorded}
+use Rattle.yp_serial.specs.Serial.{Served}
+use Rattle.yp_serial.specs.Weights.{weights}
+use Rattle.yp_worker.specs.declared.worker.Worker.{Worker}
+use Rattle.yp_worker.specs.Workers.{IsIdleWorkerOf, IsWorkerOf}
+use Rattle.yp_promise.specs.Posts.{HavePosts}
+use Rattle.yp_promise.specs.Received.{CanBeShown}
+use Rattle.yp_promise.specs.Serving.{IsServing, all_numbers, run_of, taken_by}
+use Rattle.yp_live.specs.declared.run.Replied.{Replied}
 use Rattle.yp_live.specs.declared.run.Run.{Run}
-use Rattle.yp_live.specs.Classes.{AreClassesOf}
-use Rattle.yp_live.specs.Desks.{DeskState, bare_desk, told_each}
-use Rattle.yp_live.specs.Readers.{rules_of_each}
-use Rattle.yp_live.specs.Records.{IsFormer}
-use Rattle.yp_live.specs.Report.{reply_lines, reply_text, tree_text}
-use Rattle.yp_live.specs.Selections.{AreSelected}
+use Rattle.yp_live.specs.Desks.{DeskState, desk_text, desk_took, desks_at}
+use Rattle.yp_live.specs.Report.{ReplyLine, reply_text}
 
--- ---- steps
+-- the reply of an entry, with its lane and its number there
+abbrev pub replied_of : Entry → Replied
+replied_of entry = record { lane = entry.lane; index = entry.index; reply = entry.reply }
 
--- what came of a command of these receivers that found one state, with these rules of their users, and left another
-pub record IsStep (nodes : List SchemaNode) (receivers : List ReceiverInfo) (readers : List UserRules) (before : JournalState) (command : Command) (outcome : Outcome) (after : JournalState) : Type 0 where
-  pub fits : Fits nodes before
-  pub declared : before.receivers ≡ receivers
-  pub rules : readers ≡ rules_of_each before.policy receivers
-  pub may : MayCome nodes receivers command
-  pub state : after ≡ next_state nodes before command
-  pub reply : outcome.reply ≡ reply_to nodes before command
-  pub changed : outcome.changed ≡ changed_rows before.rows after.rows
+-- ---- between two turns
 
--- whether a command leaves the rows and the policy by what it is
-abbrev pub is_quiet : Command → Bool
-is_quiet (Tick tick) = true
-is_quiet (Edit patch) = false
-is_quiet (Rules policy) = false
-is_quiet (Establish by ask) = true
+-- a run of these receivers so far, between two turns: its worker has taken the entries and has nothing to offer, the replies are those of the entries, and each desk is that of their serial run
+pub record IsRun (nodes : List SchemaNode) (start : ℕ) (receivers : List ReceiverInfo) (entries : List Entry) (run : Run) : Type 0 where
+  pub worker : IsIdleWorkerOf nodes start receivers (all_numbers receivers) entries (answers_in (run_of nodes receivers entries).run.done) run.worker
+  pub replies : run.replies.items ≡ map replied_of entries
+  pub desks : run.desks.items ≡ desks_at nodes start (run_of nodes receivers entries) 0 receivers
 
--- whether a command is another policy
-abbrev pub is_policy : Command → Bool
-is_policy (Tick tick) = false
-is_policy (Edit patch) = false
-is_policy (Rules policy) = true
-is_policy (Establish by ask) = false
+-- so it is of some entries
+pub record IsSomeRun (nodes : List SchemaNode) (start : ℕ) (receivers : List ReceiverInfo) (run : Run) : Type 0 where
+  pub entries : List Entry
+  pub is : IsRun nodes start receivers entries run
 
--- ---- runs
+-- ---- takes
 
--- a run of these receivers so far: a legal journal, the state that it leaves, the own rules of each receiver's user there, the classes of the feeds there, selections at that state, a former tree of its rows where there is one, and each receiver after all that the journal makes for it
-pub record IsRun (nodes : List SchemaNode) (start : ℕ) (receivers : List ReceiverInfo) (run : Run) : Type 0 where
-  pub fits : Fits nodes run.state
-  pub declared : run.state.receivers ≡ receivers
-  pub rules : run.readers ≡ rules_of_each run.state.policy receivers
-  pub legal : IsLegal nodes (first_state receivers) run.entries.items
-  pub state : run.state ≡ state_of nodes (first_state receivers) run.entries.items
-  pub classes : AreClassesOf nodes run.readers (all_feeds run.state) run.outbox.classes
-  pub selections : AreSelected nodes run.state run.outbox.selections.items
-  pub former : IsFormer run.state.rows run.outbox.former
-  pub desks : run.outbox.desks.items ≡ told_each nodes start (made_by nodes receivers run.entries.items) 0 (map bare_desk receivers)
+-- the desks, the first of which has this number, after the receivers took what they take by a command
+abbrev pub desks_took : Command → ℕ → List DeskState → List DeskState
+desks_took command number [] = []
+desks_took command number (desk ∷ desks) = desk_took (taken_by command number) desk ∷ desks_took command (number + 1) desks
+
+-- ---- offers
+
+-- a run on its way: its worker stands for the entries and for the answers of a serial run of them, and so does each desk
+pub record IsOnItsWay (nodes : List SchemaNode) (start : ℕ) (receivers : List ReceiverInfo) (entries : List Entry) (served : Served) (worker : Worker) (desks : List DeskState) : Type 0 where
+  pub serving : IsServing nodes receivers entries served
+  pub posts : HavePosts receivers served
+  pub stands : IsWorkerOf nodes start receivers (all_numbers receivers) entries (answers_in served.run.done) worker
+  pub are : desks ≡ desks_at nodes start served 0 receivers
+
+-- so it is of some entries and some serial run of them
+pub record IsOnSomeWay (nodes : List SchemaNode) (worker : Worker) (desks : List DeskState) : Type 0 where
+  pub start : ℕ
+  pub receivers : List ReceiverInfo
+  pub entries : List Entry
+  pub served : Served
+  pub is : IsOnItsWay nodes start receivers entries served worker desks
+
+-- all was offered: the worker has nothing to offer, and each desk is that of the serial run of the entries
+pub record IsThrough (nodes : List SchemaNode) (start : ℕ) (receivers : List ReceiverInfo) (entries : List Entry) (worker : Worker) (desks : List DeskState) : Type 0 where
+  pub idle : IsIdleWorkerOf nodes start receivers (all_numbers receivers) entries (answers_in (run_of nodes receivers entries).run.done) worker
+  pub are : desks ≡ desks_at nodes start (run_of nodes receivers entries) 0 receivers
+
+-- how many offers may still come where a serial run stands
+abbrev pub offers_left : Served → ℕ
+offers_left served = weights recorded served.run.standing.stamp served.run.standing.tracks
+
+-- at least so many offers were answered since a serial run stood there
+pub record GoesOn (nodes : List SchemaNode) (start : ℕ) (receivers : List ReceiverInfo) (entries : List Entry) (served : Served) (count : ℕ) (worker : Worker) (desks : List DeskState) : Type 0 where
+  pub next : Served
+  pub fewer : offers_left next + count ≤ offers_left served
+  pub is : IsOnItsWay nodes start receivers entries next worker desks
+
+-- so it goes on, or all was offered
+abbrev pub GoesOnIf : Bool → List SchemaNode → ℕ → List ReceiverInfo → List Entry → Served → ℕ → Worker → List DeskState → Type 0
+GoesOnIf true nodes start receivers entries served count worker desks = GoesOn nodes start receivers entries served count worker desks
+GoesOnIf false nodes start receivers entries served count worker desks = IsThrough nodes start receivers entries worker desks
 
 -- ---- what is told in the end
 
--- the lines of a receiver: those of its notices, and then what it holds
-abbrev pub desk_text : List SchemaNode → DeskState → List ℕ
-desk_text nodes desk = desk.lines ++ flat_map (tree_text nodes desk.name) desk.trees
+-- the lines of replies, the first of which has this position
+abbrev pub replied_lines : ℕ → List Replied → List ReplyLine
+replied_lines n [] = []
+replied_lines n (replied ∷ replies) = record { position = n; lane = replied.lane; index = replied.index; reply = replied.reply } ∷ replied_lines (n + 1) replies
 
--- the text of a journal's replies and of desks
-abbrev pub text_from : List SchemaNode → List Entry → List DeskState → List ℕ
-text_from nodes entries desks = flat_map reply_text (reply_lines 1 entries) ++ (flat_map (desk_text nodes) desks ++ codes "end\n")
+-- the text of replies and of desks
+abbrev pub text_from : List SchemaNode → List Replied → List DeskState → List ℕ
+text_from nodes replies desks = flat_map reply_text (replied_lines 1 replies) ++ (flat_map (desk_text nodes) desks ++ codes "end\n")
 
 -- desks of which there is a text
 abbrev pub CanBeWritten : List SchemaNode → List DeskState → Type 0

@@ -1,152 +1,183 @@
-//! What a receiver is sent.
-ghost use Rattle.std.specs.Prelude.{◌≡◌, ◌++◌, [], false, IfOk, OnOk, string_bytes};
-ghost use Rattle.serde_json.specs.Written.{compact_text};
-ghost use Rattle.yp_base.specs.declared.notice.Notice.TheVariants.{Full, Changes as ChangeUpdate};
-ghost use Rattle.yp_data_json.specs.Writing.{rows_json};
-ghost use Rattle.yp_encode.specs.Lines.{patch_data};
-ghost use Rattle.yp_core.specs.AttemptLaws.{made_of};
-ghost use Rattle.yp_core.specs.Sending.{CanBeShown};
-ghost use Rattle.yp_core.specs.Updates.{change_update};
-ghost use Rattle.yp_live.specs.Desks.{bare_desk, told, told_all};
-ghost use Rattle.yp_live.specs.Report.{sent_text};
-ghost use Rattle.yp_live.specs.Runs.{desk_text};
+//! The desk of a receiver.
+ghost use Rattle.std.specs.Prelude.{◌≡◌, ◌≤◌, ◌++◌, ℕ, List, IfOk, OnOk, string_bytes};
+ghost use Rattle.yp_schema.specs.declared.schema.SchemaNode.{SchemaNode};
+ghost use Rattle.yp_promise.specs.Received.{CanBeShown};
+ghost use Rattle.yp_serial.specs.Serial.{first_served};
+ghost use Rattle.yp_live.specs.Desks.{desk_answer, desk_at, desk_offered, desk_text, desk_took, left_after, log_text, logged_text};
 
 use crate::holdings::Holdings;
-use crate::moment::Moment;
-use crate::records::Record;
-use crate::selections::Content;
 use crate::trees::push_trees;
-use std::alloc::Global;
+use circular_buffer::HeapCircularBuffer;
+use std::alloc::{AllocError, Global};
 use std::marker::Model;
 use std::sync::ledger::Ledger;
 use yp_base::memory::{Duplicate, NoMemory};
+use yp_base::notice::Notice;
 use yp_base::steps::Steps;
 use yp_base::txt::Txt;
-use yp_encode::line::{push_changes_line, push_full_line};
 use yp_journal::receiver::ReceiverInfo;
+use yp_queue::local::LocalQueue;
+use yp_queue::packet::{Offered, Packet};
+use yp_roster::settling::Settled;
 use yp_schema::schema::Schema;
+use yp_worker::offering::Sent;
 
-/// What a receiver was sent: its name, the lines of it, and what it holds of each subscription. Contracts
-/// see a record of these.
+/// What is kept of an offer.
+#[derive(Drop)]
+pub enum Logged {
+    /// The line of the packet, which the queue accepted.
+    Line(Txt),
+    /// The queue was full when something of a subscription was offered at a position.
+    FullAt { sub: u32, position: u64 },
+}
+
+/// What a receiver has: its name, whether it takes each packet at once, what is kept of the offers to it, how
+/// many packets it took, its queue, with the notifications of the packets there, and what it holds of each
+/// subscription. Contracts see a record of these.
 #[derive(Drop)]
 pub struct Desk {
     name: Txt,
-    lines: String,
+    automatic: bool,
+    log: Vec<Logged>,
+    taken: usize,
+    queue: LocalQueue,
+    waiting: HeapCircularBuffer<Notice>,
     trees: Holdings,
 }
 
 impl Model for Desk {
-    ghost use Rattle.std.specs.Prelude.{string_bytes};
+    ghost use Rattle.std.specs.Prelude.{◌≡◌, ◌+◌, ◌≤◌, length};
     ghost use Rattle.yp_live.specs.Desks.{DeskState};
 
     ghost Value = { DeskState };
 
-    ghost view = { λ d. record { name = d.name; lines = string_bytes d.lines; trees = d.trees } };
+    ghost view = { λ d. record { name = d.name; automatic = d.automatic; log = d.log.items; taken = d.taken; queue = d.queue; waiting = d.waiting.items; trees = d.trees } };
+
+    // A notification waits for each packet in the queue, and of each packet that was accepted there is a line.
+    ghost invariant = { λ d. (length d.waiting.items ≡ length d.queue.packets) × (d.waiting.capacity ≡ d.queue.places) × (d.taken + length d.waiting.items ≤ length d.log.items) };
 }
 
-/// Adds the line of a full update for the receiver of this name.
-#[tactic(auto, unfolding(crate::specs::Report::sent_text))]
-fn push_full(
-    alloc: Global,
-    lines: &mut String,
-    moment: &Moment,
+/// Adds what is told of an offer, and gives how many packets that were taken are not told yet.
+fn push_logged(
+    text: &mut String,
     name: &str,
-    id: u32,
-    content: &Content,
-) -> Result<(), NoMemory>
-    requires { content.now.text ≡ compact_text (rows_json moment.now.schema.now [] content.now.rows) }
-    ensures { OnOk result (string_bytes lines.new ≡ string_bytes lines.old
-        ++ sent_text moment.now.schema.now moment.now.start.now name.now (record { position = moment.now.state.now.position; stamp = moment.now.state.now.stamp; notice = Full id content.now.rows })) }
+    logged: &Logged,
+    taken: usize,
+) -> Result<usize, AllocError>
+    ensures left { IfOk result (λ left. left ≡ left_after logged.now taken) }
+    ensures text { OnOk result (string_bytes text.new ≡ string_bytes text.old ++ logged_text name.now logged.now taken) }
 {
-    write!(lines, "to {name} ")?;
-    push_full_line(
-        alloc,
-        lines,
-        moment.start,
-        moment.state.stamp(),
-        id,
-        content.text.as_str(),
-    )?;
-    lines.push_str("\n")?;
-    Ok(())
+    match logged {
+        Logged::Line(line) => {
+            if taken == 0 {
+                return Ok(0);
+            }
+            let line = line.as_str();
+            writeln!(text, "to {name} {line}")?;
+            Ok(taken - 1)
+        }
+        Logged::FullAt { sub, position } => {
+            writeln!(text, "full {name} {sub} {position}")?;
+            Ok(taken)
+        }
+    }
 }
 
-/// Adds the line of a change update for the receiver of this name.
-#[tactic(auto, unfolding(crate::specs::Report::sent_text))]
-fn push_changes(
-    alloc: Global,
-    lines: &mut String,
-    moment: &Moment,
-    name: &str,
-    id: u32,
-    told: &Record,
-) -> Result<(), NoMemory>
-    requires { told.now.text ≡ compact_text (patch_data moment.now.schema.now moment.now.state.now.position told.now.changes) }
-    ensures { OnOk result (string_bytes lines.new ≡ string_bytes lines.old
-        ++ sent_text moment.now.schema.now moment.now.start.now name.now (record { position = moment.now.state.now.position; stamp = moment.now.state.now.stamp; notice = ChangeUpdate id moment.now.state.now.position told.now.changes false })) }
+/// The lines of a log, of which so many packets were taken. Each is let go once it is told.
+fn log_text(alloc: Global, name: &str, log: Vec<Logged>, taken: usize) -> Result<String, AllocError>
+    ensures { IfOk result (λ text. string_bytes text ≡ log_text name.now taken log.items) }
 {
-    write!(lines, "to {name} ")?;
-    push_changes_line(
-        alloc,
-        lines,
-        moment.start,
-        moment.state.stamp(),
-        id,
-        told.text.as_str(),
-        false,
-    )?;
-    lines.push_str("\n")?;
-    Ok(())
+    let mut text = String::new(alloc);
+    let mut left = taken;
+    for logged in log {
+        left = push_logged(&mut text, name, &logged, left)?;
+    }
+    Ok(text)
 }
 
 impl Desk {
-    /// A receiver that was sent nothing.
+    /// The desk of a receiver that nothing was offered to.
     pub fn new(alloc: Global, receiver: &ReceiverInfo) -> Result<Desk, NoMemory>
-        ensures { IfOk result (λ desk. desk ≡ bare_desk receiver.now) }
+        requires { 1 ≤ receiver.now.places }
+        ensures { IfOk result (λ desk. (nodes : List SchemaNode) (start number : ℕ) → desk ≡ desk_at nodes start first_served number receiver.now) }
     {
+        let places = receiver.places;
         Ok(Desk {
             name: receiver.name.copy(alloc)?,
-            lines: String::new(alloc),
+            automatic: receiver.auto,
+            log: Vec::new(alloc),
+            taken: 0,
+            queue: LocalQueue::with_places(alloc, places)?,
+            waiting: HeapCircularBuffer::with_capacity(alloc, places as usize)?,
             trees: Holdings::new(alloc),
         })
     }
 
-    /// Sends it a full update of a subscription.
-    pub fn send_full(
-        &mut self,
-        alloc: Global,
-        moment: &Moment,
-        id: u32,
-        content: &Content,
-    ) -> Result<(), NoMemory>
-        requires { content.now.text ≡ compact_text (rows_json moment.now.schema.now [] content.now.rows) }
-        ensures { OnOk result (self.new ≡ told moment.now.schema.now moment.now.start.now self.old (record { position = moment.now.state.now.position; stamp = moment.now.state.now.stamp; notice = Full id content.now.rows })) }
+    /// Takes the oldest packet, where one stands in the queue, and hears its notification.
+    fn take_one(&mut self, alloc: Global) -> Result<(), NoMemory>
+        ensures { OnOk result (self.new ≡ desk_took 1 self.old) }
     {
-        let name = self.name.as_str();
-        push_full(alloc, &mut self.lines, moment, name, id, content)?;
-        self.trees.hear_full(alloc, id, &content.rows)
-    }
-
-    /// Sends it a change update of a subscription, where anything changed.
-    pub fn send_changes(
-        &mut self,
-        alloc: Global,
-        moment: &Moment,
-        id: u32,
-        told: &Record,
-    ) -> Result<(), NoMemory>
-        requires { told.now.text ≡ compact_text (patch_data moment.now.schema.now moment.now.state.now.position told.now.changes) }
-        ensures { OnOk result (self.new ≡ told_all moment.now.schema.now moment.now.start.now self.old (made_of moment.now.state.now (change_update id moment.now.state.now.position told.now.changes))) }
-    {
-        if told.changes.items().is_empty() {
-            return Ok(());
+        match self.waiting.pop_front() {
+            Some(notice) => {
+                self.queue.take();
+                self.taken += 1;
+                self.trees.hear(alloc, notice)
+            }
+            None => Ok(()),
         }
-        let name = self.name.as_str();
-        push_changes(alloc, &mut self.lines, moment, name, id, told)?;
-        self.trees.hear_changes(alloc, id, &told.changes)
     }
 
-    /// Its lines, and after them those of what it holds.
+    /// Takes up to so many packets, the oldest first.
+    pub fn take(&mut self, alloc: Global, count: u32) -> Result<(), NoMemory>
+        ensures { OnOk result (self.new ≡ desk_took count self.old) }
+    {
+        for _round in 0..count {
+            self.take_one(alloc)?;
+        }
+        Ok(())
+    }
+
+    /// Offers a packet to the queue. Where this accepts it, the line is kept and the notification waits, and a
+    /// receiver that takes each packet at once takes it; where it is full, it is kept that it was so at this
+    /// position.
+    pub fn offer(&mut self, alloc: Global, sent: Sent, at: u64) -> Result<Settled, NoMemory>
+        ensures answer { IfOk result (λ settled. settled ≡ desk_answer self.old) }
+        ensures state { OnOk result (self.new ≡ desk_offered sent.packet sent.notice at self.old) }
+    {
+        let Sent { packet, notice, .. } = sent;
+        let Packet {
+            sub,
+            position,
+            kind,
+            line,
+        } = packet;
+        // The queue and the log share one text. Room in the log comes first, so that nothing is lost past the
+        // answer of the queue.
+        let line = line.share(alloc)?;
+        let packet = Packet {
+            sub,
+            position,
+            kind,
+            line: line.copy(alloc)?,
+        };
+        self.log.reserve(1)?;
+        match self.queue.offer(packet) {
+            Offered::Took => {
+                self.waiting.push_back(notice);
+                self.log.push(Logged::Line(line))?;
+                if self.automatic {
+                    self.take_one(alloc)?;
+                }
+                Ok(Settled::Took)
+            }
+            Offered::Full(_) => {
+                self.log.push(Logged::FullAt { sub, position: at })?;
+                Ok(Settled::Full)
+            }
+        }
+    }
+
+    /// What is told of the offers to it, and after that the lines of what it holds.
     pub fn into_text<L: Ledger>(
         self,
         alloc: Global,
@@ -156,8 +187,14 @@ impl Desk {
         requires { CanBeShown schema.now self.trees }
         ensures { IfOk result (λ text. string_bytes text ≡ desk_text schema.now self) }
     {
-        let Desk { name, lines, trees } = self;
-        let mut text = lines;
+        let Desk {
+            name,
+            log,
+            taken,
+            trees,
+            ..
+        } = self;
+        let mut text = log_text(alloc, name.as_str(), log, taken)?;
         push_trees(alloc, &mut text, schema, name.as_str(), &trees, steps)?;
         Ok(text)
     }

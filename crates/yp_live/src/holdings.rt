@@ -1,18 +1,16 @@
 //! What a receiver holds: the fold of its notices (RFC 8641 section 3.7).
-ghost use Rattle.std.specs.Prelude.{◌≡◌, ℕ, [], Bool, OnOk, unwrap_or};
+ghost use Rattle.std.specs.Prelude.{◌≡◌, [], OnOk, unwrap_or};
 ghost use Rattle.std.specs.BTreeMap.{insert_entry};
 ghost use Rattle.std.specs.Ordering.{nat_cmp};
 ghost use Rattle.yp_base.specs.Rows.{put_rows, rows_without, changed_by};
-ghost use Rattle.yp_base.specs.declared.notice.Notice.TheVariants.{Full, Changes as ChangeUpdate};
-ghost use Rattle.yp_core.specs.Received.{held_of, heard};
+ghost use Rattle.yp_promise.specs.Received.{held_of, hears};
 
 use crate::holding::Holding;
 use std::alloc::Global;
 use std::collections::BTreeMap;
 use std::marker::Model;
-use yp_base::memory::{Duplicate, NoMemory};
-use yp_base::notice::{Change, Changes};
-use yp_base::row::Rows;
+use yp_base::memory::NoMemory;
+use yp_base::notice::{Change, Notice};
 use yp_tree::tree::Tree;
 
 /// The rows that a receiver holds of each subscription that it had an update of. Contracts see the list
@@ -87,22 +85,18 @@ impl Holdings {
         self.set(id, Holding::changed(rows))
     }
 
-    /// Hears a full update of a subscription.
-    pub fn hear_full(&mut self, alloc: Global, id: u32, rows: &Rows) -> Result<(), NoMemory>
-        ensures { OnOk result (self.new ≡ heard (Full id rows.now) self.old) }
+    /// Hears a notification.
+    pub fn hear(&mut self, alloc: Global, notice: Notice) -> Result<(), NoMemory>
+        ensures { OnOk result (self.new ≡ hears notice self.old) }
     {
-        self.set(id, Holding::told(rows.copy(alloc)?))
-    }
-
-    /// Hears a change update of a subscription.
-    pub fn hear_changes(
-        &mut self,
-        alloc: Global,
-        id: u32,
-        changes: &Changes,
-    ) -> Result<(), NoMemory>
-        ensures { OnOk result ((patch_id : ℕ) (incomplete : Bool) → self.new ≡ heard (ChangeUpdate id patch_id changes.now incomplete) self.old) }
-    {
-        self.change(alloc, id, changes.items())
+        match notice {
+            Notice::Full { id, rows } => self.set(id, Holding::told(rows)),
+            Notice::Changes { id, changes, .. } => self.change(alloc, id, changes.items()),
+            Notice::Started { .. } => Ok(()),
+            Notice::Modified { .. } => Ok(()),
+            Notice::Suspended { .. } => Ok(()),
+            Notice::Resumed { .. } => Ok(()),
+            Notice::Terminated { .. } => Ok(()),
+        }
     }
 }

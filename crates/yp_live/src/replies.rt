@@ -4,13 +4,14 @@ ghost use Rattle.std.specs.List.{flat_map};
 ghost use Rattle.serde_json.specs.Data.{number, unsigned, string, object, no_members, member};
 ghost use Rattle.serde_json.specs.View.{view};
 ghost use Rattle.serde_json.specs.Written.{has_float, compact_text};
-ghost use Rattle.yp_live.specs.Report.{tag_word, reply_data, reply_lines, reply_text};
+ghost use Rattle.yp_live.specs.Report.{tag_word, reply_data, reply_text};
+ghost use Rattle.yp_live.specs.Runs.{replied_lines};
 
+use crate::run::Replied;
 use serde_json::{Value as Json, json};
 use std::alloc::{AllocError, Global};
 use yp_base::txt::Txt;
 use yp_edit::fault::Tag;
-use yp_journal::entry::Entry;
 use yp_journal::reply::Reply;
 use yp_registry::refused::Refused;
 
@@ -131,25 +132,25 @@ fn push_reply(
     alloc: Global,
     text: &mut String,
     position: u64,
-    entry: &Entry,
+    replied: &Replied,
 ) -> Result<(), AllocError>
-    ensures { OnOk result (string_bytes text.new ≡ string_bytes text.old ++ reply_text (record { position = position; lane = entry.now.lane; index = entry.now.index; reply = entry.now.reply })) }
+    ensures { OnOk result (string_bytes text.new ≡ string_bytes text.old ++ reply_text (record { position = position; lane = replied.now.lane; index = replied.now.index; reply = replied.now.reply })) }
 {
-    let lane = entry.lane;
-    let index = entry.index;
+    let lane = replied.lane;
+    let index = replied.index;
     write!(text, "reply {position} {lane} {index} ")?;
-    push_data(alloc, text, &entry.reply)?;
+    push_data(alloc, text, &replied.reply)?;
     text.push_str("\n")
 }
 
-/// Adds the lines of a journal's replies.
-pub fn push_replies(alloc: Global, text: &mut String, entries: &[Entry]) -> Result<(), AllocError>
-    requires { length entries.now < 2 ^ 63 }
-    ensures { OnOk result (string_bytes text.new ≡ string_bytes text.old ++ flat_map reply_text (reply_lines 1 entries.now)) }
+/// Adds the lines of replies, by position.
+pub fn push_replies(alloc: Global, text: &mut String, replies: &[Replied]) -> Result<(), AllocError>
+    requires { length replies.now < 2 ^ 63 }
+    ensures { OnOk result (string_bytes text.new ≡ string_bytes text.old ++ flat_map reply_text (replied_lines 1 replies.now)) }
 {
     let mut position = 1;
-    for entry in entries {
-        push_reply(alloc, text, position, entry)?;
+    for replied in replies {
+        push_reply(alloc, text, position, replied)?;
         position += 1;
     }
     Ok(())

@@ -1,25 +1,26 @@
 //! The text of a run.
 ghost use Rattle.std.specs.Prelude.{◌≡◌, ◌^◌, ◌<◌, ◌++◌, length, IfOk, OnOk, codes, string_bytes};
 ghost use Rattle.std.specs.List.{flat_map};
-ghost use Rattle.yp_live.specs.Report.{reply_lines, reply_text};
-ghost use Rattle.yp_live.specs.Runs.{CanBeWritten, desk_text, text_from};
+ghost use Rattle.yp_live.specs.Desks.{desk_text};
+ghost use Rattle.yp_live.specs.Report.{reply_text};
+ghost use Rattle.yp_live.specs.Runs.{CanBeWritten, replied_lines, text_from};
 
 use crate::desk::Desk;
 use crate::replies::push_replies;
+use crate::run::Replied;
 use std::alloc::{AllocError, Global};
 use std::sync::ledger::Ledger;
 use yp_base::memory::NoMemory;
 use yp_base::steps::Steps;
-use yp_journal::entry::Entry;
 use yp_schema::schema::Schema;
 
-/// The lines of a journal's replies.
-fn replies_text(alloc: Global, entries: Vec<Entry>) -> Result<String, AllocError>
-    requires { length entries.items < 2 ^ 63 }
-    ensures { IfOk result (λ text. string_bytes text ≡ flat_map reply_text (reply_lines 1 entries.items)) }
+/// The lines of replies.
+fn replies_text(alloc: Global, replies: Vec<Replied>) -> Result<String, AllocError>
+    requires { length replies.items < 2 ^ 63 }
+    ensures { IfOk result (λ text. string_bytes text ≡ flat_map reply_text (replied_lines 1 replies.items)) }
 {
     let mut text = String::new(alloc);
-    push_replies(alloc, &mut text, entries.as_slice())?;
+    push_replies(alloc, &mut text, replies.as_slice())?;
     Ok(text)
 }
 
@@ -55,20 +56,20 @@ fn join(alloc: Global, parts: Vec<String>) -> Result<String, AllocError>
     Ok(text)
 }
 
-/// The text of a journal's replies and of what receivers were sent and hold.
+/// The text of replies and of what is told of desks.
 pub fn text_of<L: Ledger>(
     alloc: Global,
     schema: &Schema,
-    entries: Vec<Entry>,
+    replies: Vec<Replied>,
     desks: Vec<Desk>,
     steps: &mut Steps<L>,
 ) -> Result<String, NoMemory>
-    requires few { length entries.items < 2 ^ 63 }
+    requires few { length replies.items < 2 ^ 63 }
     requires desks { CanBeWritten schema.now desks.items }
-    ensures { IfOk result (λ text. string_bytes text ≡ text_from schema.now entries.items desks.items) }
+    ensures { IfOk result (λ text. string_bytes text ≡ text_from schema.now replies.items desks.items) }
 {
     let mut parts = Vec::new(alloc);
-    parts.push(replies_text(alloc, entries)?)?;
+    parts.push(replies_text(alloc, replies)?)?;
     push_desks(alloc, schema, desks, &mut parts, steps)?;
     parts.push(String::from_str(alloc, "end\n")?)?;
     let text = join(alloc, parts)?;

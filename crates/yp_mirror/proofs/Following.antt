@@ -3,8 +3,8 @@ use Rattle.std.proofs.Common.{◌≡◌, ℕ, ◌≤◌, refl, sym, ap, subst, t
 use Rattle.std.proofs.lemmas.Bool.{true≢false}
 use Rattle.yp_base.specs.declared.row.Row.{Row}
 use Rattle.yp_attempt.specs.Content.{Content}
-use Rattle.yp_attempt.specs.Tracks.{Body, All, Edits, Marked, Notice, Answer, Took, Full, Attempt}
-use Rattle.yp_mirror.specs.Heard.{Told, after_attempt, heard, heard_all, is_taken, is_update, is_full_update, IsTakenUpdate}
+use Rattle.yp_attempt.specs.Tracks.{Body, All, Edits, Marked, Notice, Answer, Took, Full, Attempt, is_taken}
+use Rattle.yp_mirror.specs.Heard.{Told, after_attempt, heard, heard_all, is_update, is_full_update, IsTakenUpdate}
 use Rattle.yp_mirror.specs.Stories.{Story}
 use Rattle.yp_mirror.specs.Following.{IsAtMost, IsUpdate, IsAnswered, Follows, AllFollow}
 

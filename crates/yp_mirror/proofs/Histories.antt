@@ -6,8 +6,8 @@ use Rattle.std.proofs.lemmas.Bool.{true≢false, or_left, or_right, and_left, an
 use Rattle.yp_feed.specs.Machine.{is_resumed}
 use Rattle.yp_attempt.specs.Content.{Content}
 use Rattle.yp_attempt.specs.ListLaws.{all_append}
-use Rattle.yp_attempt.specs.Tracks.{Body, All, Edits, Marked, Notice, Answer, Took, Full, Attempt}
-use Rattle.yp_mirror.specs.Heard.{Told, told_nothing, after_full, after_attempt, heard, heard_all, told_by, is_taken, is_update, is_resumption, is_full_update, is_incomplete_update}
+use Rattle.yp_attempt.specs.Tracks.{Body, All, Edits, Marked, Notice, Answer, Took, Full, Attempt, is_taken}
+use Rattle.yp_mirror.specs.Heard.{Told, told_nothing, after_full, after_attempt, heard, heard_all, told_by, is_update, is_resumption, is_full_update, is_incomplete_update}
 use Rattle.yp_mirror.specs.FullQueues.{HasFull, HasEightFull}
 use Rattle.yp_mirror.proofs.Facts.{by_either}
 

@@ -5,11 +5,11 @@ use Rattle.std.proofs.lemmas.Bool.{true≢false}
 use Rattle.yp_feed.specs.declared.item.Item.TheVariants.{Suspended}
 use Rattle.yp_attempt.specs.Content.{Content, IsLawful}
 use Rattle.yp_attempt.specs.ListLaws.{all_weaker}
-use Rattle.yp_attempt.specs.Tracks.{Track, Body, All, Edits, Marked, Notice, Answer, Took, Full, Attempt}
+use Rattle.yp_attempt.specs.Tracks.{Track, Body, All, Edits, Marked, Notice, Answer, Took, Full, Attempt, is_taken}
 use Rattle.yp_attempt.specs.Moments.{Moment, AllMayFollow}
 use Rattle.yp_attempt.specs.Attempts.{IsReplayOf, replay}
 use Rattle.yp_attempt.specs.Runs.{Run, Reaches, first_run}
-use Rattle.yp_mirror.specs.Heard.{Told, told_nothing, heard, heard_all, told_by, of_sub, is_taken, is_full_update, is_incomplete_update, IsTakenUpdate}
+use Rattle.yp_mirror.specs.Heard.{Told, told_nothing, heard, heard_all, told_by, of_sub, is_full_update, is_incomplete_update, IsTakenUpdate}
 use Rattle.yp_mirror.specs.Stories.{Story, Steady, Leads, IsStory, story_of}
 use Rattle.yp_mirror.specs.Following.{IsMadeOf, IsLessThan, IsUpdate, IsAnswered, ComesAfter, Follows, AllFollow}
 use Rattle.yp_mirror.specs.Links.{LinkedIn, RunIsLinked, IsRunOf, IsAttemptOf}

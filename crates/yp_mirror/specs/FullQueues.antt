@@ -5,9 +5,9 @@ use Rattle.yp_feed.specs.declared.item.Item.{Item}
 use Rattle.yp_feed.specs.declared.item.Control.{Control}
 use Rattle.yp_feed.specs.Machine.{freezes, controlled, taken, refused}
 use Rattle.yp_attempt.specs.Content.{Content}
-use Rattle.yp_attempt.specs.Tracks.{Track, Attempt, Took, Full, roots_in, offered_item, attempt, freeze_tried, rebased, after_answer}
+use Rattle.yp_attempt.specs.Tracks.{Track, Attempt, Took, Full, roots_in, offered_item, attempt, freeze_tried, rebased, after_answer, is_taken}
 use Rattle.yp_attempt.specs.Moments.{Moment, after_moment}
-use Rattle.yp_mirror.specs.Heard.{Told, heard, is_taken, is_update, is_resumption}
+use Rattle.yp_mirror.specs.Heard.{Told, heard, is_update, is_resumption}
 
 -- a feed that isn't suspended and doesn't end is suspended exactly by the eighth full answer in a row, after which all that is selected must come; nothing else suspends it
 pub record SuspendsAtEighth (c : Content) (n stamp : ℕ) (track : Track) (t : Told) : Type 0 where

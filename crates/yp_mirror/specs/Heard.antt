@@ -3,7 +3,7 @@ use Rattle.std.specs.Prelude.{◌≡◌, ℕ, ◌+◌, ◌==◌, nat_le, Bool, t
 use Rattle.yp_base.specs.declared.row.Row.{Row}
 use Rattle.yp_feed.specs.Machine.{is_resumed}
 use Rattle.yp_attempt.specs.Content.{Content}
-use Rattle.yp_attempt.specs.Tracks.{Body, All, Edits, Marked, Notice, Answer, Took, Full, Attempt}
+use Rattle.yp_attempt.specs.Tracks.{Body, All, Edits, Marked, Notice, Answer, Took, Full, Attempt, is_taken}
 
 -- the rows of the receiver's copy, the position at which the last update was made that it took, its full answers in a row, the stamp of the last full answer, whether one came after the last update, whether eight came in a row since the receiver was last told that the subscription goes on, and whether all that is selected must come before any other update
 pub record Told : Type 0 where
@@ -53,11 +53,6 @@ abbrev pub of_sub : ℕ → List Attempt → List Attempt
 of_sub sub attempts = filter (λ a. a.sub == sub) attempts
 
 -- ---- kinds of attempts
-
--- whether it was taken
-abbrev pub is_taken : Answer → Bool
-is_taken Took = true
-is_taken Full = false
 
 -- whether what is said is all that is selected
 abbrev pub is_full_update : Body → Bool

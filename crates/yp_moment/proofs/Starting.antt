@@ -13,7 +13,7 @@ use Rattle.yp_registry.specs.Registry.{Subscriptions, no_subscriptions, live_at,
 use Rattle.yp_registry.specs.Terms.{Terms, with_anchor}
 use Rattle.yp_feed.specs.Machine.{is_mirrored, resyncs}
 use Rattle.yp_journal.specs.declared.command.Command.{Command}
-use Rattle.yp_journal.specs.declared.command.Command.TheVariants.{Tick, Edit, Rules, Establish}
+use Rattle.yp_journal.specs.declared.command.Command.TheVariants.{Tick, Edit, Rules, Establish, Take}
 use Rattle.yp_journal.specs.declared.entry.Entry.{Entry}
 use Rattle.yp_journal.specs.declared.receiver.ReceiverInfo.{ReceiverInfo}
 use Rattle.yp_journal.specs.declared.reply.Reply.{Reply}
@@ -60,6 +60,7 @@ module _ (laws : IdsAreNew) (nodes : List SchemaNode) (state : JournalState) whe
   gives_next (Tick tick) reply is ids = tt
   gives_next (Edit patch) reply is ids = tt
   gives_next (Rules policy) reply is ids = tt
+  gives_next (Take receiver count) reply is ids = tt
   gives_next (Establish by ask) reply is ids =
       let after : JournalState = after_establish nodes state by ask in
       subst (λ (r : Reply). GivesNext state.registry.given after.registry.given (given_by r after)) (sym is) (given_next by ask ids (establish_answer nodes state.policy state.registry by ask state.stamp) refl)
@@ -69,12 +70,14 @@ module _ (laws : IdsAreNew) (nodes : List SchemaNode) (state : JournalState) whe
   given_rises (Tick tick) = omega arith
   given_rises (Edit patch) = omega arith
   given_rises (Rules policy) = omega arith
+  given_rises (Take receiver count) = omega arith
   given_rises (Establish by ask) = laws.never_falls nodes state.policy state.registry by ask state.stamp
 
   ids_kept : (command : Command) → HasRisingIds state.registry → HasRisingIds (next_state nodes state command).registry
   ids_kept (Tick tick) ids = ids
   ids_kept (Edit patch) ids = ids
   ids_kept (Rules policy) ids = ids
+  ids_kept (Take receiver count) ids = ids
   ids_kept (Establish by ask) ids = laws.kept nodes state.policy state.registry by ask state.stamp ids
 
 stamp_rises : (nodes : List SchemaNode) (state : JournalState) (command : Command) → state.stamp ≤ (next_state nodes state command).stamp
@@ -82,6 +85,7 @@ stamp_rises nodes state (Tick tick) = omega arith
 stamp_rises nodes state (Edit patch) = omega arith
 stamp_rises nodes state (Rules policy) = omega arith
 stamp_rises nodes state (Establish by ask) = omega arith
+stamp_rises nodes state (Take receiver count) = omega arith
 
 -- ---- what entries did
 

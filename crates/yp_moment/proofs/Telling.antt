@@ -6,7 +6,7 @@ use Rattle.yp_nacm.specs.Same.{are_same_rules}
 use Rattle.yp_registry.specs.Terms.{Terms}
 use Rattle.yp_registry.specs.Registry.{live_at}
 use Rattle.yp_journal.specs.declared.command.Command.{Command}
-use Rattle.yp_journal.specs.declared.command.Command.TheVariants.{Tick, Edit, Rules, Establish}
+use Rattle.yp_journal.specs.declared.command.Command.TheVariants.{Tick, Edit, Rules, Establish, Take}
 use Rattle.yp_journal.specs.declared.entry.Entry.{Entry}
 use Rattle.yp_journal.specs.declared.receiver.ReceiverInfo.{ReceiverInfo}
 use Rattle.yp_journal.specs.declared.reply.Reply.{Reply}
@@ -57,6 +57,7 @@ no_control id (Tick tick) reply after = refl
 no_control id (Edit patch) reply after = refl
 no_control id (Rules policy) reply after = refl
 no_control id (Establish by ask) reply after = given_alone id reply after
+no_control id (Take receiver count) reply after = refl
 
 -- the rules of two states differ for a receiver
 abbrev differ : ℕ → JournalState → JournalState → Bool

@@ -8,7 +8,7 @@ use Rattle.yp_registry.specs.Registry.{live_at}
 use Rattle.yp_registry.specs.Terms.{Terms}
 use Rattle.yp_select.specs.Selection.{selection}
 use Rattle.yp_journal.specs.declared.command.Command.{Command}
-use Rattle.yp_journal.specs.declared.command.Command.TheVariants.{Tick, Edit, Rules, Establish}
+use Rattle.yp_journal.specs.declared.command.Command.TheVariants.{Tick, Edit, Rules, Establish, Take}
 use Rattle.yp_journal.specs.declared.entry.Entry.{Entry}
 use Rattle.yp_journal.specs.declared.receiver.ReceiverInfo.{ReceiverInfo}
 use Rattle.yp_journal.specs.declared.reply.Reply.{Reply}
@@ -41,12 +41,13 @@ given_by (Id id) after = starts_with (live_at id after.registry.live)
 given_by (Registry refusal) after = Quiet
 given_by (EditRefused edit_id tag path) after = Quiet
 
--- what a command does to subscriptions by the reply to it, where this state is left; ticks, patches and policies leave each as it is
+-- what a command does to subscriptions by the reply to it, where this state is left; all others leave each as it is
 abbrev pub act_of : Command → Reply → JournalState → Act
 act_of (Tick tick) reply after = Quiet
 act_of (Edit patch) reply after = Quiet
 act_of (Rules policy) reply after = Quiet
 act_of (Establish by ask) reply after = given_by reply after
+act_of (Take receiver count) reply after = Quiet
 
 -- ---- entries
 

@@ -1,3 +1,4 @@
 pub mod Windows
 pub mod Entries
 pub mod Concealed
+pub mod Notices

@@ -1,5 +1,5 @@
 -- A slot that goes on by an entry: its track has one selection more.
-use Rattle.std.proofs.Common.{◌≡◌, ℕ, ◌<◌, refl, sym, ap, subst, ◌∙◌, Bool, true, false, true≢false, not, List, [], ◌∷◌, ◌++◌, length, Option, Some, None}
+use Rattle.std.proofs.Common.{◌≡◌, ℕ, ◌<◌, refl, sym, ap, subst, ◌∙◌, Bool, true, false, true≢false, not, List, [], ◌∷◌, ◌++◌, ◌||◌, length, Option, Some, None}
 use Rattle.std.specs.Prelude.{if◌then◌else◌, map, nat_eq}
 use Rattle.std.specs.List.{AllByRecursion}
 use Rattle.yp_base.specs.declared.path.Seg.{Seg}
@@ -7,9 +7,11 @@ use Rattle.yp_base.specs.declared.row.Row.{Row}
 use Rattle.yp_base.specs.Rows.{last_of}
 use Rattle.yp_schema.specs.declared.schema.SchemaNode.{SchemaNode}
 use Rattle.yp_schema.specs.Datastore.{IsDatastore}
+use Rattle.yp_filter.specs.Filters.{Asked}
 use Rattle.yp_filter.specs.View.{filter_view}
 use Rattle.yp_nacm.specs.declared.compile.UserRules.{UserRules}
-use Rattle.yp_nacm.specs.Decision.{is_readable}
+use Rattle.yp_nacm.specs.AccessLaws.{readable_above}
+use Rattle.yp_nacm.specs.Decision.{IsClosed, is_readable}
 use Rattle.yp_edit.specs.ChangeLaws.{none_differ}
 use Rattle.yp_edit.specs.Changes.{changed_rows}
 use Rattle.yp_edit.specs.declared.changed.ChangedRow.{ChangedRow}
@@ -25,18 +27,22 @@ use Rattle.yp_select.specs.Selection.{selection}
 use Rattle.yp_feed.specs.declared.item.Control.TheVariants.{Rules}
 use Rattle.yp_feed.specs.Machine.{FeedState, controlled, is_on_change, restarts, resyncs}
 use Rattle.yp_touch.specs.declared.root.Root.{Root}
-use Rattle.yp_touch.specs.Absorbed.{EndsAsRow, absorbed, all_absorbed, paths_of, roots_since}
-use Rattle.yp_touch.specs.Windows.{OneMoreStep, RootsAreOfTheWindow}
+use Rattle.yp_touch.specs.Absorbed.{AreTopmost, EndsAsRow, absorbed, all_absorbed, paths_of, roots_since}
+use Rattle.yp_touch.specs.Windows.{OneMoreStep, RootsAreOfTheWindow, RootsEndAsRows, StepsWithoutRootsLeave, WindowsStandTopmost}
 use Rattle.yp_journal.specs.declared.command.Command.{Command}
-use Rattle.yp_journal.specs.declared.command.Command.TheVariants.{Tick, Edit, Rules as Policies, Establish}
+use Rattle.yp_journal.specs.declared.command.Command.TheVariants.{Tick, Edit, Rules as Policies, Establish, Take}
 use Rattle.yp_journal.specs.declared.entry.Entry.{Entry}
 use Rattle.yp_journal.specs.History.{JournalState, rules_at, may_read, next_state}
 use Rattle.yp_attempt.specs.Tracks.{Track, current}
 use Rattle.yp_attempt.specs.Moments.{after_rules, with_control}
 use Rattle.yp_moment.specs.Entries.{moment_between, selected_at, selected_by}
+use Rattle.yp_roster.specs.declared.classes.Class.{Class}
+use Rattle.yp_roster.specs.declared.following.Entered.{Entered}
 use Rattle.yp_roster.specs.declared.slot.Slot.{Slot}
-use Rattle.yp_roster.specs.Slots.{IsKeptAt, IsSlotOf}
-use Rattle.yp_roster.specs.Steps.{ComesAfter, IsPatchOf, gone_on, with_next}
+use Rattle.yp_roster.specs.Classes.{IsClassOf, member_of}
+use Rattle.yp_roster.specs.Slots.{AreSlotsOf, IsKeptAt, IsRead, IsSlotOf}
+use Rattle.yp_roster.specs.Steps.{ComesAfter, IsPatchOf, IsStepOf, entered_track, gone_on, step_of, with_next}
+use Rattle.yp_roster.proofs.Classed.{step_shared}
 use Rattle.yp_roster.proofs.Standing.{selects, kept_again}
 use Rattle.yp_roster.proofs.Going.{StandsBut, goes_on, with_places, renews_on, renewed_unread, renewed_moves}
 
@@ -57,6 +63,10 @@ same_again windows first later next same =
     ∙ ap (λ (rows : List Row). roots_since first (touched_paths [] first (later ++ rows ∷ []))) same
     ∙ ap (roots_since first) (none_more [] first later)
     ∙ sym (windows first later)
+
+-- what a filter selects of a datastore is one
+abbrev pub SelectionsAreDatastores : Type 0
+SelectionsAreDatastores = (nodes : List SchemaNode) (asked : Asked) (readable : List Seg → Bool) (rows : List Row) → IsClosed readable → IsDatastore nodes rows → IsDatastore nodes (selection nodes asked readable rows)
 
 -- ---- states after others
 
@@ -115,7 +125,7 @@ module _ (nodes : List SchemaNode) (before after : JournalState) (slot : Slot) (
       ∙ (λ i. selection nodes (sym stands.kept.filter.filter i) (may_read nodes after (sym stands.feed i).receiver) after.rows)
 
   pub absorbs : OneMoreStep → (rules : (number : ℕ) → rules_at before number ≡ rules_at after number) (touched : List Root)
-      → touched ≡ absorbed slot.touched (selection nodes (filter_view slot.filter) (may_read nodes after slot.feed.receiver) before.rows) (selection nodes (filter_view slot.filter) (may_read nodes after slot.feed.receiver) after.rows)
+      → (IsRead track → touched ≡ absorbed slot.touched (selection nodes (filter_view slot.filter) (may_read nodes after slot.feed.receiver) before.rows) (selection nodes (filter_view slot.filter) (may_read nodes after slot.feed.receiver) after.rows))
       → AllByRecursion (EndsAsRow nodes) (paths_of touched)
       → IsSlotOf nodes after (record slot { touched = touched }) (with_next nodes after track)
   absorbs more rules touched is paths =
@@ -129,13 +139,54 @@ module _ (nodes : List SchemaNode) (before after : JournalState) (slot : Slot) (
         plain = stands.plain;
         current = next_but.current;
       }) (λ read.
-      is
+      is (record { on_change = read.on_change; unowed = read.unowed })
       ∙ (λ i. absorbed (stands.roots (record { on_change = read.on_change; unowed = read.unowed }) i) (was i) (sym (selects_after rules) i))
       ∙ sym (more [] track.first track.later next))
 
   -- of a periodic feed no places are read
   pub passes : is_on_change slot.feed.trigger ≡ false → IsSlotOf nodes after slot (with_next nodes after track)
   passes off = with_places nodes after slot (with_next nodes after track) next_but (λ read. absurd (true≢false (sym read.on_change ∙ ap (λ (f : FeedState). is_on_change f.trigger) (sym stands.feed) ∙ off)))
+
+  -- nor of one that owes all that it selects
+  pub waits : slot.feed.owed.sync ≡ true → IsSlotOf nodes after slot (with_next nodes after track)
+  waits owes = with_places nodes after slot (with_next nodes after track) next_but (λ read.
+      absurd (true≢false (ap (λ (b : Bool). b || track.feed.owed.terminated) (sym (ap (λ (f : FeedState). f.owed.sync) (sym stands.feed) ∙ owes)) ∙ read.unowed)))
+
+  -- a step of its class from nothing
+  module _ (class : Class) (step : List Root) (shares : IsClassOf after class (member_of slot)) (is : IsStepOf nodes before after class step) where
+    step_is : is_on_change slot.feed.trigger ≡ true → step ≡ step_of nodes before after (filter_view slot.filter) slot.feed.receiver
+    step_is on = is (shares.on_change ∙ on) ∙ step_shared nodes before after class slot shares
+
+    -- without roots it leaves the places
+    pub leaves : OneMoreStep → StepsWithoutRootsLeave → WindowsStandTopmost → (rules : (number : ℕ) → rules_at before number ≡ rules_at after number) → step ≡ [] → IsSlotOf nodes after slot (with_next nodes after track)
+    leaves more leave topmost rules none = absorbs more rules slot.touched (λ read.
+        let on : is_on_change slot.feed.trigger ≡ true = ap (λ (f : FeedState). is_on_change f.trigger) stands.feed ∙ read.on_change in
+        sym (leave slot.touched (selection nodes (filter_view slot.filter) (may_read nodes after slot.feed.receiver) before.rows) (selection nodes (filter_view slot.filter) (may_read nodes after slot.feed.receiver) after.rows)
+        (subst (λ (roots : List Root). AreTopmost (paths_of roots)) (sym (stands.roots read)) (topmost track.first track.later)) (sym (step_is on) ∙ none))) stands.kept.paths
+
+    -- and otherwise the places are joined with it
+    pub joins : OneMoreStep → RootsEndAsRows → (rules : (number : ℕ) → rules_at before number ≡ rules_at after number) → IsDatastore nodes before.rows → IsDatastore nodes after.rows
+        → SelectionsAreDatastores → is_on_change slot.feed.trigger ≡ true → (touched : List Root)
+        → ((old new : List Row) → step ≡ absorbed [] old new → touched ≡ absorbed slot.touched old new) → IsSlotOf nodes after (record slot { touched = touched }) (with_next nodes after track)
+    joins more ends rules old new selected on touched joined =
+        let asked = filter_view slot.filter in
+        let readable = may_read nodes after slot.feed.receiver in
+        let closed = readable_above nodes (rules_at after slot.feed.receiver) in
+        let made = joined (selection nodes asked readable before.rows) (selection nodes asked readable after.rows) (step_is on) in
+        absorbs more rules touched (λ read. made)
+        (subst (λ (roots : List Root). AllByRecursion (EndsAsRow nodes) (paths_of roots)) (sym made)
+        (ends nodes slot.touched (selection nodes asked readable before.rows) (selection nodes asked readable after.rows) (selected nodes asked readable before.rows closed old) (selected nodes asked readable after.rows closed new) stands.kept.paths))
+
+-- a slot with the number of another class stands for what it stood for
+pub renumbered : (nodes : List SchemaNode) (state : JournalState) (slot : Slot) (track : Track) (number : ℕ) → IsSlotOf nodes state slot track → IsSlotOf nodes state (record slot { class = number }) track
+renumbered nodes state slot track number stands = record {
+  kept = kept_again nodes state slot (record slot { class = number }) stands.kept refl refl refl stands.kept.paths stands.kept.sendable;
+  feed = stands.feed;
+  frozen = stands.frozen;
+  roots = stands.roots;
+  plain = stands.plain;
+  current = stands.current;
+}
 
 -- ---- entries
 
@@ -147,6 +198,7 @@ comes_next : (nodes : List SchemaNode) (before : JournalState) (command : Comman
 comes_next nodes before (Tick tick) = record { receivers = refl; live = λ id terms is. is }
 comes_next nodes before (Edit patch) = record { receivers = refl; live = λ id terms is. is }
 comes_next nodes before (Policies policy) = record { receivers = refl; live = λ id terms is. is }
+comes_next nodes before (Take receiver count) = record { receivers = refl; live = λ id terms is. is }
 comes_next nodes before (Establish by ask) = record {
   receivers = refl;
   live = λ id terms is.
@@ -200,10 +252,21 @@ patch_of nodes before after command patch those is by datastore changed =
       changed = changed;
     }
 
--- the places after a patch, for the rules of the receiver's user there
-pub absorbed_made : (nodes : List SchemaNode) (after : JournalState) (slot : Slot) (rules : UserRules) (before rows there : List Row) (touched : List Root)
-    → touched ≡ absorbed slot.touched (selection nodes (filter_view slot.filter) (λ path. is_readable nodes rules path) before) (selection nodes (filter_view slot.filter) (λ path. is_readable nodes rules path) rows)
-    → rules ≡ rules_at after slot.feed.receiver → before ≡ there → rows ≡ after.rows
-    → touched ≡ absorbed slot.touched (selection nodes (filter_view slot.filter) (may_read nodes after slot.feed.receiver) there) (selection nodes (filter_view slot.filter) (may_read nodes after slot.feed.receiver) after.rows)
-absorbed_made nodes after slot rules before rows there touched is own was now =
-    is ∙ (λ i. absorbed slot.touched (selection nodes (filter_view slot.filter) (λ path. is_readable nodes (own i) path) (was i)) (selection nodes (filter_view slot.filter) (λ path. is_readable nodes (own i) path) (now i)))
+-- the roots that a patch makes from nothing, for the rules of a receiver's user there
+pub step_made : (nodes : List SchemaNode) (state after : JournalState) (asked : Asked) (receiver : ℕ) (rules : UserRules) (none touched : List Root) (before rows : List Row)
+    → touched ≡ absorbed none (selection nodes asked (λ path. is_readable nodes rules path) before) (selection nodes asked (λ path. is_readable nodes rules path) rows)
+    → none ≡ [] → rules ≡ rules_at after receiver → before ≡ state.rows → rows ≡ after.rows → touched ≡ step_of nodes state after asked receiver
+step_made nodes state after asked receiver rules none touched before rows is empty own was now =
+    is ∙ (λ i. absorbed (empty i) (selection nodes asked (λ path. is_readable nodes (own i) path) (was i)) (selection nodes asked (λ path. is_readable nodes (own i) path) (now i)))
+
+-- ---- entries that leave all slots
+
+module _ (laws : SameRulesAreOne) (windows : RootsAreOfTheWindow) (e : Entered) (before : JournalState) (is : e.present.state.now ≡ next_state e.present.schema.now before e.entry.now.command)
+    (rows : e.present.state.now.rows ≡ before.rows) (rules : (number : ℕ) → rules_at e.present.state.now number ≡ rules_at before number) where
+  -- an entry that leaves the rows and the rules leaves each slot
+  pub pass_quietly : (slots : List Slot) (tracks : List Track) → AreSlotsOf e.present.schema.now before slots tracks → AreSlotsOf e.present.schema.now e.present.state.now slots (map (entered_track e before) tracks)
+  pass_quietly [] [] are = tt
+  pass_quietly [] (track ∷ tracks) are = absurd are
+  pass_quietly (slot ∷ slots) [] are = absurd are
+  pass_quietly (slot ∷ slots) (track ∷ tracks) are =
+      (passes_quietly laws windows e.present.schema.now before e.present.state.now e.entry.now slot track is rows (rules track.feed.receiver) are.0, pass_quietly slots tracks are.1)

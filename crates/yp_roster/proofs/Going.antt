@@ -4,7 +4,6 @@ use Rattle.std.specs.Prelude.{IfSome, if◌then◌else◌}
 use Rattle.std.specs.List.{AllByRecursion}
 use Rattle.std.proofs.lemmas.Bool.{and_parts}
 use Rattle.yp_schema.specs.declared.schema.SchemaNode.{SchemaNode}
-use Rattle.yp_encode.specs.Sendable.{IsSendableChange}
 use Rattle.yp_feed.specs.declared.item.Control.TheVariants.{Rules}
 use Rattle.yp_feed.specs.Machine.{FeedState, controlled, is_on_change, restarted, restarts, resyncs}
 use Rattle.yp_touch.specs.declared.root.Root.{Root}
@@ -14,7 +13,7 @@ use Rattle.yp_attempt.specs.Tracks.{Track, current, kept_if, with_feed}
 use Rattle.yp_moment.specs.Entries.{selected_at}
 use Rattle.yp_roster.specs.declared.slot.Frozen.{Frozen as FrozenHere}
 use Rattle.yp_roster.specs.declared.slot.Slot.{Slot}
-use Rattle.yp_roster.specs.Slots.{IsKeptAt, IsRead, IsSlotOf, frozen_of}
+use Rattle.yp_roster.specs.Slots.{IsSendableRecord, IsKeptAt, IsRead, IsSlotOf, frozen_of}
 use Rattle.yp_roster.specs.Steps.{gone_on}
 use Rattle.yp_roster.proofs.Standing.{kept_again}
 
@@ -53,7 +52,7 @@ frozen_kept : (b : Bool) (o : Option FrozenHere) → frozen_of (if b then o else
 frozen_kept true o = refl
 frozen_kept false o = refl
 
-sendable_kept : (nodes : List SchemaNode) (b : Bool) (o : Option FrozenHere) → IfSome o (λ frozen. AllByRecursion (IsSendableChange nodes) frozen.edits) → IfSome (if b then o else None) (λ frozen. AllByRecursion (IsSendableChange nodes) frozen.edits)
+sendable_kept : (nodes : List SchemaNode) (b : Bool) (o : Option FrozenHere) → IfSome o (IsSendableRecord nodes) → IfSome (if b then o else None) (IsSendableRecord nodes)
 sendable_kept nodes true o h = h
 sendable_kept nodes false o h = tt
 

@@ -1,5 +1,6 @@
 pub mod Numbers
 pub mod Results
+pub mod Classed
 pub mod Standing
 pub mod Looks
 pub mod Going
@@ -7,6 +8,7 @@ pub mod Entering
 pub mod Placing
 pub mod Offering
 pub mod Entered
+pub mod Patched
 pub mod Begun
 pub mod Taking
 pub mod Journals

@@ -4,7 +4,6 @@ use Rattle.std.specs.Prelude.{if◌then◌else◌, ◌==◌, nat_lt}
 use Rattle.std.specs.List.{AllByRecursion}
 use Rattle.yp_base.specs.declared.notice.Change.{Change}
 use Rattle.yp_schema.specs.declared.schema.SchemaNode.{SchemaNode}
-use Rattle.yp_encode.specs.Sendable.{IsSendableChange}
 use Rattle.yp_feed.specs.declared.item.Item.{Item}
 use Rattle.yp_feed.specs.declared.item.Item.TheVariants.{Changes}
 use Rattle.yp_feed.specs.Machine.{FeedState, after_freeze, freezes, frozen, looked, offer_of, resyncs}
@@ -13,9 +12,11 @@ use Rattle.yp_touch.specs.Absorbed.{EndsAsRow, paths_of}
 use Rattle.yp_journal.specs.History.{JournalState}
 use Rattle.yp_attempt.specs.Tracks.{Track, current, edit_count, freeze_tried, moving, offered_item, rebased, record_in, roots_in}
 use Rattle.yp_moment.specs.Windows.{recorded}
+use Rattle.yp_roster.specs.declared.records.Record.{Record}
+use Rattle.yp_roster.specs.Records.{IsWithText}
 use Rattle.yp_roster.specs.declared.slot.Frozen.{Frozen as FrozenHere}
 use Rattle.yp_roster.specs.declared.slot.Slot.{Slot}
-use Rattle.yp_roster.specs.Slots.{IsRead, IsSlotOf, IsOfferOf, record_at}
+use Rattle.yp_roster.specs.Slots.{IsSendableRecord, IsRead, IsSlotOf, IsOfferOf, record_at}
 use Rattle.yp_roster.proofs.Numbers.{capped, capped_some, capped_many, some_lt, unread_or, freezes_read, same_offer, same_freeze, stays_with_one, IsOther, IsSame, same_with_edits, IsDueNow, due_now, nothing_due}
 use Rattle.yp_roster.proofs.Standing.{AreWindows, as_many, same_record, kept_again}
 
@@ -61,7 +62,7 @@ module _ (nodes : List SchemaNode) (state : JournalState) (slot : Slot) (track :
 
   -- where it holds, the record of the window is set aside
   pub sets_aside : (f : FeedState) (n stamp q : ℕ) (aside : FrozenHere) → q ≡ capped (length slot.touched) → freezes slot.feed q ≡ true → f ≡ after_freeze slot.feed q
-      → aside.from ≡ slot.feed.base → aside.position ≡ n → aside.tick ≡ stamp → aside.edits ≡ record_at nodes state (record slot { feed = f }) → AllByRecursion (IsSendableChange nodes) aside.edits
+      → aside.from ≡ slot.feed.base → aside.position ≡ n → aside.tick ≡ stamp → aside.edits ≡ record_at nodes state (record slot { feed = f }) → IsSendableRecord nodes aside
       → IsSlotOf nodes state (record slot { feed = f; frozen = Some aside }) (freeze_tried recorded n stamp track)
   sets_aside f n stamp q aside many freezing is from position tick edits sendable =
       let holds : freezes track.feed (roots_in recorded track) ≡ true = sym freezes_same ∙ ap (freezes slot.feed) (sym many) ∙ freezing in
@@ -85,7 +86,7 @@ module _ (nodes : List SchemaNode) (state : JournalState) (slot : Slot) (track :
 
   -- what is not of changes is offered whatever the number of edits, and the track stays
   pub offers_other : (f : FeedState) (n q : ℕ) (item : Option Item) → q ≡ capped (length slot.touched) → item ≡ offer_of slot.feed q 1 state.stamp → IsOther item → f ≡ looked slot.feed q 1 n state.stamp
-      → IsSlotOf nodes state (record slot { feed = f }) (rebased recorded n state.stamp track) × IsOfferOf nodes state.stamp (rebased recorded n state.stamp track) (record { item = item; changes = None })
+      → IsSlotOf nodes state (record slot { feed = f }) (rebased recorded n state.stamp track) × IsOfferOf nodes state.position state.stamp (rebased recorded n state.stamp track) (record { item = item; changes = None })
   offers_other f n q item many is other after =
       let stamp = state.stamp in
       let r = roots_in recorded track in
@@ -100,9 +101,9 @@ module _ (nodes : List SchemaNode) (state : JournalState) (slot : Slot) (track :
       subst (IsSame track.feed stamp r e) (sym with_one) (same_with_edits track.feed stamp r e (subst IsOther with_one other)))
       (unread_or track.feed) in
       let back : f ≡ slot.feed = after ∙ ap (λ (b : Bool). record slot.feed { base = if b then n else slot.feed.base }) (stays_with_one slot.feed q stamp) in
-      subst (λ (t : Track). IsSlotOf nodes state (record slot { feed = f }) t × IsOfferOf nodes stamp t (record { item = item; changes = None })) (sym (unmoved n stamp track same.stays)) (
+      subst (λ (t : Track). IsSlotOf nodes state (record slot { feed = f }) t × IsOfferOf nodes state.position stamp t (record { item = item; changes = None })) (sym (unmoved n stamp track same.stays)) (
         subst (λ (g : FeedState). IsSlotOf nodes state (record slot { feed = g }) track) (sym back) stands,
-        record { item = sym same.offers; changes = λ are. absurd (other are); sendable = tt },
+        record { item = sym same.offers; changes = λ are. absurd (other are); offered = tt },
       )
 
   -- a record that would be offered with an edit is of a track whose numbers may be read
@@ -127,22 +128,22 @@ module _ (nodes : List SchemaNode) (state : JournalState) (slot : Slot) (track :
       }
 
   -- a record with an edit is offered
-  pub offers_record : (n : ℕ) (changes : List Change) → offer_of slot.feed (capped (length slot.touched)) 1 state.stamp ≡ Some Changes → changes ≡ record_at nodes state slot → AllByRecursion (IsSendableChange nodes) changes → (length changes == 0) ≡ false
-      → IsSlotOf nodes state slot (rebased recorded n state.stamp track) × IsOfferOf nodes state.stamp (rebased recorded n state.stamp track) (record { item = Some Changes; changes = Some changes })
-  offers_record n changes due is sendable some =
+  pub offers_record : (n : ℕ) (told : Record) → offer_of slot.feed (capped (length slot.touched)) 1 state.stamp ≡ Some Changes → IsWithText nodes state.position (record_at nodes state slot) told
+      → IsSlotOf nodes state slot (rebased recorded n state.stamp track) × IsOfferOf nodes state.position state.stamp (rebased recorded n state.stamp track) (record { item = Some Changes; changes = Some told })
+  offers_record n told due text_of =
       let stamp = state.stamp in
       let d = due_there (capped (length slot.touched)) refl due in
-      let made : changes ≡ record_in recorded track = is ∙ d.made in
-      let edits : (edit_count recorded track == 0) ≡ false = ap (λ (those : List Change). length those == 0) (sym made) ∙ some in
-      subst (λ (t : Track). IsSlotOf nodes state slot t × IsOfferOf nodes stamp t (record { item = Some Changes; changes = Some changes })) (sym (unmoved n stamp track (d.now.stays (edit_count recorded track) edits))) (
+      let made : told.changes ≡ record_in recorded track = text_of.edits ∙ d.made in
+      let edits : (edit_count recorded track == 0) ≡ false = ap (λ (those : List Change). length those == 0) (sym d.made) ∙ text_of.some in
+      subst (λ (t : Track). IsSlotOf nodes state slot t × IsOfferOf nodes state.position stamp t (record { item = Some Changes; changes = Some told })) (sym (unmoved n stamp track (d.now.stays (edit_count recorded track) edits))) (
         stands,
-        record { item = sym (d.now.offers (edit_count recorded track) (some_lt (edit_count recorded track) edits)); changes = λ _. ap Some made; sendable = sendable },
+        record { item = sym (d.now.offers (edit_count recorded track) (some_lt (edit_count recorded track) edits)); changes = λ _. ap Some made; offered = record { text = text_of.text; sendable = text_of.sendable } },
       )
 
   -- and one without an edit moves the base
   pub moves_base : (f : FeedState) (n q : ℕ) (item : Option Item) (touched : List Root) (changes : List Change) → offer_of slot.feed (capped (length slot.touched)) 1 state.stamp ≡ Some Changes → changes ≡ record_at nodes state slot → (length changes == 0) ≡ true
       → q ≡ capped (length slot.touched) → item ≡ offer_of slot.feed q 0 state.stamp → f ≡ looked slot.feed q 0 n state.stamp → touched ≡ []
-      → IsSlotOf nodes state (record slot { feed = f; touched = touched }) (rebased recorded n state.stamp track) × IsOfferOf nodes state.stamp (rebased recorded n state.stamp track) (record { item = item; changes = None })
+      → IsSlotOf nodes state (record slot { feed = f; touched = touched }) (rebased recorded n state.stamp track) × IsOfferOf nodes state.position state.stamp (rebased recorded n state.stamp track) (record { item = item; changes = None })
   moves_base f n q item touched changes due is none many given after empty =
       let stamp = state.stamp in
       let d = due_there q many (ap (λ (k : ℕ). offer_of slot.feed k 1 stamp) many ∙ due) in
@@ -161,9 +162,9 @@ module _ (nodes : List SchemaNode) (state : JournalState) (slot : Slot) (track :
         plain = stands.plain;
         current = stands.current;
       } in
-      subst (λ (t : Track). IsSlotOf nodes state (record slot { feed = f; touched = touched }) t × IsOfferOf nodes stamp t (record { item = item; changes = None })) (sym (ap (moved_as n track) moving_on)) (
+      subst (λ (t : Track). IsSlotOf nodes state (record slot { feed = f; touched = touched }) t × IsOfferOf nodes state.position stamp t (record { item = item; changes = None })) (sym (ap (moved_as n track) moving_on)) (
         slot_is,
-        record { item = nothing ∙ sym idle; changes = λ are. absurd (none_not (sym nothing ∙ are)); sendable = tt },
+        record { item = nothing ∙ sym idle; changes = λ are. absurd (none_not (sym nothing ∙ are)); offered = tt },
       )
     where
       none_not : None ≡ Some Changes → ⊥

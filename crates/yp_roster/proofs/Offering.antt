@@ -74,7 +74,7 @@ module _ (lawful : IsLawful recorded) (laws : LooksChangeNothing) (state : Journ
           first =
               ap (first_offer recorded state.stamp) (looked_part turn.done (track ∷ turn.more) ∙ ap (λ (t : Track). done ++ t ∷ map (ready_at state) turn.more) (twice turn.track))
               ∙ first_found state.stamp done track (map (ready_at state) turn.more) item turn.idle (sym turn.offer.item ∙ is);
-          made = record { item = sym is ∙ turn.offer.item; changes = λ are. turn.offer.changes (is ∙ are); sendable = turn.offer.sendable };
+          made = record { item = sym is ∙ turn.offer.item; changes = λ are. turn.offer.changes (is ∙ are); offered = turn.offer.offered };
         }
 
     nothing_more : (done more : List Track) (slots : List Slot) → AreSlotsOf nodes state slots (map (ready_at state) done ++ more) → length slots ≤ length done → more ≡ []

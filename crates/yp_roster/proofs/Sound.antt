@@ -10,7 +10,7 @@ use Rattle.yp_registry.specs.Registry.{IsRegistryOf, Subscriptions, established,
 use Rattle.yp_registry.specs.Terms.{HasAnchor}
 use Rattle.yp_time.specs.Ticks.{tick_limit}
 use Rattle.yp_journal.specs.declared.command.Command.{Command}
-use Rattle.yp_journal.specs.declared.command.Command.TheVariants.{Tick, Edit, Rules, Establish}
+use Rattle.yp_journal.specs.declared.command.Command.TheVariants.{Tick, Edit, Rules, Establish, Take}
 use Rattle.yp_journal.specs.declared.entry.Entry.{Entry}
 use Rattle.yp_journal.specs.declared.receiver.ReceiverInfo.{ReceiverInfo}
 use Rattle.yp_journal.specs.History.{JournalState, IsLegal, MayCome, first_state, next_state, state_of}
@@ -31,6 +31,7 @@ module _ (laws : StatesAreKept) (nodes : List SchemaNode) where
   next_sound state (Tick tick) may sound = record { ids = sound.ids; registry = sound.registry; users = sound.users; datastore = sound.datastore; stamp = omega (arith, may, sound.stamp) }
   next_sound state (Edit patch) may sound = record { ids = sound.ids; registry = sound.registry; users = sound.users; datastore = laws.rows nodes state (Edit patch) sound.datastore; stamp = sound.stamp }
   next_sound state (Rules policy) may sound = record { ids = sound.ids; registry = sound.registry; users = sound.users; datastore = sound.datastore; stamp = sound.stamp }
+  next_sound state (Take receiver count) may sound = record { ids = sound.ids; registry = sound.registry; users = sound.users; datastore = sound.datastore; stamp = sound.stamp }
   next_sound state (Establish by ask) may sound = record {
     ids = laws.ids nodes state.policy state.registry by ask state.stamp sound.ids;
     registry = laws.registry nodes state.policy state.registry by ask state.stamp (subst (λ (n : ℕ). by < n) (sym sound.users) may.0) may.1 sound.stamp sound.registry;

@@ -10,7 +10,6 @@ use Rattle.yp_filter.specs.Fits.{filter_fits}
 use Rattle.yp_filter.specs.View.{filter_view}
 use Rattle.yp_filter.specs.declared.filter.Filter.{Filter}
 use Rattle.yp_edit.specs.Records.{touched_paths}
-use Rattle.yp_encode.specs.Sendable.{IsSendableChange}
 use Rattle.yp_registry.specs.Registry.{live_at}
 use Rattle.yp_select.specs.Selection.{selection}
 use Rattle.yp_feed.specs.Machine.{FeedState}
@@ -28,7 +27,7 @@ use Rattle.yp_nacm.specs.Decision.{is_readable}
 use Rattle.yp_base.specs.declared.notice.Change.{Change}
 use Rattle.yp_base.specs.declared.row.Row.{Row}
 use Rattle.yp_roster.specs.declared.slot.Slot.{Slot}
-use Rattle.yp_roster.specs.Slots.{IsKeptAt, IsRead, IsSlotOf, record_at}
+use Rattle.yp_roster.specs.Slots.{IsSendableRecord, IsKeptAt, IsRead, IsSlotOf, record_at}
 
 -- what is known of windows
 pub record AreWindows : Type 0 where
@@ -60,7 +59,7 @@ module _ (nodes : List SchemaNode) (state : JournalState) (slot : Slot) (track :
 
 -- a slot with another feed of the same subscription and receiver, other places and another record set aside
 pub kept_again : (nodes : List SchemaNode) (state : JournalState) (slot new : Slot) → IsKeptAt nodes state slot → new.feed.sub ≡ slot.feed.sub → new.feed.receiver ≡ slot.feed.receiver → new.filter ≡ slot.filter
-    → AllByRecursion (EndsAsRow nodes) (paths_of new.touched) → IfSome new.frozen (λ frozen. AllByRecursion (IsSendableChange nodes) frozen.edits) → IsKeptAt nodes state new
+    → AllByRecursion (EndsAsRow nodes) (paths_of new.touched) → IfSome new.frozen (IsSendableRecord nodes) → IsKeptAt nodes state new
 kept_again nodes state slot new kept sub receiver filter paths sendable = record {
   filter = record {
     terms = kept.filter.terms;

@@ -14,7 +14,7 @@ use Rattle.yp_registry.specs.Registry.{Subscriptions, establish_answer, establis
 use Rattle.yp_registry.specs.Terms.{Terms}
 use Rattle.yp_feed.specs.Machine.{FeedState, freezes, frozen, is_on_change}
 use Rattle.yp_journal.specs.declared.command.Command.{Command}
-use Rattle.yp_journal.specs.declared.command.Command.TheVariants.{Tick, Edit, Rules, Establish}
+use Rattle.yp_journal.specs.declared.command.Command.TheVariants.{Tick, Edit, Rules, Establish, Take}
 use Rattle.yp_journal.specs.declared.entry.Entry.{Entry}
 use Rattle.yp_journal.specs.declared.reply.Reply.TheVariants.{Id}
 use Rattle.yp_journal.specs.History.{JournalState, next_state, reply_by, reply_to}
@@ -103,6 +103,7 @@ next_position nodes before (Tick tick) = refl
 next_position nodes before (Edit patch) = refl
 next_position nodes before (Rules policy) = refl
 next_position nodes before (Establish by ask) = refl
+next_position nodes before (Take receiver count) = refl
 
 -- an entry with another act
 abbrev with_act : Act → Moment → Moment

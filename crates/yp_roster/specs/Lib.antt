@@ -1,3 +1,6 @@
+pub mod Readers
 pub mod Slots
+pub mod Classes
+pub mod Records
 pub mod Steps
 pub mod Rosters

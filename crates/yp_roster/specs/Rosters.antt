@@ -17,8 +17,11 @@ use Rattle.yp_attempt.specs.Workers.{Stands, ready}
 use Rattle.yp_moment.specs.Entries.{moments_of}
 use Rattle.yp_moment.specs.Windows.{recorded}
 use Rattle.yp_roster.specs.declared.roster.Offer.{Offer}
+use Rattle.yp_roster.specs.declared.roster.Roster.{Roster}
 use Rattle.yp_roster.specs.declared.slot.Looked.{Looked}
 use Rattle.yp_roster.specs.declared.slot.Slot.{Slot}
+use Rattle.yp_roster.specs.Classes.{AreClassesOf}
+use Rattle.yp_roster.specs.Records.{AreTold}
 use Rattle.yp_roster.specs.Slots.{AreSlotsOf, IsOfferOf}
 
 -- a track that was looked at, at a state
@@ -43,6 +46,13 @@ pub record IsRosterOf (nodes : List SchemaNode) (receivers : List ReceiverInfo) 
   pub legal : IsLegal nodes (first_state receivers) entries
   pub stands : IsRosterAt nodes (state_of nodes (first_state receivers) entries) mine (moments_of nodes receivers entries) answers slots
 
+-- ---- how its slots share
+
+-- the slots of a roster have their classes at a state, and each record that is kept is that of its class there
+pub record IsClassed (nodes : List SchemaNode) (state : JournalState) (roster : Roster) : Type 0 where
+  pub classes : AreClassesOf nodes state roster.classes.all.items roster.slots.items
+  pub told : AreTold nodes state roster.classes.all.items roster.classes.told.items
+
 -- ---- what a roster offers
 
 -- all slots were looked at, and none offers anything
@@ -62,7 +72,7 @@ pub record IsFoundAt (nodes : List SchemaNode) (state : JournalState) (mine : Li
   pub kept : AreSlotsOf nodes state slots (before ++ track ∷ after)
   pub place : length before ≡ offer.place
   pub first : first_offer recorded state.stamp (map (ready_at state) (before ++ track ∷ after)) ≡ Some (record { before = before; track = track; item = offer.item; after = map (ready_at state) after })
-  pub made : IsOfferOf nodes state.stamp track (record { item = Some offer.item; changes = offer.changes })
+  pub made : IsOfferOf nodes state.position state.stamp track (record { item = Some offer.item; changes = offer.changes })
 
 -- what comes next: the first offer, and none exactly where nothing is offered
 abbrev pub IsNextAt : List SchemaNode → JournalState → List ℕ → List Moment → List Answer → Option Offer → List Slot → Type 0
@@ -89,7 +99,7 @@ pub record IsTurnOf (nodes : List SchemaNode) (state : JournalState) (tracks : L
   pub count : length done ≡ place
   pub kept : AreSlotsOf nodes state slots (map (ready_at state) done ++ ready_at state track ∷ more)
   pub idle : AllByRecursion (λ other. offered_item recorded state.stamp other ≡ None) (map (ready_at state) done)
-  pub offer : IsOfferOf nodes state.stamp (ready_at state track) found
+  pub offer : IsOfferOf nodes state.position state.stamp (ready_at state track) found
 
 -- ---- what the states of a journal keep
 

@@ -1,7 +1,8 @@
 -- What is kept of a feed in place of its window of selections: the places that changed since its base, and the record that was set aside.
-use Rattle.std.specs.Prelude.{◌≡◌, ℕ, ◌<◌, List, [], ◌∷◌, length, true, false, not, ◌&&◌, ◌||◌, Option, Some, None, IfSome}
+use Rattle.std.specs.Prelude.{◌≡◌, ℕ, ◌<◌, ◌≤◌, List, [], ◌∷◌, length, true, false, not, ◌&&◌, ◌||◌, Option, Some, None, IfSome}
 use Rattle.std.specs.List.{AllByRecursion, slice_get}
 use Rattle.yp_base.specs.declared.notice.Change.{Change}
+use Rattle.serde_json.specs.Written.{compact_text}
 use Rattle.yp_schema.specs.declared.schema.SchemaNode.{SchemaNode}
 use Rattle.yp_schema.specs.Datastore.{IsDatastore}
 use Rattle.yp_filter.specs.Fits.{filter_fits}
@@ -9,16 +10,19 @@ use Rattle.yp_filter.specs.View.{filter_view}
 use Rattle.yp_nacm.specs.declared.compile.UserRules.{UserRules}
 use Rattle.yp_registry.specs.Registry.{live_at}
 use Rattle.yp_registry.specs.Terms.{Terms}
+use Rattle.yp_encode.specs.Lines.{patch_data}
 use Rattle.yp_encode.specs.Sendable.{IsSendableChange}
 use Rattle.yp_select.specs.Selection.{selection}
 use Rattle.yp_touch.specs.Absorbed.{EndsAsRow, all_absorbed, paths_of}
 use Rattle.yp_touch.specs.Absorbed.{recorded as record_of_roots}
+use Rattle.yp_time.specs.Ticks.{tick_limit}
 use Rattle.yp_feed.specs.declared.item.Item.TheVariants.{Changes}
 use Rattle.yp_feed.specs.Machine.{is_on_change, resyncs}
 use Rattle.yp_journal.specs.History.{JournalState, rules_at, may_read}
 use Rattle.yp_attempt.specs.Tracks.{Frozen, Track, current, excluded_kinds, offered_item, record_in}
 use Rattle.yp_moment.specs.Entries.{selected_at}
 use Rattle.yp_moment.specs.Windows.{recorded}
+use Rattle.yp_roster.specs.declared.records.Record.{Record}
 use Rattle.yp_roster.specs.declared.slot.Frozen.{Frozen as FrozenHere}
 use Rattle.yp_roster.specs.declared.slot.Looked.{Looked}
 use Rattle.yp_roster.specs.declared.slot.Slot.{Slot}
@@ -49,12 +53,17 @@ pub record HasFilterOf (nodes : List SchemaNode) (state : JournalState) (slot : 
   pub filter : filter_view slot.filter ≡ terms.asked
   pub fits : filter_fits nodes (filter_view slot.filter) ≡ true
 
+-- a record that was set aside can be sent
+pub record IsSendableRecord (nodes : List SchemaNode) (frozen : FrozenHere) : Type 0 where
+  pub edits : AllByRecursion (IsSendableChange nodes) frozen.edits
+  pub tick : frozen.tick ≤ tick_limit
+
 -- what is kept is of a state: the filter is that of a live subscription, the receiver is there, each place ends as a row does, and what was set aside can be sent
 pub record IsKeptAt (nodes : List SchemaNode) (state : JournalState) (slot : Slot) : Type 0 where
   pub filter : HasFilterOf nodes state slot
   pub receiver : slot.feed.receiver < length state.receivers
   pub paths : AllByRecursion (EndsAsRow nodes) (paths_of slot.touched)
-  pub sendable : IfSome slot.frozen (λ frozen. AllByRecursion (IsSendableChange nodes) frozen.edits)
+  pub sendable : IfSome slot.frozen (IsSendableRecord nodes)
 
 -- whether the number of changed places and that of edits may be read: of a feed on change that owes neither all that it selects nor its end
 pub record IsRead (track : Track) : Type 0 where
@@ -83,12 +92,22 @@ AreSlotsOf nodes state (slot ∷ slots) (track ∷ tracks) = IsSlotOf nodes stat
 abbrev pub record_at : List SchemaNode → JournalState → Slot → List Change
 record_at nodes state slot = record_of_roots (excluded_kinds slot.feed.trigger) slot.touched (selection nodes (filter_view slot.filter) (may_read nodes state slot.feed.receiver) state.rows)
 
--- what a look finds is what a track offers at a stamp, with the record where changes are offered, which can be sent
-pub record IsOfferOf (nodes : List SchemaNode) (stamp : ℕ) (track : Track) (looked : Looked) : Type 0 where
+-- the edits of a record that is offered
+abbrev pub edits_of : Option Record → Option (List Change)
+edits_of None = None
+edits_of (Some told) = Some told.changes
+
+-- a record that is offered at a position: its text is that of its edits, and each can be sent
+pub record IsOffered (nodes : List SchemaNode) (position : ℕ) (told : Record) : Type 0 where
+  pub text : told.text ≡ compact_text (patch_data nodes position told.changes)
+  pub sendable : AllByRecursion (IsSendableChange nodes) told.changes
+
+-- what a look finds is what a track offers at a position and a stamp, with the record where changes are offered
+pub record IsOfferOf (nodes : List SchemaNode) (position stamp : ℕ) (track : Track) (looked : Looked) : Type 0 where
   pub item : looked.item ≡ offered_item recorded stamp track
-  pub changes : looked.item ≡ Some Changes → looked.changes ≡ Some (record_in recorded track)
-  pub sendable : IfSome looked.changes (λ changes. AllByRecursion (IsSendableChange nodes) changes)
+  pub changes : looked.item ≡ Some Changes → edits_of looked.changes ≡ Some (record_in recorded track)
+  pub offered : IfSome looked.changes (IsOffered nodes position)
 
 -- a look at a slot: for each track that it stood for, it stands for what becomes of this, and finds what that offers
 abbrev pub IsLook : List SchemaNode → JournalState → (Track → Track) → Slot → Slot → Looked → Type 0
-IsLook nodes state becomes old new looked = (track : Track) → IsSlotOf nodes state old track → IsSlotOf nodes state new (becomes track) × IsOfferOf nodes state.stamp (becomes track) looked
+IsLook nodes state becomes old new looked = (track : Track) → IsSlotOf nodes state old track → IsSlotOf nodes state new (becomes track) × IsOfferOf nodes state.position state.stamp (becomes track) looked

@@ -1,28 +1,36 @@
 -- What becomes of a slot by an answer and by an entry.
 use Rattle.std.specs.List.{list_any}
-use Rattle.std.specs.Prelude.{◌==◌, filter, map, ◌≡◌, ℕ, zero, suc, length, List, [], ◌∷◌, ◌++◌, Bool, Some, None, if◌then◌else◌}
-use Rattle.yp_base.specs.declared.row.Row.{Row}
+use Rattle.std.specs.Prelude.{◌==◌, filter, map, ◌≡◌, ℕ, zero, suc, length, List, [], ◌∷◌, ◌++◌, Bool, true, is_some, IfSome, Some, None, if◌then◌else◌}
 use Rattle.yp_schema.specs.declared.schema.SchemaNode.{SchemaNode}
 use Rattle.yp_schema.specs.Datastore.{IsDatastore}
 use Rattle.yp_edit.specs.declared.changed.ChangedRow.{ChangedRow}
 use Rattle.yp_edit.specs.Changes.{changed_rows}
+use Rattle.yp_edit.specs.declared.patch.Patch.{Patch}
+use Rattle.yp_filter.specs.Filters.{Asked}
+use Rattle.yp_filter.specs.View.{filter_view}
+use Rattle.yp_nacm.specs.declared.policy.Policy.{Policy}
 use Rattle.yp_registry.specs.Registry.{live_at}
 use Rattle.yp_registry.specs.Terms.{Terms}
 use Rattle.yp_registry.specs.Ids.{HasRisingIds}
 use Rattle.yp_registry.specs.Registry.{IsRegistryOf}
 use Rattle.yp_registry.specs.declared.ask.Ask.{Ask}
-use Rattle.yp_journal.specs.declared.command.Command.TheVariants.{Establish}
+use Rattle.yp_journal.specs.declared.command.Command.TheVariants.{Edit, Establish, Rules as Policies}
 use Rattle.yp_journal.specs.declared.entry.Entry.{Entry}
 use Rattle.yp_journal.specs.declared.reply.Reply.TheVariants.{Id}
-use Rattle.yp_journal.specs.History.{JournalState, rules_at, next_state, reply_to}
+use Rattle.yp_journal.specs.History.{JournalState, may_read, rules_at, next_state, reply_to}
+use Rattle.yp_select.specs.Selection.{selection}
+use Rattle.yp_touch.specs.declared.root.Root.{Root}
+use Rattle.yp_touch.specs.Absorbed.{absorbed}
 use Rattle.yp_attempt.specs.Moments.{Moment, after_rules, new_track}
 use Rattle.yp_attempt.specs.Tracks.{Track, Answer, Took, Full}
 use Rattle.yp_moment.specs.Entries.{selected_at, moment_between}
+use Rattle.yp_roster.specs.declared.classes.Class.{Class}
 use Rattle.yp_roster.specs.declared.following.Entered.{Entered}
 use Rattle.yp_roster.specs.declared.settling.Settled.{Settled}
 use Rattle.yp_roster.specs.declared.settling.Settled.TheVariants as settled
 use Rattle.yp_roster.specs.declared.slot.Slot.{Slot}
-use Rattle.yp_roster.specs.Slots.{AreRulesAt, AreSlotsOf, IsKeptAt, IsPresent, IsSlotOf}
+use Rattle.yp_roster.specs.Classes.{follow}
+use Rattle.yp_roster.specs.Slots.{AreRulesAt, AreSlotsOf, IsPresent, IsSlotOf}
 
 -- ---- answers
 
@@ -55,24 +63,30 @@ pub record IsPatchOf (nodes : List SchemaNode) (before after : JournalState) (th
 abbrev pub with_next : List SchemaNode → JournalState → Track → Track
 with_next nodes state track = record track { later = track.later ++ selected_at nodes state track.feed.sub track.feed.receiver ∷ [] }
 
--- what a patch found and what it changed, for a slot that is kept at the state that it found
-pub record IsMet (nodes : List SchemaNode) (after : JournalState) (slot : Slot) (tree : List Row) (those : List ChangedRow) (before : JournalState) : Type 0 where
-  pub patch : IsPatchOf nodes before after those
-  pub rows : tree ≡ before.rows
-  pub kept : IsKeptAt nodes before slot
-
 -- an entry found a state: it left the present one, its reply is that of the history, and the rows, the rules and the registry are those of the two states
 pub record IsEntered (entered : Entered) (before : JournalState) : Type 0 where
-  pub present : IsPresent entered.present.schema.now entered.present.state.now entered.present.rules.now
+  pub present : IsPresent entered.present.schema.now entered.present.state.now entered.present.readers.now
   pub after : entered.present.state.now ≡ next_state entered.present.schema.now before entered.entry.now.command
   pub reply : entered.entry.now.reply ≡ reply_to entered.present.schema.now before entered.entry.now.command
   pub datastore : IsDatastore entered.present.schema.now before.rows
-  pub rows : entered.before.now ≡ before.rows
+  pub rows : IfSome entered.before (λ tree. tree.now ≡ before.rows)
   pub own : AreRulesAt before entered.rules.now
   pub changed : entered.changed.now ≡ changed_rows before.rows entered.present.state.now.rows
   pub ids : HasRisingIds before.registry
   pub registry : IsRegistryOf entered.present.schema.now entered.present.state.now.registry
   pub users : length entered.present.state.now.registry.users ≡ length entered.present.state.now.receivers
+
+-- a patch did
+pub record IsEnteredByPatch (taken : Entered) (before : JournalState) : Type 0 where
+  pub patch : Patch
+  pub command : taken.entry.now.command ≡ Edit patch
+  pub entered : IsEntered taken before
+
+-- a policy did
+pub record IsEnteredByRules (taken : Entered) (before : JournalState) : Type 0 where
+  pub policy : Policy
+  pub command : taken.entry.now.command ≡ Policies policy
+  pub entered : IsEntered taken before
 
 -- what the entry is to feeds
 abbrev pub entered_moment : Entered → JournalState → Moment
@@ -89,6 +103,27 @@ AreEnteredTo entered before (suc place) [] [] = Unit {0}
 AreEnteredTo entered before (suc place) [] (track ∷ tracks) = ⊥
 AreEnteredTo entered before (suc place) (slot ∷ slots) [] = ⊥
 AreEnteredTo entered before (suc place) (slot ∷ slots) (track ∷ tracks) = IsSlotOf entered.present.schema.now entered.present.state.now slot (entered_track entered before track) × AreEnteredTo entered before place slots tracks
+
+-- ---- patches by class
+
+-- the tree of the rows before an entry is there for a patch, where a class sends on change
+abbrev pub HasTree : Entered → List Class → Type 0
+HasTree entered classes = (patch : Patch) → entered.entry.now.command ≡ Edit patch → follow classes ≡ true → is_some entered.before ≡ true
+
+-- the roots, from nothing, of a step between two states of what a filter selects for the user of a receiver, by the rules of the second
+abbrev pub step_of : List SchemaNode → JournalState → JournalState → Asked → ℕ → List Root
+step_of nodes before after asked receiver = absorbed [] (selection nodes asked (may_read nodes after receiver) before.rows) (selection nodes asked (may_read nodes after receiver) after.rows)
+
+-- those of what a class selects, where it sends on change
+abbrev pub IsStepOf : List SchemaNode → JournalState → JournalState → Class → List Root → Type 0
+IsStepOf nodes before after class step = class.on_change ≡ true → step ≡ step_of nodes before after (filter_view class.filter) class.first
+
+-- the same of classes in order
+abbrev pub AreStepsOf : List SchemaNode → JournalState → JournalState → List Class → List (List Root) → Type 0
+AreStepsOf nodes before after [] [] = Unit {0}
+AreStepsOf nodes before after [] (step ∷ steps) = ⊥
+AreStepsOf nodes before after (class ∷ classes) [] = ⊥
+AreStepsOf nodes before after (class ∷ classes) (step ∷ steps) = IsStepOf nodes before after class step × AreStepsOf nodes before after classes steps
 
 -- ---- new subscriptions
 

@@ -1,6 +1,5 @@
 //! The roster: the slots of some receivers, in the order in which they are asked for offers.
 ghost use Rattle.std.specs.Prelude.{◌≡◌, ◌+◌, ◌<◌, ◌∷◌, ◌++◌, [], ℕ, List, length, vec_len, IfOk, OnOk, Option, Some, IfSome, map, option_copied};
-ghost use Rattle.yp_base.specs.declared.notice.Change.{Change};
 ghost use Rattle.yp_schema.specs.declared.schema.SchemaNode.{SchemaNode};
 ghost use Rattle.yp_schema.specs.WellFormed.{IsSchema};
 ghost use Rattle.yp_journal.specs.declared.receiver.ReceiverInfo.{ReceiverInfo};
@@ -10,12 +9,18 @@ ghost use Rattle.yp_registry.specs.Terms.{AreTermsOf};
 ghost use Rattle.yp_moment.specs.Entries.{act_of, starts_with};
 ghost use Rattle.yp_attempt.specs.Moments.{Moment, MayFollow};
 ghost use Rattle.yp_attempt.specs.Tracks.{Answer, Track};
-ghost use Rattle.yp_roster.specs.Rosters.{IsFoundAt, IsIdleAt, IsLookedTo, IsNextAt, IsRosterAt, IsRosterOf, IsTurnOf};
+ghost use Rattle.yp_roster.specs.declared.records.Record.{Record as RecordThere};
+ghost use Rattle.yp_roster.specs.Classes.{AreClassedTo, AreClassesOf, HaveClasses, follow, member_of};
+ghost use Rattle.yp_roster.specs.Records.{AreTold};
+ghost use Rattle.yp_roster.specs.Rosters.{IsClassed, IsFoundAt, IsIdleAt, IsLookedTo, IsNextAt, IsRosterAt, IsRosterOf, IsTurnOf};
 ghost use Rattle.yp_roster.specs.Slots.{AreSlotsOf, IsPresent};
-ghost use Rattle.yp_roster.specs.Steps.{AreEnteredTo, IsEntered, IsGivenBy, IsMomentAt, answer_of, entered_moment, entered_track, new_tracks};
+ghost use Rattle.yp_roster.specs.Steps.{AreEnteredTo, HasTree, IsEntered, IsEnteredByRules, IsGivenBy, IsMomentAt, answer_of, entered_moment, entered_track, new_tracks};
 
+use crate::classes::{Class, Classes, follow, number_of};
 use crate::following::Entered;
+use crate::patching::enter_patch;
 use crate::present::Present;
+use crate::records::Record;
 use crate::settling::Settled;
 use crate::slot::{Looked, Slot};
 use std::alloc::Global;
@@ -25,7 +30,6 @@ use yp_attempt::laws::{
     an_opened_worker_stands_for_nothing,
 };
 use yp_base::memory::NoMemory;
-use yp_base::notice::Changes;
 use yp_base::steps::Steps;
 use yp_feed::item::Item;
 use yp_journal::command::Command;
@@ -33,13 +37,16 @@ use yp_journal::entry::Entry;
 use yp_journal::reply::Reply;
 use yp_journal::state::State;
 use yp_moment::laws::what_feeds_know_of_selections_is_lawful;
+use yp_nacm::laws::same_rules_are_one;
 use yp_registry::laws::an_id_is_given_once;
 use yp_registry::terms::Terms;
+use yp_touch::laws::absorbed_roots_are_those_of_the_window;
 
-/// The slots of the feeds of some receivers.
+/// The slots of the feeds of some receivers, and what those of a class share.
 #[derive(Drop)]
 pub struct Roster {
     pub slots: Vec<Slot>,
+    pub classes: Classes,
 }
 
 /// What a roster offers next: the place of the slot that offers it, the item, and the record where it is of
@@ -48,41 +55,43 @@ pub struct Roster {
 pub struct Offer {
     pub place: usize,
     pub item: Item,
-    pub changes: Option<Changes>,
+    pub changes: Option<Record>,
 }
 
-/// Goes on by an entry with the slot at a place.
-fn enter_at<L: Ledger>(
+/// Goes on by a policy with the slot at a place, with the number of its class among those of some slots.
+fn enter_rules_at(
     slots: &mut Vec<Slot>,
     place: usize,
     alloc: Global,
     entered: &Entered,
-    steps: &mut Steps<L>,
+    classes: &mut Vec<Class>,
 ) -> Result<(), NoMemory>
     requires place { place < length slots.old.items }
-    requires entered { (before : JournalState) × IsEntered entered.now before × ((tracks : List Track) × AreEnteredTo entered.now before place slots.old.items tracks) }
+    requires entered { (before : JournalState) × IsEnteredByRules entered.now before × ((tracks : List Track) × AreEnteredTo entered.now before place slots.old.items tracks) }
     ensures count { length slots.new.items ≡ length slots.old.items }
-    ensures entered { OnOk result ((before : JournalState) (tracks : List Track) → IsEntered entered.now before → AreEnteredTo entered.now before place slots.old.items tracks
+    ensures entered { OnOk result ((before : JournalState) (tracks : List Track) → IsEnteredByRules entered.now before → AreEnteredTo entered.now before place slots.old.items tracks
         → AreEnteredTo entered.now before (place + 1) slots.new.items tracks) }
+    ensures classed { OnOk result (AreClassedTo entered.now.present.schema.now entered.now.present.state.now classes.old.items place slots.old.items → AreClassedTo entered.now.present.schema.now entered.now.present.state.now classes.new.items (place + 1) slots.new.items) }
 {
-    slots[place].enter(alloc, entered, steps)
+    slots[place].enter_rules(alloc, entered, classes)
 }
 
-/// Goes on by an entry with each slot.
-fn enter_all<L: Ledger>(
+/// Goes on by a policy with each slot, and makes all classes anew.
+fn enter_rules(
     slots: &mut Vec<Slot>,
     alloc: Global,
     entered: &Entered,
-    steps: &mut Steps<L>,
-) -> Result<(), NoMemory>
-    requires { (before : JournalState) × IsEntered entered.now before × ((tracks : List Track) × AreSlotsOf entered.now.present.schema.now before slots.old.items tracks) }
-    ensures { OnOk result ((before : JournalState) (tracks : List Track) → IsEntered entered.now before → AreSlotsOf entered.now.present.schema.now before slots.old.items tracks
+) -> Result<Vec<Class>, NoMemory>
+    requires { (before : JournalState) × IsEnteredByRules entered.now before × ((tracks : List Track) × AreSlotsOf entered.now.present.schema.now before slots.old.items tracks) }
+    ensures slots { OnOk result ((before : JournalState) (tracks : List Track) → IsEnteredByRules entered.now before → AreSlotsOf entered.now.present.schema.now before slots.old.items tracks
         → AreSlotsOf entered.now.present.schema.now entered.now.present.state.now slots.new.items (map (entered_track entered.now before) tracks)) }
+    ensures classes { IfOk result (λ classes. AreClassesOf entered.now.present.schema.now entered.now.present.state.now classes.items slots.new.items) }
 {
+    let mut classes = Vec::new(alloc);
     for place in 0..slots.len() {
-        enter_at(slots, place, alloc, entered, steps)?;
+        enter_rules_at(slots, place, alloc, entered, &mut classes)?;
     }
-    Ok(())
+    Ok(classes)
 }
 
 /// The live subscription of an id.
@@ -112,18 +121,24 @@ fn started<'a>(entry: &Entry, live: &'a [Terms]) -> Option<&'a Terms>
 /// Adds the slot of a subscription that starts for a receiver, where the subscription names it.
 fn begin_one(
     slots: &mut Vec<Slot>,
+    classes: &mut Vec<Class>,
     alloc: Global,
     present: &Present,
     terms: &Terms,
     receiver: u32,
 ) -> Result<(), NoMemory>
-    requires { AreTermsOf present.now.schema.now (length present.now.state.now.receivers) terms.now }
-    ensures { OnOk result ((m : Moment) (tracks : List Track) → IsMomentAt present.now.schema.now present.now.state.now m → live_at terms.now.id present.now.state.now.registry.live ≡ Some terms.now
+    requires present { IsPresent present.now.schema.now present.now.state.now present.now.readers.now }
+    requires terms { AreTermsOf present.now.schema.now (length present.now.state.now.receivers) terms.now }
+    ensures slots { OnOk result ((m : Moment) (tracks : List Track) → IsMomentAt present.now.schema.now present.now.state.now m → live_at terms.now.id present.now.state.now.registry.live ≡ Some terms.now
         → AreSlotsOf present.now.schema.now present.now.state.now slots.old.items tracks
         → AreSlotsOf present.now.schema.now present.now.state.now slots.new.items (tracks ++ new_tracks m present.now.state.now.position terms.now (receiver ∷ []))) }
+    ensures classes { OnOk result (AreClassesOf present.now.schema.now present.now.state.now classes.old.items slots.old.items → AreClassesOf present.now.schema.now present.now.state.now classes.new.items slots.new.items) }
 {
     if terms.receivers().contains(&receiver) {
-        slots.push(Slot::start(alloc, present, terms, receiver)?)?;
+        let filter = terms.filter();
+        let trigger = terms.trigger();
+        let class = number_of(alloc, present, receiver, filter, trigger, classes)?;
+        slots.push(Slot::start(alloc, present, terms, receiver, class)?)?;
     }
     Ok(())
 }
@@ -131,18 +146,21 @@ fn begin_one(
 /// Adds the slots of a subscription that starts, for those of some receivers that it names.
 fn begin(
     slots: &mut Vec<Slot>,
+    classes: &mut Vec<Class>,
     alloc: Global,
     present: &Present,
     terms: &Terms,
     mine: &[u32],
 ) -> Result<(), NoMemory>
-    requires { AreTermsOf present.now.schema.now (length present.now.state.now.receivers) terms.now }
-    ensures { OnOk result ((m : Moment) (tracks : List Track) → IsMomentAt present.now.schema.now present.now.state.now m → live_at terms.now.id present.now.state.now.registry.live ≡ Some terms.now
+    requires present { IsPresent present.now.schema.now present.now.state.now present.now.readers.now }
+    requires terms { AreTermsOf present.now.schema.now (length present.now.state.now.receivers) terms.now }
+    ensures slots { OnOk result ((m : Moment) (tracks : List Track) → IsMomentAt present.now.schema.now present.now.state.now m → live_at terms.now.id present.now.state.now.registry.live ≡ Some terms.now
         → AreSlotsOf present.now.schema.now present.now.state.now slots.old.items tracks
         → AreSlotsOf present.now.schema.now present.now.state.now slots.new.items (tracks ++ new_tracks m present.now.state.now.position terms.now mine.now)) }
+    ensures classes { OnOk result (AreClassesOf present.now.schema.now present.now.state.now classes.old.items slots.old.items → AreClassesOf present.now.schema.now present.now.state.now classes.new.items slots.new.items) }
 {
     for receiver in mine {
-        begin_one(slots, alloc, present, terms, *receiver)?;
+        begin_one(slots, classes, alloc, present, terms, *receiver)?;
     }
     Ok(())
 }
@@ -153,47 +171,68 @@ fn look_at<L: Ledger>(
     place: usize,
     alloc: Global,
     present: &Present,
+    classes: &mut Classes,
     steps: &mut Steps<L>,
 ) -> Result<Looked, NoMemory>
-    requires present { IsPresent present.now.schema.now present.now.state.now present.now.rules.now }
+    requires present { IsPresent present.now.schema.now present.now.state.now present.now.readers.now }
     requires place { place < length slots.old.items }
     requires looked { (tracks : List Track) × IsLookedTo present.now.schema.now present.now.state.now tracks place slots.old.items }
+    requires classes { HaveClasses present.now.state.now classes.old.all.items slots.old.items }
+    requires told { AreTold present.now.schema.now present.now.state.now classes.old.all.items classes.old.told.items }
     ensures count { length slots.new.items ≡ length slots.old.items }
     ensures turn { IfOk result (λ found. (tracks : List Track) → IsLookedTo present.now.schema.now present.now.state.now tracks place slots.old.items
         → IsTurnOf present.now.schema.now present.now.state.now tracks place slots.new.items found) }
+    ensures members { OnOk result (map member_of slots.new.items ≡ map member_of slots.old.items) }
+    ensures all { classes.new.all ≡ classes.old.all }
+    ensures told { OnOk result (AreTold present.now.schema.now present.now.state.now classes.new.all.items classes.new.told.items) }
 {
-    slots[place].look(alloc, present, steps)
+    slots[place].look(alloc, present, classes, steps)
 }
 
 impl Roster {
     /// The roster before the first entry, with no feed. It takes no memory.
     pub fn open(alloc: Global) -> Roster
-        ensures { (nodes : List SchemaNode) (receivers : List ReceiverInfo) (mine : List ℕ) → IsSchema nodes → IsRosterOf nodes receivers mine [] [] result.slots.items }
+        ensures stands { (nodes : List SchemaNode) (receivers : List ReceiverInfo) (mine : List ℕ) → IsSchema nodes → IsRosterOf nodes receivers mine [] [] result.slots.items }
+        ensures classed { (nodes : List SchemaNode) (state : JournalState) → IsClassed nodes state result }
     {
         an_opened_worker_stands_for_nothing();
         Roster {
             slots: Vec::new(alloc),
+            classes: Classes {
+                all: Vec::new(alloc),
+                told: Vec::new(alloc),
+            },
         }
     }
 
+    /// Whether a class sends on change, so that a patch is followed by the rows before it.
+    pub fn follows(&self) -> bool
+        ensures { result ≡ follow self.now.classes.all.items }
+    {
+        follow(self.classes.all.as_slice())
+    }
+
     /// The first offer of its slots, in order. It looks at them one after another until one offers something,
-    /// and answers none where none does.
+    /// and answers none where none does. Slots of one class with the same places share one record.
     pub fn next_offer<L: Ledger>(
         &mut self,
         alloc: Global,
         present: &Present,
         steps: &mut Steps<L>,
     ) -> Result<Option<Offer>, NoMemory>
-        requires present { IsPresent present.now.schema.now present.now.state.now present.now.rules.now }
+        requires present { IsPresent present.now.schema.now present.now.state.now present.now.readers.now }
         requires slots { (tracks : List Track) × AreSlotsOf present.now.schema.now present.now.state.now self.old.slots.items tracks }
-        ensures { IfOk result (λ offer. (mine : List ℕ) (past : List Moment) (answers : List Answer)
+        requires classed { IsClassed present.now.schema.now present.now.state.now self.old }
+        ensures next { IfOk result (λ offer. (mine : List ℕ) (past : List Moment) (answers : List Answer)
             → IsRosterAt present.now.schema.now present.now.state.now mine past answers self.old.slots.items
             → IsNextAt present.now.schema.now present.now.state.now mine past answers offer self.new.slots.items) }
+        ensures classed { OnOk result (IsClassed present.now.schema.now present.now.state.now self.new) }
     {
         what_feeds_know_of_selections_is_lawful();
         a_look_changes_nothing();
         for place in 0..self.slots.len() {
-            let found = look_at(&mut self.slots, place, alloc, present, steps)?;
+            let classes = &mut self.classes;
+            let found = look_at(&mut self.slots, place, alloc, present, classes, steps)?;
             match found.item {
                 Some(item) => {
                     return Ok(Some(Offer {
@@ -208,8 +247,40 @@ impl Roster {
         Ok(None)
     }
 
+    /// Goes on by an entry with each slot. Only a patch and a policy go over them.
+    fn enter<L: Ledger>(
+        &mut self,
+        alloc: Global,
+        entered: &Entered,
+        steps: &mut Steps<L>,
+    ) -> Result<(), NoMemory>
+        requires entered { (before : JournalState) × IsEntered entered.now before × AreClassesOf entered.now.present.schema.now before self.old.classes.all.items self.old.slots.items × ((tracks : List Track) × AreSlotsOf entered.now.present.schema.now before self.old.slots.items tracks) }
+        requires tree { HasTree entered.now self.old.classes.all.items }
+        ensures slots { OnOk result ((before : JournalState) (tracks : List Track) → IsEntered entered.now before → AreClassesOf entered.now.present.schema.now before self.old.classes.all.items self.old.slots.items
+            → AreSlotsOf entered.now.present.schema.now before self.old.slots.items tracks
+            → AreSlotsOf entered.now.present.schema.now entered.now.present.state.now self.new.slots.items (map (entered_track entered.now before) tracks)) }
+        ensures classes { OnOk result (AreClassesOf entered.now.present.schema.now entered.now.present.state.now self.new.classes.all.items self.new.slots.items) }
+    {
+        same_rules_are_one();
+        absorbed_roots_are_those_of_the_window();
+        match &entered.entry.command {
+            Command::Tick(_) => Ok(()),
+            Command::Edit(_) => {
+                let classes = self.classes.all.as_slice();
+                enter_patch(&mut self.slots, alloc, entered, classes, steps)
+            }
+            Command::Rules(_) => {
+                self.classes.all = enter_rules(&mut self.slots, alloc, entered)?;
+                Ok(())
+            }
+            Command::Establish { .. } => Ok(()),
+            Command::Take { .. } => Ok(()),
+        }
+    }
+
     /// Goes on by an entry, where nothing is offered: with each slot, and with the slots of the subscription
-    /// that starts by it, for those of the receivers of these numbers that it names.
+    /// that starts by it, for those of the receivers of these numbers that it names. By a patch the slots of a
+    /// class go on together, and the records that were told are those of another position then.
     pub fn absorb<L: Ledger>(
         &mut self,
         alloc: Global,
@@ -217,19 +288,32 @@ impl Roster {
         entered: &Entered,
         steps: &mut Steps<L>,
     ) -> Result<(), NoMemory>
-        requires { (before : JournalState) × IsEntered entered.now before × ((tracks : List Track) × AreSlotsOf entered.now.present.schema.now before self.old.slots.items tracks) }
-        ensures { OnOk result ((before : JournalState) (past : List Moment) (answers : List Answer) → IsEntered entered.now before
+        requires entered { (before : JournalState) × IsEntered entered.now before × IsClassed entered.now.present.schema.now before self.old × ((tracks : List Track) × AreSlotsOf entered.now.present.schema.now before self.old.slots.items tracks) }
+        requires tree { HasTree entered.now self.old.classes.all.items }
+        ensures stands { OnOk result ((before : JournalState) (past : List Moment) (answers : List Answer) → IsEntered entered.now before → IsClassed entered.now.present.schema.now before self.old
             → IsIdleAt entered.now.present.schema.now before mine.now past answers self.old.slots.items → MayFollow past (entered_moment entered.now before)
             → IsRosterAt entered.now.present.schema.now entered.now.present.state.now mine.now (past ++ entered_moment entered.now before ∷ []) answers self.new.slots.items) }
+        ensures classed { OnOk result (IsClassed entered.now.present.schema.now entered.now.present.state.now self.new) }
     {
         what_feeds_know_of_selections_is_lawful();
         a_look_changes_nothing();
         a_worker_takes_the_next_entry();
         an_id_is_given_once();
-        enter_all(&mut self.slots, alloc, entered, steps)?;
+        self.enter(alloc, entered, steps)?;
+        self.classes.told = Vec::new(alloc);
         let live = entered.present.state.registry().live();
         match started(entered.entry, live) {
-            Some(terms) => begin(&mut self.slots, alloc, &entered.present, terms, mine),
+            Some(terms) => {
+                let classes = &mut self.classes.all;
+                begin(
+                    &mut self.slots,
+                    classes,
+                    alloc,
+                    &entered.present,
+                    terms,
+                    mine,
+                )
+            }
             None => Ok(()),
         }
     }
@@ -245,9 +329,10 @@ impl Roster {
         settled: Settled,
     )
         requires place { place < length self.old.slots.items }
-        ensures { (nodes : List SchemaNode) (mine : List ℕ) (past : List Moment) (answers : List Answer) (changes : Option (List Change))
+        ensures stands { (nodes : List SchemaNode) (mine : List ℕ) (past : List Moment) (answers : List Answer) (changes : Option RecordThere)
             → IsFoundAt nodes state.now mine past answers (record { place = place; item = item; changes = changes }) self.old.slots.items
             → IsRosterAt nodes state.now mine past (answers ++ answer_of settled ∷ []) self.new.slots.items }
+        ensures classed { (nodes : List SchemaNode) → IsClassed nodes state.now self.old → IsClassed nodes state.now self.new }
     {
         what_feeds_know_of_selections_is_lawful();
         a_look_changes_nothing();

@@ -7,6 +7,7 @@ ghost use Rattle.yp_journal.specs.History.{JournalState};
 ghost use Rattle.yp_attempt.specs.Tracks.{Track};
 ghost use Rattle.yp_attempt.specs.Workers.{answered_alone};
 ghost use Rattle.yp_time.specs.Ticks.{tick_limit};
+ghost use Rattle.yp_roster.specs.Classes.{member_of};
 ghost use Rattle.yp_roster.specs.Slots.{IsSlotOf};
 ghost use Rattle.yp_roster.specs.Steps.{answer_of, gone_on};
 
@@ -74,6 +75,7 @@ impl Slot {
         ensures feed { (track : Track) → self.old.feed ≡ track.feed → self.new.feed ≡ (answered_alone n stamp track item (answer_of settled)).feed }
         ensures slot { (nodes : List SchemaNode) (state : JournalState) (track : Track) → IsSlotOf nodes state self.old track
             → (answered_alone n stamp track item (answer_of settled)).feed.ended ≡ false → IsSlotOf nodes state self.new (answered_alone n stamp track item (answer_of settled)) }
+        ensures member { member_of self.new ≡ member_of self.old }
     {
         match settled {
             Settled::Took => {

@@ -6,12 +6,16 @@ ghost use Rattle.yp_feed.specs.Machine.{offer_of};
 ghost use Rattle.yp_attempt.specs.Tracks.{Track, excluded_kinds, freeze_tried, rebased};
 ghost use Rattle.yp_attempt.specs.Workers.{ready};
 ghost use Rattle.yp_moment.specs.Windows.{recorded};
+ghost use Rattle.yp_roster.specs.Classes.{HasClass, member_of};
+ghost use Rattle.yp_roster.specs.Records.{AreTold, IsRecord};
 ghost use Rattle.yp_roster.specs.Slots.{IsPresent, IsKeptAt, IsSlotOf, IsLook, record_at};
 
+use crate::classes::Classes;
 use crate::present::Present;
+use crate::records::{Record, Told, find, with_text};
 use std::alloc::Global;
 use std::sync::ledger::Ledger;
-use yp_base::memory::NoMemory;
+use yp_base::memory::{Duplicate, NoMemory};
 use yp_base::notice::{Changes, Kinds, Trigger};
 use yp_base::steps::Steps;
 use yp_feed::feed::Feed;
@@ -30,12 +34,13 @@ pub struct Frozen {
     pub edits: Changes,
 }
 
-/// A feed, the filter of its subscription, the places that changed of what it selects since its base, and
-/// the record that was set aside.
+/// A feed, the filter of its subscription, the number of its class, the places that changed of what it
+/// selects since its base, and the record that was set aside.
 #[derive(Drop)]
 pub struct Slot {
     pub feed: Feed,
     pub filter: Filter,
+    pub class: usize,
     pub touched: Touched,
     pub frozen: Option<Frozen>,
 }
@@ -44,7 +49,7 @@ pub struct Slot {
 #[derive(Drop)]
 pub struct Looked {
     pub item: Option<Item>,
-    pub changes: Option<Changes>,
+    pub changes: Option<Record>,
 }
 
 /// The number of places, or the greatest number of 32 bits where there are more.
@@ -91,12 +96,12 @@ impl Slot {
         present: &Present,
         steps: &mut Steps<L>,
     ) -> Result<Changes, NoMemory>
-        requires present { IsPresent present.now.schema.now present.now.state.now present.now.rules.now }
+        requires present { IsPresent present.now.schema.now present.now.state.now present.now.readers.now }
         requires kept { IsKeptAt present.now.schema.now present.now.state.now self.now }
         ensures changes { IfOk result (λ changes. changes ≡ record_at present.now.schema.now present.now.state.now self.now) }
         ensures sendable { IfOk result (λ changes. AllByRecursion (IsSendableChange present.now.schema.now) changes) }
     {
-        let rules = present.rules_of(self.feed.receiver());
+        let rules = present.rules_of(self.feed.receiver() as usize);
         let excluded = excluded_kinds(self.feed.trigger());
         self.touched.record(
             alloc,
@@ -109,6 +114,39 @@ impl Slot {
         )
     }
 
+    /// The record of the places that it keeps, where it has an edit: the one that its class was told of the
+    /// same places, without the same kinds of edits, or else a new one, which is told then.
+    fn record_told<L: Ledger>(
+        &self,
+        alloc: Global,
+        present: &Present,
+        classes: &mut Classes,
+        steps: &mut Steps<L>,
+    ) -> Result<Option<Record>, NoMemory>
+        requires present { IsPresent present.now.schema.now present.now.state.now present.now.readers.now }
+        requires kept { IsKeptAt present.now.schema.now present.now.state.now self.now }
+        requires class { HasClass present.now.state.now classes.old.all.items (member_of self.now) }
+        requires told { AreTold present.now.schema.now present.now.state.now classes.old.all.items classes.old.told.items }
+        ensures record_is { IfOk result (λ told. IsRecord present.now.schema.now present.now.state.now.position (record_at present.now.schema.now present.now.state.now self.now) told) }
+        ensures all { classes.new.all ≡ classes.old.all }
+        ensures told { OnOk result (AreTold present.now.schema.now present.now.state.now classes.new.all.items classes.new.told.items) }
+    {
+        let excluded = excluded_kinds(self.feed.trigger());
+        let told = &mut classes.told;
+        if let Some(place) = find(told.as_slice(), self.class, &excluded, &self.touched) {
+            return told[place].record.copy(alloc);
+        }
+        let changes = self.record(alloc, present, steps)?;
+        let record = with_text(alloc, present, changes)?;
+        told.push(Told {
+            class: self.class,
+            excluded,
+            touched: self.touched.copy(alloc)?,
+            record: record.copy(alloc)?,
+        })?;
+        Ok(record)
+    }
+
     /// Sets the record aside where the rule for it holds (RFC 8641 section 3.11.1).
     fn freeze<L: Ledger>(
         &mut self,
@@ -116,10 +154,11 @@ impl Slot {
         present: &Present,
         steps: &mut Steps<L>,
     ) -> Result<(), NoMemory>
-        requires present { IsPresent present.now.schema.now present.now.state.now present.now.rules.now }
+        requires present { IsPresent present.now.schema.now present.now.state.now present.now.readers.now }
         requires kept { IsKeptAt present.now.schema.now present.now.state.now self.old }
-        ensures { OnOk result ((track : Track) → IsSlotOf present.now.schema.now present.now.state.now self.old track
+        ensures slot { OnOk result ((track : Track) → IsSlotOf present.now.schema.now present.now.state.now self.old track
             → IsSlotOf present.now.schema.now present.now.state.now self.new (freeze_tried recorded present.now.state.now.position present.now.state.now.stamp track)) }
+        ensures member { OnOk result (member_of self.new ≡ member_of self.old) }
     {
         absorbed_roots_are_those_of_the_window();
         let from = self.feed.base();
@@ -140,29 +179,36 @@ impl Slot {
         &mut self,
         alloc: Global,
         present: &Present,
+        classes: &mut Classes,
         steps: &mut Steps<L>,
     ) -> Result<Looked, NoMemory>
-        requires present { IsPresent present.now.schema.now present.now.state.now present.now.rules.now }
+        requires present { IsPresent present.now.schema.now present.now.state.now present.now.readers.now }
         requires kept { IsKeptAt present.now.schema.now present.now.state.now self.old }
+        requires class { HasClass present.now.state.now classes.old.all.items (member_of self.old) }
+        requires told { AreTold present.now.schema.now present.now.state.now classes.old.all.items classes.old.told.items }
         requires due { offer_of self.old.feed (min (length self.old.touched) 4294967295) 1 present.now.state.now.stamp ≡ Some Item.Changes }
-        ensures { IfOk result (λ looked. IsLook present.now.schema.now present.now.state.now (rebased recorded present.now.state.now.position present.now.state.now.stamp) self.old self.new looked) }
+        ensures look { IfOk result (λ looked. IsLook present.now.schema.now present.now.state.now (rebased recorded present.now.state.now.position present.now.state.now.stamp) self.old self.new looked) }
+        ensures member { OnOk result (member_of self.new ≡ member_of self.old) }
+        ensures all { classes.new.all ≡ classes.old.all }
+        ensures told { OnOk result (AreTold present.now.schema.now present.now.state.now classes.new.all.items classes.new.told.items) }
     {
         absorbed_roots_are_those_of_the_window();
-        let changes = self.record(alloc, present, steps)?;
-        if changes.items().is_empty() {
-            let roots = count(&self.touched);
-            let (n, stamp) = (present.state.position(), present.state.stamp());
-            let item = self.feed.want_offer(roots, 0, n, stamp);
-            self.touched = Touched::new(alloc);
-            return Ok(Looked {
-                item,
-                changes: None,
-            });
+        match self.record_told(alloc, present, classes, steps)? {
+            Some(record) => Ok(Looked {
+                item: Some(Item::Changes),
+                changes: Some(record),
+            }),
+            None => {
+                let roots = count(&self.touched);
+                let (n, stamp) = (present.state.position(), present.state.stamp());
+                let item = self.feed.want_offer(roots, 0, n, stamp);
+                self.touched = Touched::new(alloc);
+                Ok(Looked {
+                    item,
+                    changes: None,
+                })
+            }
         }
-        Ok(Looked {
-            item: Some(Item::Changes),
-            changes: Some(changes),
-        })
     }
 
     /// What it offers. Only where a record with an edit would be offered is the record made.
@@ -170,18 +216,24 @@ impl Slot {
         &mut self,
         alloc: Global,
         present: &Present,
+        classes: &mut Classes,
         steps: &mut Steps<L>,
     ) -> Result<Looked, NoMemory>
-        requires present { IsPresent present.now.schema.now present.now.state.now present.now.rules.now }
+        requires present { IsPresent present.now.schema.now present.now.state.now present.now.readers.now }
         requires kept { IsKeptAt present.now.schema.now present.now.state.now self.old }
-        ensures { IfOk result (λ looked. IsLook present.now.schema.now present.now.state.now (rebased recorded present.now.state.now.position present.now.state.now.stamp) self.old self.new looked) }
+        requires class { HasClass present.now.state.now classes.old.all.items (member_of self.old) }
+        requires told { AreTold present.now.schema.now present.now.state.now classes.old.all.items classes.old.told.items }
+        ensures look { IfOk result (λ looked. IsLook present.now.schema.now present.now.state.now (rebased recorded present.now.state.now.position present.now.state.now.stamp) self.old self.new looked) }
+        ensures member { OnOk result (member_of self.new ≡ member_of self.old) }
+        ensures all { classes.new.all ≡ classes.old.all }
+        ensures told { OnOk result (AreTold present.now.schema.now present.now.state.now classes.new.all.items classes.new.told.items) }
     {
         absorbed_roots_are_those_of_the_window();
         let roots = count(&self.touched);
         let (n, stamp) = (present.state.position(), present.state.stamp());
         let item = self.feed.want_offer(roots, 1, n, stamp);
         if are_changes(item) {
-            return self.offer_changes(alloc, present, steps);
+            return self.offer_changes(alloc, present, classes, steps);
         }
         Ok(Looked {
             item,
@@ -195,13 +247,19 @@ impl Slot {
         &mut self,
         alloc: Global,
         present: &Present,
+        classes: &mut Classes,
         steps: &mut Steps<L>,
     ) -> Result<Looked, NoMemory>
-        requires present { IsPresent present.now.schema.now present.now.state.now present.now.rules.now }
+        requires present { IsPresent present.now.schema.now present.now.state.now present.now.readers.now }
         requires slot { (track : Track) × IsSlotOf present.now.schema.now present.now.state.now self.old track }
-        ensures { IfOk result (λ looked. IsLook present.now.schema.now present.now.state.now (ready recorded present.now.state.now.position present.now.state.now.stamp) self.old self.new looked) }
+        requires class { HasClass present.now.state.now classes.old.all.items (member_of self.old) }
+        requires told { AreTold present.now.schema.now present.now.state.now classes.old.all.items classes.old.told.items }
+        ensures look { IfOk result (λ looked. IsLook present.now.schema.now present.now.state.now (ready recorded present.now.state.now.position present.now.state.now.stamp) self.old self.new looked) }
+        ensures member { OnOk result (member_of self.new ≡ member_of self.old) }
+        ensures all { classes.new.all ≡ classes.old.all }
+        ensures told { OnOk result (AreTold present.now.schema.now present.now.state.now classes.new.all.items classes.new.told.items) }
     {
         self.freeze(alloc, present, steps)?;
-        self.offer(alloc, present, steps)
+        self.offer(alloc, present, classes, steps)
     }
 }

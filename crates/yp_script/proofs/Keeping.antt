@@ -24,7 +24,7 @@ use Rattle.yp_edit.specs.Shapes.{patch_in}
 use Rattle.yp_journal.specs.declared.command.Command.{Command}
 use Rattle.yp_journal.specs.declared.command.Command.TheVariants as commands
 use Rattle.yp_journal.specs.declared.receiver.ReceiverInfo.{ReceiverInfo}
-use Rattle.yp_journal.specs.History.{MayCome, IsServed}
+use Rattle.yp_journal.specs.History.{MayCome, IsTakeOf}
 use Rattle.yp_registry.specs.Terms.{HasAnchor}
 use Rattle.yp_time.specs.Ticks.{tick_limit, IsAnchor}
 use Rattle.yp_script.specs.declared.command.Laned.{Laned}
@@ -33,7 +33,7 @@ use Rattle.yp_script.specs.declared.fault.ScriptFault.{ScriptFault}
 use Rattle.yp_script.specs.declared.form.Form.{Form}
 use Rattle.yp_script.specs.declared.form.Form.TheVariants as forms
 use Rattle.yp_script.specs.declared.form.Request.{Request}
-use Rattle.yp_script.specs.declared.form.Request.TheVariants.{Tick, Patch, Policy as Ruling, Establish}
+use Rattle.yp_script.specs.declared.form.Request.TheVariants.{Tick, Patch, Policy as Ruling, Establish, Take}
 use Rattle.yp_script.specs.declared.script.Script.{Script}
 use Rattle.yp_script.specs.declared.stage.Stage.{Stage}
 use Rattle.yp_script.specs.declared.stage.Stage.TheVariants.{Opening, Started, Schemas, Receivers, Before, Within, After}
@@ -46,11 +46,12 @@ use Rattle.yp_script.specs.Names.{names_of, receiver_number}
 use Rattle.yp_script.specs.Order.{next_stage}
 use Rattle.yp_script.specs.Readings.{Gives}
 use Rattle.yp_script.specs.Script.{Progress, no_progress, with_start, with_part, with_receiver, put_at, with_command, with_lanes, with_laned, schema_said, taken, at_stage, form_taken, line_taken, at_line, complete_start, script_at, script_from, script_of, IsReceiver, AreReceivers, MayRun}
-use Rattle.yp_script.specs.Values.{is_receiver_name, is_user_name, is_new_name, has_receiver_form, name_said, user_said, queue_said, places_said, receiver_of, receiver_said, patch_said, sound, policy_said, command_said, lanes_said, laned_said, start_said}
-use Rattle.yp_script.specs.Words.{text_at, where_true, whole_said, is_yes}
-use Rattle.yp_script.proofs.AskLaws.{asked_is}
+use Rattle.yp_script.specs.Values.{is_receiver_name, is_user_name, is_new_name, has_receiver_form, takes_itself, name_said, user_said, places_said, receiver_of, receiver_said, patch_said, sound, policy_said, command_said, lanes_said, laned_said, start_said}
+use Rattle.yp_script.specs.Words.{text_at, where_true, whole_said, whole_there, is_yes}
+use Rattle.yp_script.proofs.AskLaws.{asked_is, take_is}
+use Rattle.yp_script.proofs.ListLaws.{found_still}
 use Rattle.yp_script.proofs.Positions.{position_within, none_there}
-use Rattle.yp_script.specs.SaidLaws.{map_is, map_any, then_is, if_is, or_is, together_is, holding_is, where_is, itself_is, then_some, line_is, whole_is}
+use Rattle.yp_script.specs.SaidLaws.{map_is, map_any, then_is, if_is, or_is, together_is, holding_is, where_is, itself_is, then_some, line_is, whole_is, whole_there_is}
 
 -- ---- receivers' names
 
@@ -96,15 +97,11 @@ named receivers name is =
     let parts = and_parts (is_receiver_name name) (not (is_some (receiver_number receivers name))) is in
     (parts.0, not-true (is_some (receiver_number receivers name)) parts.1)
 
-queue_is : (queue : Option Data) → IfOk (queue_said queue) (λ places. (1 ≤ places) × (places ≤ 32))
-queue_is None = tt
-queue_is (Some json) = whole_is 1 32 json
-
 places_are : (receivers : List ReceiverInfo) (json : Data) → IfOk (places_said receivers json) (λ places. (length receivers + 1 ≤ 16) × (1 ≤ places) × (places ≤ 32))
 places_are receivers json =
-    holding_is kinds.Limit (nat_lt (length receivers) 16) (queue_said (member_of (codes "queue") json)) (λ places. (length receivers + 1 ≤ 16) × (1 ≤ places) × (places ≤ 32)) (λ room.
-    IfOk-weaker (queue_said (member_of (codes "queue") json)) (λ places. (1 ≤ places) × (places ≤ 32)) (λ places. (length receivers + 1 ≤ 16) × (1 ≤ places) × (places ≤ 32))
-    (λ n bounds. (let few : length receivers < 16 = ltb-true (length receivers) 16 room in omega arith, bounds.0, bounds.1)) (queue_is (member_of (codes "queue") json)))
+    holding_is kinds.Limit (nat_lt (length receivers) 16) (whole_there 1 32 (member_of (codes "queue") json)) (λ places. (length receivers + 1 ≤ 16) × (1 ≤ places) × (places ≤ 32)) (λ room.
+    IfOk-weaker (whole_there 1 32 (member_of (codes "queue") json)) (λ places. (1 ≤ places) × (places ≤ 32)) (λ places. (length receivers + 1 ≤ 16) × (1 ≤ places) × (places ≤ 32))
+    (λ n bounds. (let few : length receivers < 16 = ltb-true (length receivers) 16 room in omega arith, bounds.0, bounds.1)) (whole_there_is 1 32 (member_of (codes "queue") json)))
 
 name_is : (receivers : List ReceiverInfo) (json : Data) → IfOk (name_said receivers json) (λ name. is_new_name receivers name ≡ true)
 name_is receivers json = or_is kinds.Member (where_true (is_new_name receivers) (text_at (codes "name") json)) (λ name. is_new_name receivers name ≡ true) (where_is (is_new_name receivers) (text_at (codes "name") json))
@@ -114,13 +111,13 @@ user_is json = or_is kinds.Member (where_true is_user_name (text_at (codes "user
 
 receiver_is : (receivers : List ReceiverInfo) (json : Data) → IfOk (receiver_said receivers json) (MayJoin receivers)
 receiver_is receivers json =
-    if_is kinds.Member (has_receiver_form json) (name_said receivers json >>= (λ name. user_said json >>= (λ user. said_map (receiver_of name user) (places_said receivers json)))) (MayJoin receivers) (λ form.
-    then_is (name_said receivers json) (λ name. user_said json >>= (λ user. said_map (receiver_of name user) (places_said receivers json))) (λ name. is_new_name receivers name ≡ true) (MayJoin receivers) (name_is receivers json) (λ name is_name.
-    then_is (user_said json) (λ user. said_map (receiver_of name user) (places_said receivers json)) (λ user. is_user_name user ≡ true) (MayJoin receivers) (user_is json) (λ user is_user.
-    map_is (receiver_of name user) (places_said receivers json) (λ places. (length receivers + 1 ≤ 16) × (1 ≤ places) × (places ≤ 32)) (MayJoin receivers) (places_are receivers json) (λ places bounds.
+    if_is kinds.Member (has_receiver_form json) (name_said receivers json >>= (λ name. user_said json >>= (λ user. said_map (receiver_of name user (takes_itself json)) (places_said receivers json)))) (MayJoin receivers) (λ form.
+    then_is (name_said receivers json) (λ name. user_said json >>= (λ user. said_map (receiver_of name user (takes_itself json)) (places_said receivers json))) (λ name. is_new_name receivers name ≡ true) (MayJoin receivers) (name_is receivers json) (λ name is_name.
+    then_is (user_said json) (λ user. said_map (receiver_of name user (takes_itself json)) (places_said receivers json)) (λ user. is_user_name user ≡ true) (MayJoin receivers) (user_is json) (λ user is_user.
+    map_is (receiver_of name user (takes_itself json)) (places_said receivers json) (λ places. (length receivers + 1 ≤ 16) × (1 ≤ places) × (places ≤ 32)) (MayJoin receivers) (places_are receivers json) (λ places bounds.
     let new = named receivers name is_name in
     record {
-      is = record { name = new.0; user = is_user; some = bounds.1; most = bounds.2; auto = refl };
+      is = record { name = new.0; user = is_user; some = bounds.1; most = bounds.2 };
       new = new.1;
       room = bounds.0;
     }))))
@@ -132,13 +129,21 @@ abbrev pub IsOf : List SchemaNode → List ReceiverInfo → Command → Type 0
 IsOf nodes receivers (commands.Tick tick) = tick ≤ tick_limit
 IsOf nodes receivers (commands.Edit patch) = (json : Data) × (patch_in json ≡ Some patch)
 IsOf nodes receivers (commands.Rules policy) = (json : Data) × (policy_in nodes json ≡ Ok policy)
-IsOf nodes receivers (commands.Establish by ask) = (by < length receivers) × IsServed ask.trigger
+IsOf nodes receivers (commands.Establish by ask) = by < length receivers
+IsOf nodes receivers (commands.Take receiver count) = IsTakeOf receivers receiver count
 
 of_more : (nodes : List SchemaNode) (receivers : List ReceiverInfo) (receiver : ReceiverInfo) (command : Command) → IsOf nodes receivers command → IsOf nodes (receivers ++ receiver ∷ []) command
 of_more nodes receivers receiver (commands.Tick tick) is = is
 of_more nodes receivers receiver (commands.Edit patch) is = is
 of_more nodes receivers receiver (commands.Rules policy) is = is
-of_more nodes receivers receiver (commands.Establish by ask) is = (omega (arith, is.0, length-append receivers (receiver ∷ [])), is.1)
+of_more nodes receivers receiver (commands.Establish by ask) is = omega (arith, is, length-append receivers (receiver ∷ []))
+of_more nodes receivers receiver (commands.Take number count) is = record {
+  info = is.info;
+  there = found_still receivers (receiver ∷ []) number is.info is.there;
+  by_command = is.by_command;
+  some = is.some;
+  few = is.few;
+}
 
 all_more : (nodes : List SchemaNode) (receivers : List ReceiverInfo) (receiver : ReceiverInfo) (gathered : List Command) → All (IsOf nodes receivers) gathered → All (IsOf nodes (receivers ++ receiver ∷ [])) gathered
 all_more nodes receivers receiver gathered are = All-weaker (IsOf nodes receivers) (IsOf nodes (receivers ++ receiver ∷ [])) (of_more nodes receivers receiver) gathered are
@@ -159,15 +164,16 @@ policy_is nodes receivers json = map_is commands.Rules (sound (policy_in nodes j
 establish_is : (nodes : List SchemaNode) (start : Option ℕ) (receivers : List ReceiverInfo) (json : Data) → IfOk (establish_said start receivers json) (IsOf nodes receivers)
 establish_is nodes start receivers json =
     let by = option_and_then (receiver_number receivers) (text_at (codes "by") json) in
-    asked_is start receivers json (IsOf nodes receivers)
+    asked_is start receivers json (λ n. n < length receivers) (IsOf nodes receivers)
     (or_is kinds.Member by (λ n. n < length receivers) (then_some (receiver_number receivers) (text_at (codes "by") json) (λ n. n < length receivers) (number_within receivers)))
-    (λ n ask there is. (there, is))
+    (λ n ask there. there)
 
 command_is : (nodes : List SchemaNode) (start : Option ℕ) (receivers : List ReceiverInfo) (request : Request Data) → IfOk (command_said nodes start receivers request) (IsOf nodes receivers)
 command_is nodes start receivers (Tick json) = map_is commands.Tick (whole_said 0 tick_limit json) (λ n. (0 ≤ n) × (n ≤ tick_limit)) (IsOf nodes receivers) (whole_is 0 tick_limit json) (λ n bounds. bounds.1)
 command_is nodes start receivers (Patch json) = patch_is nodes receivers json
 command_is nodes start receivers (Ruling json) = policy_is nodes receivers json
 command_is nodes start receivers (Establish json) = establish_is nodes start receivers json
+command_is nodes start receivers (Take json) = take_is receivers json (IsOf nodes receivers) (λ number count is. is)
 
 laned_is : (nodes : List SchemaNode) (start : Option ℕ) (receivers : List ReceiverInfo) (count : ℕ) (place : Data) (request : Request Data) → IfOk (laned_said nodes start receivers count place request) (λ laned. IsOf nodes receivers laned.command)
 laned_is nodes start receivers count place request =
@@ -410,7 +416,8 @@ may_come : PathsKept → (nodes : List SchemaNode) (receivers : List ReceiverInf
 may_come paths nodes receivers (commands.Tick tick) is few = is
 may_come paths nodes receivers (commands.Edit patch) is few = record { json = is.0; read = is.1; few = few.0 }
 may_come paths nodes receivers (commands.Rules policy) is few = paths nodes is.0 policy is.1
-may_come paths nodes receivers (commands.Establish by ask) is few = (is.0, has_anchor ask.trigger few.1, is.1)
+may_come paths nodes receivers (commands.Establish by ask) is few = (is, has_anchor ask.trigger few.1)
+may_come paths nodes receivers (commands.Take receiver count) is few = is
 
 may_run : PathsKept → (script : Script) → ScriptKeeps script → HasBounds script → MayRun script
 may_run paths script keeps few = record {

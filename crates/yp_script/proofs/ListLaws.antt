@@ -13,6 +13,12 @@ found_none [] (suc i) is = refl
 found_none (y ∷ xs) zero is = cc
 found_none (y ∷ xs) (suc i) is = found_none xs i is
 
+-- an element stays at its place where others come behind it
+pub found_still : {X : Type 0} (xs more : List X) (i : ℕ) (x : X) → slice_get xs i ≡ Some x → slice_get (xs ++ more) i ≡ Some x
+found_still [] more i x is = cc
+found_still (y ∷ xs) more zero x is = is
+found_still (y ∷ xs) more (suc i) x is = found_still xs more i x is
+
 -- one element more of a list that is gathered from its beginning
 pub gathered_more : {X : Type 0} (xs done now : List X) (x : X) → done ++ drop (length done) xs ≡ xs → slice_get xs (length done) ≡ Some x → now ≡ done ++ x ∷ [] → now ++ drop (length now) xs ≡ xs
 gathered_more xs done now x so is more =

@@ -6,7 +6,7 @@ use Rattle.yp_base.specs.declared.notice.Kinds.{Kinds}
 use Rattle.yp_base.specs.declared.notice.Trigger.{Trigger}
 use Rattle.yp_base.specs.declared.notice.Trigger.TheVariants.{Periodic, OnChange}
 use Rattle.yp_base.specs.Json.{member_of}
-use Rattle.yp_base.specs.Results.{◌>>=◌, or_fault}
+use Rattle.yp_base.specs.Results.{or_fault}
 use Rattle.yp_base.specs.Types.{is_among}
 use Rattle.yp_registry.specs.declared.ask.Ask.{Ask}
 use Rattle.yp_registry.specs.declared.ask.FilterAsk.{FilterAsk}
@@ -20,7 +20,7 @@ use Rattle.yp_script.specs.declared.ask.AskPart.TheVariants as parts
 use Rattle.yp_script.specs.declared.fault.ScriptKind.TheVariants as kinds
 use Rattle.yp_script.specs.Faults.{Said, said_map, holding, both}
 use Rattle.yp_script.specs.Names.{receiver_number}
-use Rattle.yp_script.specs.Words.{has_terms, is_text, text_at, whole_said}
+use Rattle.yp_script.specs.Words.{is_text, text_at, whole_said}
 
 -- ---- members
 
@@ -168,21 +168,6 @@ ask_said start json = said_map ask_of (both (both (encoding_said json) (datastor
 abbrev pub by_said : List ReceiverInfo → Data → Said ℕ
 by_said receivers json = or_fault kinds.Member (option_and_then (receiver_number receivers) (text_at (codes "by") json))
 
--- the call that is made, or the least of its faults
-abbrev pub call_said : Option ℕ → List ReceiverInfo → Data → Said Command
-call_said start receivers json = said_map (λ said. Establish said.0 said.1) (holding kinds.Member (has_only parts.Establish json) (both (by_said receivers json) (ask_said start json)))
-
--- ---- later forms
-
--- whether updates on change are asked for with terms of their own, which isn't served yet
-abbrev pub is_later : Data → Bool
-is_later json = has_terms (member_of (codes "on-change") json)
-
--- a line of a later form is of no known form, where it has no other fault
-abbrev pub unless_later : Bool → Command → Said Command
-unless_later true command = Err kinds.UnknownCommand
-unless_later false command = Ok command
-
--- the subscription that a line asks for, where the start is at this second
+-- the subscription that a line asks for, where the start is at this second, or the least of its faults
 abbrev pub establish_said : Option ℕ → List ReceiverInfo → Data → Said Command
-establish_said start receivers json = call_said start receivers json >>= unless_later (is_later json)
+establish_said start receivers json = said_map (λ said. Establish said.0 said.1) (holding kinds.Member (has_only parts.Establish json) (both (by_said receivers json) (ask_said start json)))

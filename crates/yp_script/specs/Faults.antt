@@ -15,13 +15,9 @@ fault_number Order = 8
 fault_number Limit = 9
 fault_number Instant = 10
 
--- which fault is told before which: the lesser number first, but that values are of a later form last of all, since a line of a form that is known may have other faults
-abbrev pub fault_rank : ScriptKind → ℕ
-fault_rank UnknownCommand = 11
-fault_rank other = fault_number other
-
+-- of two faults the one with the lesser number
 abbrev pub least : ScriptKind → ScriptKind → ScriptKind
-least kind other = if nat_le (fault_rank kind) (fault_rank other) then kind else other
+least kind other = if nat_le (fault_number kind) (fault_number other) then kind else other
 
 -- the fault of a script: that of its first line with a fault
 pub record LineFault : Type 0 where

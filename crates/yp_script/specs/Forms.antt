@@ -1,5 +1,5 @@
 -- The form of a line of a script, with the values that stand in it: a line is a JSON object of one member, or of two in a lane.
-use Rattle.std.specs.Prelude.{ℕ, ◌&&◌, List, Bool, not, Option, Some, None, option_map, option_and_then, if◌then◌else◌, codes}
+use Rattle.std.specs.Prelude.{ℕ, List, Option, Some, None, option_map, option_and_then, if◌then◌else◌, codes}
 use Rattle.std.specs.Borrow.{Bor}
 use Rattle.serde_json.specs.Data.{Data}
 use Rattle.serde_json.specs.View.{view}
@@ -7,16 +7,10 @@ use Rattle.serde_json.specs.declared.value.Value.{Value}
 use Rattle.yp_base.specs.Json.{member_of}
 use Rattle.yp_base.specs.Types.{same_text}
 use Rattle.yp_script.specs.declared.form.Request.{Request}
-use Rattle.yp_script.specs.declared.form.Request.TheVariants.{Tick, Patch, Policy, Establish}
+use Rattle.yp_script.specs.declared.form.Request.TheVariants.{Tick, Patch, Policy, Establish, Take}
 use Rattle.yp_script.specs.declared.form.Form.{Form}
 use Rattle.yp_script.specs.declared.form.Form.TheVariants.{Start, Schema, Receiver, Command, Lanes, Lane, Join}
-use Rattle.yp_script.specs.Words.{has_count, sole_member, says}
-
--- ---- a form that isn't read yet
-
--- a receiver that waits for commands to take its packets
-abbrev pub is_later_receiver : Data → Bool
-is_later_receiver value = says (codes "take") (codes "command") value
+use Rattle.yp_script.specs.Words.{has_count, sole_member}
 
 -- ---- commands
 
@@ -27,7 +21,8 @@ request_named name value =
     else (if same_text name (codes "patch") then Some (Patch value)
     else (if same_text name (codes "policy") then Some (Policy value)
     else (if same_text name (codes "establish") then Some (Establish value)
-    else None)))
+    else (if same_text name (codes "take") then Some (Take value)
+    else None))))
 
 -- the command that an object of one member asks for
 abbrev pub request_in : Data → Option (Request Data)
@@ -40,7 +35,7 @@ abbrev pub form_named : List ℕ → Data → Option (Form Data)
 form_named name value =
     if same_text name (codes "start") then Some (Start value)
     else (if same_text name (codes "schema") then Some (Schema value)
-    else (if same_text name (codes "receiver") && not (is_later_receiver value) then Some (Receiver value)
+    else (if same_text name (codes "receiver") then Some (Receiver value)
     else (if same_text name (codes "lanes") then Some (Lanes value)
     else (if same_text name (codes "join") then Some (Join value)
     else option_map Command (request_named name value)))))
@@ -67,6 +62,7 @@ seen_request (Tick value) = Tick (view value.now)
 seen_request (Patch value) = Patch (view value.now)
 seen_request (Policy value) = Policy (view value.now)
 seen_request (Establish value) = Establish (view value.now)
+seen_request (Take value) = Take (view value.now)
 
 abbrev pub seen_form : Form (Bor Value) → Form Data
 seen_form (Start value) = Start (view value.now)

@@ -11,5 +11,6 @@ pub mod Readers
 pub mod Readings
 pub mod SaidLaws
 pub mod Script
+pub mod Takes
 pub mod Values
 pub mod Words

@@ -5,9 +5,9 @@ use Rattle.serde_json.specs.Data.{unsigned, negative, Data, number}
 use Rattle.yp_base.specs.Results.{◌>>=◌, or_fault}
 use Rattle.yp_script.specs.declared.fault.ScriptKind.{ScriptKind}
 use Rattle.yp_script.specs.declared.fault.ScriptKind.TheVariants as kinds
-use Rattle.yp_script.specs.Faults.{Said, said_map, holding, together}
+use Rattle.yp_script.specs.Faults.{Said, said_map, holding, together, both}
 use Rattle.yp_script.specs.Script.{at_line}
-use Rattle.yp_script.specs.Words.{where_true, whole_said}
+use Rattle.yp_script.specs.Words.{where_true, whole_said, whole_there}
 
 pub map_is : {X Y : Type 0} (f : X → Y) (said : Said X) (P : X → Type 0) (Q : Y → Type 0) → IfOk said P → ((x : X) → P x → Q (f x)) → IfOk (said_map f said) Q
 map_is f (Ok x) P Q is each = each x is
@@ -36,6 +36,16 @@ together_is f (Ok x) (Ok y) Q R is each = each x y is
 together_is f (Ok x) (Err kind) Q R is each = tt
 together_is f (Err kind) (Ok y) Q R is each = tt
 together_is f (Err kind) (Err other) Q R is each = tt
+
+pub both_are : {X Y : Type 0} (a : Said X) (b : Said Y) (P : X → Type 0) (Q : Y → Type 0) (R : X × Y → Type 0) → IfOk a P → IfOk b Q → ((x : X) (y : Y) → P x → Q y → R (x, y)) → IfOk (both a b) R
+both_are (Ok x) (Ok y) P Q R is are each = each x y is are
+both_are (Ok x) (Err kind) P Q R is are each = tt
+both_are (Err kind) (Ok y) P Q R is are each = tt
+both_are (Err kind) (Err other) P Q R is are each = tt
+
+pub any_said : {X : Type 0} (said : Said X) → IfOk said (λ x. Unit {0})
+any_said (Ok x) = tt
+any_said (Err kind) = tt
 
 -- a part that is said has passed its test
 pub holding_is : {X : Type 0} (kind : ScriptKind) (b : Bool) (said : Said X) (P : X → Type 0) → (b ≡ true → IfOk said P) → IfOk (holding kind b said) P
@@ -74,3 +84,7 @@ pub whole_is : (low high : ℕ) (json : Data) → IfOk (whole_said low high json
 whole_is low high (number (unsigned n)) = bounded_at low high n (nat_le low n) (nat_le n high) refl refl
 whole_is low high (number (negative z)) = tt
 whole_is low high other = tt
+
+pub whole_there_is : (low high : ℕ) (json : Option Data) → IfOk (whole_there low high json) (λ n. (low ≤ n) × (n ≤ high))
+whole_there_is low high None = tt
+whole_there_is low high (Some json) = whole_is low high json

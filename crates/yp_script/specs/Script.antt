@@ -139,13 +139,12 @@ script_in bytes = script_of (take (byte_limit + 1) bytes)
 
 -- ---- what each script keeps
 
--- a receiver as it may be declared, which takes its packets by itself
+-- a receiver as it may be declared, which takes its packets by itself or by commands
 pub record IsReceiver (receiver : ReceiverInfo) : Type 0 where
   pub name : is_receiver_name receiver.name ≡ true
   pub user : is_user_name receiver.user ≡ true
   pub some : 1 ≤ receiver.places
   pub most : receiver.places ≤ 32
-  pub auto : receiver.auto ≡ true
 
 -- 16 receivers at most, of distinct names
 pub record AreReceivers (receivers : List ReceiverInfo) : Type 0 where

@@ -1,5 +1,5 @@
 -- What the values of a line say, by its form, or the least of their faults.
-use Rattle.std.specs.Prelude.{ℕ, ◌==◌, ◌&&◌, ◌||◌, List, [], ◌∷◌, length, Bool, true, not, Option, Some, None, is_some, Result, Ok, Err, if◌then◌else◌, nat_le, nat_lt, codes}
+use Rattle.std.specs.Prelude.{ℕ, ◌==◌, ◌&&◌, ◌||◌, List, [], ◌∷◌, length, Bool, true, not, Option, is_some, Result, Ok, Err, if◌then◌else◌, nat_le, nat_lt, codes}
 use Rattle.serde_json.specs.Data.{Data, string}
 use Rattle.yp_base.specs.Json.{member_of}
 use Rattle.yp_base.specs.Results.{◌>>=◌, or_fault}
@@ -15,11 +15,12 @@ use Rattle.yp_time.specs.Instants.{start_in}
 use Rattle.yp_script.specs.declared.command.Laned.{Laned}
 use Rattle.yp_script.specs.declared.fault.ScriptKind.TheVariants as kinds
 use Rattle.yp_script.specs.declared.form.Request.{Request}
-use Rattle.yp_script.specs.declared.form.Request.TheVariants.{Tick, Patch, Policy, Establish}
+use Rattle.yp_script.specs.declared.form.Request.TheVariants.{Tick, Patch, Policy, Establish, Take}
 use Rattle.yp_script.specs.Asks.{establish_said}
 use Rattle.yp_script.specs.Faults.{Said, said_map, holding, together}
 use Rattle.yp_script.specs.Names.{receiver_number}
-use Rattle.yp_script.specs.Words.{has_count, text_at, says, where_true, whole_said}
+use Rattle.yp_script.specs.Takes.{take_said}
+use Rattle.yp_script.specs.Words.{has_count, text_at, says, where_true, whole_said, whole_there}
 
 -- ---- {"start":T}
 
@@ -27,7 +28,7 @@ abbrev pub start_said : Data → Said ℕ
 start_said (string text) = or_fault kinds.Instant (start_in text)
 start_said other = Err kinds.Member
 
--- ---- {"receiver":{"name":N,"user":U,"queue":Q,"take":"auto"}}
+-- ---- {"receiver":{"name":N,"user":U,"queue":Q,"take":"auto"}}, or with "take":"command"
 
 -- letters, digits, `_`, `-` and `.`
 abbrev pub is_name_byte : ℕ → Bool
@@ -47,8 +48,13 @@ is_user_name text = nat_le 1 (length text) && nat_le (length text) 64
 abbrev pub is_new_name : List ReceiverInfo → List ℕ → Bool
 is_new_name receivers text = is_receiver_name text && not (is_some (receiver_number receivers text))
 
+-- whether it takes its packets by itself
+abbrev pub takes_itself : Data → Bool
+takes_itself json = says (codes "take") (codes "auto") json
+
+-- four members, with a take that is by itself or by commands
 abbrev pub has_receiver_form : Data → Bool
-has_receiver_form json = has_count 4 json && says (codes "take") (codes "auto") json
+has_receiver_form json = has_count 4 json && (takes_itself json || says (codes "take") (codes "command") json)
 
 abbrev pub name_said : List ReceiverInfo → Data → Said (List ℕ)
 name_said receivers json = or_fault kinds.Member (where_true (is_new_name receivers) (text_at (codes "name") json))
@@ -56,22 +62,18 @@ name_said receivers json = or_fault kinds.Member (where_true (is_new_name receiv
 abbrev pub user_said : Data → Said (List ℕ)
 user_said json = or_fault kinds.Member (where_true is_user_name (text_at (codes "user") json))
 
-abbrev pub queue_said : Option Data → Said ℕ
-queue_said None = Err kinds.Member
-queue_said (Some json) = whole_said 1 32 json
-
 -- how many packets the queue of one receiver more, of 16 at most, holds
 abbrev pub places_said : List ReceiverInfo → Data → Said ℕ
-places_said receivers json = holding kinds.Limit (nat_lt (length receivers) 16) (queue_said (member_of (codes "queue") json))
+places_said receivers json = holding kinds.Limit (nat_lt (length receivers) 16) (whole_there 1 32 (member_of (codes "queue") json))
 
-abbrev pub receiver_of : List ℕ → List ℕ → ℕ → ReceiverInfo
-receiver_of name user places = record { name = name; user = user; places = places; auto = true }
+abbrev pub receiver_of : List ℕ → List ℕ → Bool → ℕ → ReceiverInfo
+receiver_of name user auto places = record { name = name; user = user; places = places; auto = auto }
 
 -- one receiver more; a wrong member is the least fault of its line, so it is looked for first
 abbrev pub receiver_said : List ReceiverInfo → Data → Said ReceiverInfo
 receiver_said receivers json =
     if has_receiver_form json
-    then name_said receivers json >>= (λ name. user_said json >>= (λ user. said_map (receiver_of name user) (places_said receivers json)))
+    then name_said receivers json >>= (λ name. user_said json >>= (λ user. said_map (receiver_of name user (takes_itself json)) (places_said receivers json)))
     else Err kinds.Member
 
 -- ---- {"tick":T}, {"patch":D} (RFC 8072), {"policy":D} (RFC 8341)
@@ -94,6 +96,7 @@ command_said nodes start receivers (Tick json) = said_map commands.Tick (whole_s
 command_said nodes start receivers (Patch json) = patch_said json
 command_said nodes start receivers (Policy json) = policy_said nodes json
 command_said nodes start receivers (Establish json) = establish_said start receivers json
+command_said nodes start receivers (Take json) = take_said receivers json
 
 -- ---- {"lanes":K}, {"lane":k,"do":C}
 

@@ -1,5 +1,5 @@
 -- Words for the JSON of a script's lines (RFC 8259), each with its fault.
-use Rattle.std.specs.Prelude.{ℕ, ◌==◌, ◌&&◌, List, Bool, true, false, Option, Some, None, is_some, option_and_then, Ok, Err, if◌then◌else◌, nat_le}
+use Rattle.std.specs.Prelude.{ℕ, ◌==◌, ◌&&◌, List, Bool, false, Option, Some, None, option_and_then, Ok, Err, if◌then◌else◌, nat_le}
 use Rattle.std.specs.Borrow.{Bor}
 use Rattle.serde_json.specs.Data.{unsigned, negative, Data, boolean, number, object, Members, no_members, member}
 use Rattle.serde_json.specs.Find.{as_str}
@@ -53,10 +53,10 @@ whole_said low high (number (unsigned n)) = if nat_le low n && nat_le n high the
 whole_said low high (number (negative z)) = Err Limit
 whole_said low high other = Err Member
 
--- whether there are terms for the changes of a subscription
-abbrev pub has_terms : Option Data → Bool
-has_terms (Some (object (member name value more))) = true
-has_terms other = false
+-- a whole number within bounds that may not be left out
+abbrev pub whole_there : ℕ → ℕ → Option Data → Said ℕ
+whole_there low high None = Err Member
+whole_there low high (Some json) = whole_said low high json
 
 -- whether it is the word `true`
 abbrev pub is_yes : Data → Bool

@@ -5,14 +5,14 @@ ghost use Rattle.serde_json.specs.Find.{as_str};
 ghost use Rattle.serde_json.specs.View.{view, items_view, members_view};
 ghost use Rattle.yp_base.specs.Types.{is_among};
 ghost use Rattle.yp_time.specs.Ticks.{IsAnchor};
-ghost use Rattle.yp_script.specs.Asks.{members_of, may_have_all, has_only, number_said, period_said, anchor_at, anchor_said, periodic_said, dampening_said, sync_said, holds, operations, is_once, are_operations, kinds_in, excluded_by, excluded_said, on_change_said, trigger_said, xpath_said, filter_said, datastore_said, encoding_said, ask_said, by_said, call_said, is_later, establish_said};
+ghost use Rattle.yp_script.specs.Asks.{members_of, may_have_all, has_only, number_said, period_said, anchor_at, anchor_said, periodic_said, dampening_said, sync_said, holds, operations, is_once, are_operations, kinds_in, excluded_by, excluded_said, on_change_said, trigger_said, xpath_said, filter_said, datastore_said, encoding_said, ask_said, by_said, establish_said};
 ghost use Rattle.yp_script.specs.Commands.{IsBounded, anchor_of};
 ghost use Rattle.yp_script.specs.Readings.{Tells};
 
 use crate::fault::ScriptKind;
 use crate::halt::{Halt, both, holding};
 use crate::receivers::Receivers;
-use crate::words::{has_terms, is_text, text_in, text_of, whole};
+use crate::words::{is_text, text_in, text_of, whole};
 use serde_json::{Map, Value as Json};
 use std::alloc::Global;
 use yp_base::json::member;
@@ -346,31 +346,7 @@ fn read_by(receivers: &Receivers, json: &Json) -> Result<u32, Halt>
     }
 }
 
-/// The call that a line makes.
-fn read_call(
-    alloc: Global,
-    start: Option<Start>,
-    receivers: &Receivers,
-    json: &Json,
-) -> Result<Command, Halt>
-    ensures read { Tells result (call_said start receivers.now (view json.now)) }
-    ensures bounds { IfOk result IsBounded }
-{
-    let parts = both(read_by(receivers, json), read_ask(alloc, start, json));
-    let only = has_only(AskPart::Establish, json);
-    let (by, ask) = holding(ScriptKind::Member, only, parts)?;
-    Ok(Command::Establish { by, ask })
-}
-
-/// Whether updates on change are asked for with terms of their own, which isn't served yet.
-fn is_later(json: &Json) -> bool
-    ensures { result ≡ is_later (view json.now) }
-{
-    has_terms(member(json, "on-change"))
-}
-
-/// The subscription that a line asks for, by the start and the receivers so far. A line of a form that
-/// isn't served yet is an unknown command, unless it has another fault.
+/// The subscription that a line asks for, by the start and the receivers so far.
 pub fn read_establish(
     alloc: Global,
     start: Option<Start>,
@@ -380,9 +356,8 @@ pub fn read_establish(
     ensures read { Tells result (establish_said start receivers.now (view json.now)) }
     ensures bounds { IfOk result IsBounded }
 {
-    let command = read_call(alloc, start, receivers, json)?;
-    if is_later(json) {
-        return Err(Halt::Fault(ScriptKind::UnknownCommand));
-    }
-    Ok(command)
+    let parts = both(read_by(receivers, json), read_ask(alloc, start, json));
+    let only = has_only(AskPart::Establish, json);
+    let (by, ask) = holding(ScriptKind::Member, only, parts)?;
+    Ok(Command::Establish { by, ask })
 }

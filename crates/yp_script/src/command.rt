@@ -13,6 +13,7 @@ use crate::fault::ScriptKind;
 use crate::form::Request;
 use crate::halt::{Halt, beside};
 use crate::receivers::Receivers;
+use crate::take::read_take;
 use crate::words::whole;
 use serde_json::Value as Json;
 use std::alloc::Global;
@@ -67,6 +68,7 @@ pub fn read_command(
         Request::Patch(json) => read_edit(alloc, json),
         Request::Policy(json) => read_rules(alloc, schema, json),
         Request::Establish(json) => read_establish(alloc, start, receivers, json),
+        Request::Take(json) => read_take(receivers, json),
     }
 }
 

@@ -1,6 +1,6 @@
 //! What is wrong with a script.
 ghost use Rattle.std.specs.Prelude.{◌≡◌};
-ghost use Rattle.yp_script.specs.Faults.{fault_number, fault_rank};
+ghost use Rattle.yp_script.specs.Faults.{fault_number};
 
 use yp_base::memory::NoMemory;
 
@@ -45,16 +45,6 @@ impl ScriptKind {
             ScriptKind::Order => 8,
             ScriptKind::Limit => 9,
             ScriptKind::Instant => 10,
-        }
-    }
-
-    /// The place of a fault among those of a line: the one with the least is told.
-    pub(crate) fn rank(self) -> u32
-        ensures { result ≡ fault_rank self }
-    {
-        match self {
-            ScriptKind::UnknownCommand => 11,
-            other => other.number(),
         }
     }
 }

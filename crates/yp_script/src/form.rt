@@ -1,9 +1,9 @@
 //! The forms of a script's lines.
 ghost use Rattle.std.specs.Prelude.{◌≡◌, option_map};
 ghost use Rattle.serde_json.specs.View.{view};
-ghost use Rattle.yp_script.specs.Forms.{seen_request, seen_form, is_later_receiver, request_named, request_in, form_named, lane_form, line_form};
+ghost use Rattle.yp_script.specs.Forms.{seen_request, seen_form, request_named, request_in, form_named, lane_form, line_form};
 
-use crate::words::{has_count, says, sole_member};
+use crate::words::{has_count, sole_member};
 use serde_json::Value as Json;
 use yp_base::json::member;
 
@@ -18,6 +18,8 @@ pub enum Request<V> {
     Policy(V),
     /// A subscription is asked for (RFC 8639 section 2.4.2).
     Establish(V),
+    /// A receiver takes packets from its queue.
+    Take(V),
 }
 
 /// The form of a line, with the values that stand in it.
@@ -39,13 +41,6 @@ pub enum Form<V> {
     Join(V),
 }
 
-/// Whether a receiver is of a form that isn't read yet: it waits for commands to take its packets.
-fn is_later_receiver(value: &Json) -> bool
-    ensures { result ≡ is_later_receiver (view value.now) }
-{
-    says(value, "take", "command")
-}
-
 /// The command that a member of this name asks for.
 fn request_named<'a>(name: &str, value: &'a Json) -> Option<Request<&'a Json>>
     ensures { option_map seen_request result ≡ request_named name.now (view value.now) }
@@ -58,6 +53,8 @@ fn request_named<'a>(name: &str, value: &'a Json) -> Option<Request<&'a Json>>
         Some(Request::Policy(value))
     } else if name == "establish" {
         Some(Request::Establish(value))
+    } else if name == "take" {
+        Some(Request::Take(value))
     } else {
         None
     }
@@ -81,7 +78,7 @@ fn form_named<'a>(name: &str, value: &'a Json) -> Option<Form<&'a Json>>
         Some(Form::Start(value))
     } else if name == "schema" {
         Some(Form::Schema(value))
-    } else if name == "receiver" && !is_later_receiver(value) {
+    } else if name == "receiver" {
         Some(Form::Receiver(value))
     } else if name == "lanes" {
         Some(Form::Lanes(value))

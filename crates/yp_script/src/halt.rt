@@ -61,12 +61,11 @@ impl From<AllocError> for Halt {
     }
 }
 
-/// Which of two faults of a line is told: the lesser, but that its values are of a later form only where
-/// there is no other.
+/// Which of two faults of a line is told: the one with the lesser number.
 pub fn least(kind: ScriptKind, other: ScriptKind) -> ScriptKind
     ensures { result ≡ least kind other }
 {
-    if kind.rank() <= other.rank() {
+    if kind.number() <= other.number() {
         kind
     } else {
         other

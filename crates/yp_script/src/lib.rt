@@ -4,8 +4,9 @@
 //! of that line's faults. Contracts see a script as its start in seconds, its schema as a list of nodes,
 //! its receivers as the list of them in declared order, and its commands as lists. What a script is
 //! stands in `specs/Script.antt`, as a fold of its lines; the forms of lines in `specs/Forms.antt`, and
-//! what each says in `specs/Values.antt` and, where it asks for a subscription, in `specs/Asks.antt`; the order of lines in `specs/Order.antt`. Lines are JSON texts
-//! (RFC 8259), patches follow RFC 8072, policies RFC 8341 and subscriptions RFC 8639 and RFC 8641.
+//! what each says in `specs/Values.antt`, for a subscription in `specs/Asks.antt` and for a take in
+//! `specs/Takes.antt`; the order of lines in `specs/Order.antt`. Lines are JSON texts (RFC 8259), patches
+//! follow RFC 8072, policies RFC 8341 and subscriptions RFC 8639 and RFC 8641.
 #![tactic(auto)]
 
 mod ask;
@@ -24,4 +25,5 @@ pub mod receivers;
 pub mod script;
 mod stage;
 mod start;
+mod take;
 mod words;

@@ -3,13 +3,13 @@ ghost use Rattle.std.specs.Prelude.{◌≡◌, ◌<◌, ◌≤◌, None, IfOk, O
 ghost use Rattle.serde_json.specs.View.{view};
 ghost use Rattle.yp_script.specs.Readings.{Tells};
 ghost use Rattle.yp_script.specs.Names.{receiver_number};
-ghost use Rattle.yp_script.specs.Values.{is_receiver_name, is_user_name, is_new_name, queue_said, places_said, receiver_said};
+ghost use Rattle.yp_script.specs.Values.{is_receiver_name, is_user_name, is_new_name, places_said, receiver_said};
 ghost use Rattle.yp_script.specs.Words.{where_true, text_at};
 
 use crate::fault::ScriptKind;
 use crate::halt::{Halt, least};
 use crate::receivers::Receivers;
-use crate::words::{has_count, says, text_in, text_of, whole};
+use crate::words::{has_count, says, text_in, text_of, whole_there};
 use serde_json::Value as Json;
 use std::alloc::Global;
 use yp_base::json::member;
@@ -66,24 +66,13 @@ fn user_name(json: &Json) -> Option<&str>
     }
 }
 
-/// How many packets a queue holds.
-fn queue_of(queue: Option<&Json>) -> Result<u64, ScriptKind>
-    ensures read { result ≡ queue_said (option_map (λ json. view json.now) queue.entry) }
-    ensures most { IfOk result (λ places. places ≤ 32) }
-{
-    match queue {
-        Some(json) => whole(json, 1, 32),
-        None => Err(ScriptKind::Member),
-    }
-}
-
 /// How many packets the queue of one receiver more holds, where there is room for it.
 fn places_of(receivers: &Receivers, json: &Json) -> Result<u64, ScriptKind>
     ensures read { result ≡ places_said receivers.now (view json.now) }
     ensures most { IfOk result (λ places. places ≤ 32) }
     ensures room { OnOk result (length receivers.now < 16) }
 {
-    let places = queue_of(member(json, "queue"));
+    let places = whole_there(member(json, "queue"), 1, 32);
     if receivers.len() < MOST_RECEIVERS {
         return places;
     }
@@ -103,7 +92,8 @@ pub fn read_receiver(
     ensures new { IfOk result (λ receiver. receiver_number receivers.now receiver.name ≡ None) }
     ensures room { OnOk result (length receivers.now < 16) }
 {
-    if !has_count(json, 4) || !says(json, "take", "auto") {
+    let auto = says(json, "take", "auto");
+    if !has_count(json, 4) || !(auto || says(json, "take", "command")) {
         return Err(Halt::Fault(ScriptKind::Member));
     }
     let name = new_name(receivers, json).ok_or(ScriptKind::Member)?;
@@ -113,6 +103,6 @@ pub fn read_receiver(
         name: text_of(alloc, name)?,
         user: text_of(alloc, user)?,
         places: places as u32,
-        auto: true,
+        auto,
     })
 }

@@ -3,7 +3,7 @@ ghost use Rattle.std.specs.Prelude.{◌≡◌, ◌≤◌, option_map, is_some, I
 ghost use Rattle.serde_json.specs.Find.{as_str};
 ghost use Rattle.serde_json.specs.View.{view, members_view};
 ghost use Rattle.serde_json.specs.Events.{members_len};
-ghost use Rattle.yp_script.specs.Words.{seen_member, first_member, sole_member, has_count, text_at, says, is_text, whole_said, has_terms, is_yes};
+ghost use Rattle.yp_script.specs.Words.{seen_member, first_member, sole_member, has_count, text_at, says, is_text, whole_said, whole_there, is_yes};
 
 use crate::fault::ScriptKind;
 use serde_json::{Map, Value as Json};
@@ -119,13 +119,14 @@ pub fn whole(json: &Json, low: u64, high: u64) -> Result<u64, ScriptKind>
     }
 }
 
-/// Whether there are terms for the changes of a subscription.
-pub fn has_terms(json: Option<&Json>) -> bool
-    ensures { result ≡ has_terms (option_map (λ terms. view terms.now) json.entry) }
+/// A whole number within bounds that may not be left out.
+pub fn whole_there(json: Option<&Json>, low: u64, high: u64) -> Result<u64, ScriptKind>
+    ensures read { result ≡ whole_there low high (option_map (λ json. view json.now) json.entry) }
+    ensures high { IfOk result (λ number. number ≤ high) }
 {
     match json {
-        Some(Json::Object(terms)) => count(terms) != 0,
-        _ => false,
+        Some(json) => whole(json, low, high),
+        None => Err(ScriptKind::Member),
     }
 }
 

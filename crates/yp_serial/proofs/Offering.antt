@@ -66,7 +66,7 @@ step_fewer finds c lawful q served found h e =
     settled_fewer finds c lawful served.run.standing found (found_answer q found served)
     (all_rest (λ t. HasDueTicks t.feed.trigger) found.before (found.track ∷ found.after) (found_due finds c served.run.standing found h e)).0 e
 
-step_due : FindsFirst → (c : Content) (q : Queueing) (served : Served) (found : Found) → Due served → waits c served.run ≡ Some found → Due (served_settled c q found served)
+pub step_due : FindsFirst → (c : Content) (q : Queueing) (served : Served) (found : Found) → Due served → waits c served.run ≡ Some found → Due (served_settled c q found served)
 step_due finds c q served found h e = settled_due finds c served.run.standing found (found_answer q found served) h e
 
 stays : (c : Content) (q : Queueing) (k : ℕ) (served : Served) → waits c served.run ≡ None → offers_on c q k served ≡ served

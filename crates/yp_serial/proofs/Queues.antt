@@ -5,12 +5,12 @@ use Rattle.std.specs.List.{AllByRecursion, filter}
 use Rattle.std.proofs.lemmas.Bool.{ltb-true, lt-ltb, eqb-true}
 use Rattle.std.proofs.lemmas.List.Elements.{filter-append}
 use Rattle.yp_attempt.specs.Content.{Content}
-use Rattle.yp_attempt.specs.Tracks.{Answer, Took, Full, Attempt, attempt}
+use Rattle.yp_attempt.specs.Tracks.{Answer, Took, Full, Attempt, attempt, is_taken}
 use Rattle.yp_attempt.specs.Moments.{Moment}
 use Rattle.yp_attempt.specs.Runs.{Found, waits}
 use Rattle.yp_attempt.specs.Attempts.{of_receiver}
 use Rattle.yp_attempt.specs.ListLaws.{all_append}
-use Rattle.yp_serial.specs.Posts.{Post, Queueing, is_accepted, answer_by, after_offer, after_take}
+use Rattle.yp_serial.specs.Posts.{Post, Queueing, answer_by, after_offer, after_take}
 use Rattle.yp_serial.specs.Serial.{Served, Taking, first_served, served_advanced, found_answer, served_settled, while_offered, offers_on, all_offered, serial, serial_run}
 use Rattle.yp_serial.specs.Weights.{weights}
 
@@ -47,14 +47,14 @@ one_more receiver done a = filter-append (λ (a : Attempt). a.receiver == receiv
 -- ---- what was accepted
 
 abbrev accepted : List Attempt → ℕ
-accepted attempts = length (filter (λ a. is_accepted a.answer) attempts)
+accepted attempts = length (filter (λ a. is_taken a.answer) attempts)
 
 abbrev HasParts : ℕ → Served → Type 0
 HasParts receiver served = accepted (of_receiver receiver served.run.done) ≡ (served.posts receiver).taken + (served.posts receiver).held
 
 accepted_append : (xs ys : List Attempt) → accepted (xs ++ ys) ≡ accepted xs + accepted ys
 accepted_append xs ys =
-    let test : Attempt → Bool = (λ a. is_accepted a.answer) in
+    let test : Attempt → Bool = (λ a. is_taken a.answer) in
     ap (λ (zs : List Attempt). length zs) (filter-append test xs ys) ∙ length-append (filter test xs) (filter test ys)
 
 took_parts : (automatic : Bool) (post : Post) → (post.taken + post.held) + 1 ≡ (after_offer automatic Took post).taken + (after_offer automatic Took post).held
@@ -64,8 +64,8 @@ took_parts false post = omega arith
 -- an offer to the receiver, or to another one
 offer_parts : (a : Attempt) (automatic b : Bool) (answer : Answer) (post : Post) → a.answer ≡ answer
     → (post.taken + post.held) + accepted (if b then a ∷ [] else []) ≡ (if b then after_offer automatic answer post else post).taken + (if b then after_offer automatic answer post else post).held
-offer_parts a automatic true Took post e = ap (λ (x : Answer). (post.taken + post.held) + length (if is_accepted x then a ∷ [] else [])) e ∙ took_parts automatic post
-offer_parts a automatic true Full post e = ap (λ (x : Answer). (post.taken + post.held) + length (if is_accepted x then a ∷ [] else [])) e ∙ omega arith
+offer_parts a automatic true Took post e = ap (λ (x : Answer). (post.taken + post.held) + length (if is_taken x then a ∷ [] else [])) e ∙ took_parts automatic post
+offer_parts a automatic true Full post e = ap (λ (x : Answer). (post.taken + post.held) + length (if is_taken x then a ∷ [] else [])) e ∙ omega arith
 offer_parts a automatic false answer post e = omega arith
 
 take_parts : (count : ℕ) (post : Post) → post.taken + post.held ≡ (after_take count post).taken + (after_take count post).held
@@ -82,7 +82,7 @@ parts_kept c receivers q takes receiver = record {
 }
 
 pub run_parts : (c : Content) (receivers : List ℕ) (q : Queueing) (takes : Taking) (journal : List Moment) (receiver : ℕ)
-    → length (filter (λ a. is_accepted a.answer) (of_receiver receiver (serial_run c receivers q takes journal).run.done))
+    → length (filter (λ a. is_taken a.answer) (of_receiver receiver (serial_run c receivers q takes journal).run.done))
     ≡ ((serial_run c receivers q takes journal).posts receiver).taken + ((serial_run c receivers q takes journal).posts receiver).held
 run_parts c receivers q takes journal receiver = kept_serial c receivers q takes (HasParts receiver) (parts_kept c receivers q takes receiver) journal first_served refl
 

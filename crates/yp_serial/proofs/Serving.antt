@@ -88,7 +88,7 @@ started_due m n (Starts sub trigger configured names) receivers tracks g h =
 started_due m n (Controls sub control) receivers tracks g h = h
 started_due m n (Drops sub) receivers tracks g h = h
 
-advanced_due : (c : Content) (receivers : List ℕ) (takes : Taking) (m : Moment) (served : Served) → GivesDueTicks m.act → Due served → Due (served_advanced c receivers takes m served)
+pub advanced_due : (c : Content) (receivers : List ℕ) (takes : Taking) (m : Moment) (served : Served) → GivesDueTicks m.act → Due served → Due (served_advanced c receivers takes m served)
 advanced_due c receivers takes m served g h =
     let Has : Track → Type 0 = (λ t. HasDueTicks t.feed.trigger) in
     let n : ℕ = served.run.standing.position + 1 in
@@ -96,6 +96,16 @@ advanced_due c receivers takes m served g h =
     started_due m n m.act receivers (map (after_moment c m n) (filter (is_kept_by m.act) moved)) g
     (all_map Has Has (after_moment c m n) (filter (is_kept_by m.act) moved) (λ t k. moment_due c m n t g k)
     (all_filter Has (is_kept_by m.act) moved (all_map Has Has (rebased c served.run.standing.position served.run.standing.stamp) served.run.standing.tracks (λ t k. k) h)))
+
+-- and so throughout a serial run
+serial_due : FindsFirst → (c : Content) (receivers : List ℕ) (q : Queueing) (takes : Taking) (moments : List Moment) (served : Served) → Due served → GiveDueTicks moments → Due (serial c receivers q takes served moments)
+serial_due finds c receivers q takes [] served h g = h
+serial_due finds c receivers q takes (m ∷ moments) served h g =
+    let next : Served = served_advanced c receivers takes m served in
+    serial_due finds c receivers q takes moments (all_offered c q next) (due_on finds c q (weights c next.run.standing.stamp next.run.standing.tracks) next (advanced_due c receivers takes m served g.0 h)) g.1
+
+pub run_due : FindsFirst → (c : Content) (receivers : List ℕ) (q : Queueing) (takes : Taking) (journal : List Moment) → GiveDueTicks journal → Due (serial_run c receivers q takes journal)
+run_due finds c receivers q takes journal g = serial_due finds c receivers q takes journal first_served tt g
 
 -- ---- nothing is offered at the end
 

@@ -15,11 +15,6 @@ pub record Queueing : Type 0 where
   pub places : ℕ → ℕ
   pub automatic : ℕ → Bool
 
--- whether an offer was accepted
-abbrev pub is_accepted : Answer → Bool
-is_accepted Took = true
-is_accepted Full = false
-
 -- what a queue of so many places answers an offer
 abbrev pub answer_by : ℕ → Post → Answer
 answer_by places post = if nat_lt post.held places then Took else Full

@@ -6,10 +6,10 @@ ghost use Rattle.yp_attempt.specs.Attempts.{answers_in, of_receiver};
 ghost use Rattle.yp_attempt.specs.Content.{Content, IsLawful};
 ghost use Rattle.yp_attempt.specs.Moments.{Moment, AllMayFollow};
 ghost use Rattle.yp_attempt.specs.Runs.{Standing, Found, Reaches, first_offer, settled, waits};
-ghost use Rattle.yp_attempt.specs.Tracks.{Answer, Took, Full};
+ghost use Rattle.yp_attempt.specs.Tracks.{Answer, Took, Full, is_taken};
 ghost use Rattle.yp_attempt.specs.Workers.{all_ready, puts};
-ghost use Rattle.yp_serial.specs.DueTicks.{HasDueTicks, HaveDueTicks, GiveDueTicks};
-ghost use Rattle.yp_serial.specs.Posts.{Post, Queueing, answer_by, is_accepted};
+ghost use Rattle.yp_serial.specs.DueTicks.{HasDueTicks, HaveDueTicks, GivesDueTicks, GiveDueTicks};
+ghost use Rattle.yp_serial.specs.Posts.{Post, Queueing, answer_by};
 ghost use Rattle.yp_serial.specs.Serial.{Served, Taking, all_offered, serial_run, served_advanced, served_settled};
 ghost use Rattle.yp_serial.specs.Weights.{weights};
 
@@ -20,6 +20,19 @@ use yp_attempt::laws::{a_look_changes_nothing, the_first_offer_is_found};
 pub fn an_anchored_trigger_has_due_ticks()
     ensures { (period : ℕ) (anchor : ℤ) → HasDueTicks (Every period (Some anchor)) }
 {}
+
+/// Triggers that have their due ticks keep them: by an entry that gives none without due ticks, by the answer
+/// to an offer, and so throughout the serial run of a journal whose entries give none.
+pub fn due_ticks_stay()
+    ensures entry { (c : Content) (receivers : List ℕ) (takes : Taking) (m : Moment) (served : Served) → GivesDueTicks m.act → HaveDueTicks served.run.standing.tracks
+        → HaveDueTicks (served_advanced c receivers takes m served).run.standing.tracks }
+    ensures offer { (c : Content) (q : Queueing) (served : Served) (found : Found) → HaveDueTicks served.run.standing.tracks → waits c served.run ≡ Some found
+        → HaveDueTicks (served_settled c q found served).run.standing.tracks }
+    ensures run { (c : Content) (receivers : List ℕ) (q : Queueing) (takes : Taking) (journal : List Moment) → GiveDueTicks journal
+        → HaveDueTicks (serial_run c receivers q takes journal).run.standing.tracks }
+{
+    the_first_offer_is_found();
+}
 
 /// Each answer to an offer of a feed whose due ticks pass leaves fewer offers that may still come at the
 /// position: of a run, and of a worker that looks at its tracks one after another. So they come to an end.
@@ -62,7 +75,7 @@ pub fn a_serial_run_is_a_run()
 /// than it has places, and it answers that it is full exactly where it holds as many.
 pub fn queues_hold_what_was_not_taken()
     ensures parts { (c : Content) (receivers : List ℕ) (q : Queueing) (takes : Taking) (journal : List Moment) (receiver : ℕ)
-        → length (filter (λ a. is_accepted a.answer) (of_receiver receiver (serial_run c receivers q takes journal).run.done))
+        → length (filter (λ a. is_taken a.answer) (of_receiver receiver (serial_run c receivers q takes journal).run.done))
         ≡ ((serial_run c receivers q takes journal).posts receiver).taken + ((serial_run c receivers q takes journal).posts receiver).held }
     ensures fits { (c : Content) (receivers : List ℕ) (q : Queueing) (takes : Taking) (journal : List Moment) (receiver : ℕ)
         → ((serial_run c receivers q takes journal).posts receiver).held ≤ q.places receiver }

@@ -144,7 +144,7 @@ module _ (roots : List (List Seg)) (old new : List Row) where
             (ap (λ b. not (b || are_alike (value_at path old) (value_at path new))) e ∙ sym (changed_is old new path) ∙ l)) ∙ out))
       ] refl
 
-not_listed : (path : List Seg) (paths : List (List Seg)) → has_root path paths ≡ false → is_listed path paths ≡ false
+pub not_listed : (path : List Seg) (paths : List (List Seg)) → has_root path paths ≡ false → is_listed path paths ≡ false
 not_listed path paths free =
     false_from_ne_true (is_listed path paths) (λ e. true≢false (sym (any_listed (λ root. is_within root path) path paths e (within_itself path)) ∙ free))
 

@@ -3,6 +3,7 @@ pub mod Bounds
 pub mod Edits
 pub mod Enough
 pub mod Finding
+pub mod Joining
 pub mod Lasts
 pub mod Narrow
 pub mod Recorded

@@ -57,6 +57,10 @@ abbrev pub with_paths : List (List Seg) → List (List Seg) → List (List Seg)
 with_paths paths [] = paths
 with_paths paths (new ∷ news) = with_paths (with_path paths new) news
 
+-- those of some roots that none of some paths is at or above
+abbrev pub uncovered : List (List Seg) → List Root → List Root
+uncovered paths roots = filter (λ root. not (has_root root.path paths)) roots
+
 -- so many of some paths in order come before a path, and the others after it
 pub record StandsAt (path : List Seg) (paths : List (List Seg)) (at : ℕ) : Type 0 where
   pub within : at ≤ length paths

@@ -15,7 +15,7 @@ use Rattle.yp_edit.specs.Records.{touched_paths, HasNone, window_record}
 use Rattle.yp_select.specs.Concealed.{AllReadable}
 use Rattle.yp_select.specs.Selection.{selection}
 use Rattle.yp_touch.specs.declared.root.Root.{Root}
-use Rattle.yp_touch.specs.Absorbed.{paths_of, absorbed, all_absorbed, roots_since, recorded, selections, EndsAsRow}
+use Rattle.yp_touch.specs.Absorbed.{AreTopmost, paths_of, absorbed, all_absorbed, roots_since, recorded, selections, EndsAsRow}
 use Rattle.yp_touch.specs.Concealed.{IsReadableChange}
 
 -- roots that go from one selection of a window to the next are the topmost of all paths that were touched in it, as they were in its first selection
@@ -29,6 +29,14 @@ RecordIsOfTheWindow = (excluded : Kinds) (first : List Row) (later : List (List 
 -- one more selection at the end is one more step
 abbrev pub OneMoreStep : Type 0
 OneMoreStep = (roots : List Root) (first : List Row) (later : List (List Row)) (next : List Row) → all_absorbed roots first (later ++ next ∷ []) ≡ absorbed (all_absorbed roots first later) (last_of first later) next
+
+-- a step that touches nothing from nothing leaves roots that stand topmost as they are
+abbrev pub StepsWithoutRootsLeave : Type 0
+StepsWithoutRootsLeave = (roots : List Root) (before after : List Row) → AreTopmost (paths_of roots) → absorbed [] before after ≡ [] → absorbed roots before after ≡ roots
+
+-- the roots of a window stand topmost
+abbrev pub WindowsStandTopmost : Type 0
+WindowsStandTopmost = (first : List Row) (later : List (List Row)) → AreTopmost (paths_of (all_absorbed [] first later))
 
 -- where no kind is excluded, the record of a window leads from its first selection to its last
 abbrev pub WindowsLead : Type 0

@@ -1,5 +1,5 @@
 //! Facts about records, for the crates above. Each call does nothing.
-ghost use Rattle.yp_touch.specs.Windows.{DatastoresAreWhole, EmptyWindowsTouchNothing, OneMoreStep, RecordIsOfTheWindow, RootsAreOfTheWindow, RootsEndAsRows, RowsAreWhole, WindowsCanBeSent, WindowsConceal, WindowsEndAsRows, WindowsLead};
+ghost use Rattle.yp_touch.specs.Windows.{DatastoresAreWhole, EmptyWindowsTouchNothing, OneMoreStep, RecordIsOfTheWindow, RootsAreOfTheWindow, RootsEndAsRows, RowsAreWhole, StepsWithoutRootsLeave, WindowsCanBeSent, WindowsConceal, WindowsEndAsRows, WindowsLead, WindowsStandTopmost};
 ghost use Rattle.yp_touch.specs.RecordLaws.{DatastoresCanBeSent, DatastoresLead, EmptyRecordKeeps, RowsConceal, SameRowsHaveNoRecord, SelectionsCanBeSent, SelectionsConceal, SelectionsLead};
 
 /// The record of two datastores leads from the one to the other. So does the record of their selections,
@@ -34,6 +34,12 @@ pub fn absorbed_roots_are_those_of_the_window()
     ensures roots { RootsAreOfTheWindow }
     ensures recorded { RecordIsOfTheWindow }
     ensures last { OneMoreStep }
+{}
+
+/// A step that touches nothing from nothing leaves roots that stand topmost, and the roots of a window do.
+pub fn a_step_without_roots_leaves_the_roots()
+    ensures leaves { StepsWithoutRootsLeave }
+    ensures topmost { WindowsStandTopmost }
 {}
 
 /// A receiver that takes the record of a window over its first selection has its last one, and the record

@@ -1,5 +1,5 @@
 //! Topmost paths in order, with more of them.
-ghost use Rattle.std.specs.Prelude.{◌≡◌, ◌<◌, ◌≤◌, ◌+◌, ◌++◌, ◌∷◌, List, Bool, filter, is_none, length, map, not, take, drop, false, vec_len, IfSome};
+ghost use Rattle.std.specs.Prelude.{◌≡◌, ◌<◌, ◌≤◌, ◌+◌, ◌++◌, ◌∷◌, List, Bool, filter, is_none, length, map, not, take, drop, false, vec_len, IfOk, IfSome};
 ghost use Rattle.std.specs.List.{AllByRecursion};
 ghost use Rattle.std.specs.List.Sorted.{IsStrictlySortedBy};
 ghost use Rattle.std.specs.Vec.{vec_capacity};
@@ -7,11 +7,13 @@ ghost use Rattle.std.specs.declared.cmp.Ordering.TheVariants.{Greater};
 ghost use Rattle.yp_base.specs.declared.path.Seg.{Seg};
 ghost use Rattle.yp_base.specs.Order.{path_cmp, is_within};
 ghost use Rattle.yp_base.specs.Paths.{topmost};
-ghost use Rattle.yp_touch.specs.Absorbed.{AreTopmost, paths_of};
-ghost use Rattle.yp_touch.specs.Looked.{StandsAt, with_path, with_paths};
+ghost use Rattle.yp_touch.specs.Absorbed.{AreTopmost, flagged, paths_of};
+ghost use Rattle.yp_touch.specs.Looked.{StandsAt, uncovered, with_path, with_paths};
 ghost use Rattle.yp_touch.specs.RootLaws.{has_root};
 
 use crate::root::Root;
+use std::alloc::Global;
+use yp_base::memory::{Duplicate, NoMemory};
 use yp_base::path::{Path, is_prefix};
 
 /// How many of some topmost paths come before a path, and `None` where one of them is at or above it.
@@ -30,6 +32,29 @@ pub fn place_of(roots: &[Path], path: &Path) -> Option<usize>
             }
         }
     }
+}
+
+/// The roots of these paths and flags that none of some topmost paths is at or above.
+pub fn uncovered(
+    alloc: Global,
+    roots: &[Path],
+    paths: &[Path],
+    flags: &[bool],
+) -> Result<Vec<Root>, NoMemory>
+    requires topmost { AreTopmost roots.now }
+    requires same { length paths.now ≡ length flags.now }
+    ensures { IfOk result (λ found. found.items ≡ uncovered roots.now (flagged paths.now flags.now)) }
+{
+    let mut found = Vec::new(alloc);
+    for root in paths.iter().zip(flags) {
+        if place_of(roots, root.0).is_some() {
+            found.push(Root {
+                path: root.0.copy(alloc)?,
+                was: *root.1,
+            })?;
+        }
+    }
+    Ok(found)
 }
 
 /// How many of some paths in order come before a path, where so many do, or are at or below it.

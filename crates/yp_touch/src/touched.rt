@@ -1,6 +1,7 @@
 //! The topmost places at which a selection changed.
-ghost use Rattle.std.specs.Prelude.{◌≡◌, ◌+◌, ◌≤◌, [], true, IfOk, OnOk, OnErr};
+ghost use Rattle.std.specs.Prelude.{◌≡◌, ◌+◌, ◌≤◌, [], List, true, IfOk, OnOk, OnErr};
 ghost use Rattle.std.specs.List.{AllByRecursion};
+ghost use Rattle.yp_base.specs.declared.row.Row.{Row};
 ghost use Rattle.yp_schema.specs.Datastore.{IsDatastore};
 ghost use Rattle.yp_edit.specs.Changes.{changed_rows};
 ghost use Rattle.yp_encode.specs.Sendable.{IsSendableChange};
@@ -11,12 +12,12 @@ ghost use Rattle.yp_touch.specs.Absorbed.{EndsAsRow, absorbed, paths_of, recorde
 ghost use Rattle.yp_touch.specs.Looked.{step_visits, window_visits};
 
 use crate::looking::{Sides, find_roots};
-use crate::placing::put_roots;
+use crate::placing::{put_roots, uncovered};
 use crate::recording::{Source, record_roots};
 use std::alloc::Global;
 use std::marker::Model;
 use std::sync::ledger::Ledger;
-use yp_base::memory::NoMemory;
+use yp_base::memory::{Duplicate, NoMemory};
 use yp_base::notice::{Changes, Kinds};
 use yp_base::path::Path;
 use yp_base::steps::Steps;
@@ -106,6 +107,29 @@ impl Touched {
         Ok(())
     }
 
+    /// Goes on by a step of which the roots from nothing are known: the roots become the topmost of the roots
+    /// and of those, as they would by `absorb`. It looks at no rows. After `NoMemory` the roots are as they
+    /// were.
+    pub fn join(&mut self, alloc: Global, step: &Touched) -> Result<(), NoMemory>
+        ensures roots { OnOk result ((before after : List Row) → step.now ≡ absorbed [] before after → self.new ≡ absorbed self.old before after) }
+        ensures unchanged { OnErr result (self.new ≡ self.old) }
+    {
+        if self.paths.is_empty() {
+            *self = step.copy(alloc)?;
+            return Ok(());
+        }
+        let found = uncovered(
+            alloc,
+            self.paths.as_slice(),
+            step.paths.as_slice(),
+            step.flags.as_slice(),
+        )?;
+        self.paths.reserve(found.len())?;
+        self.flags.reserve(found.len())?;
+        put_roots(&mut self.paths, &mut self.flags, found);
+        Ok(())
+    }
+
     /// The record of the roots (RFC 8641 sections 3.7 and 3.9): an edit of each, with what the filter selects
     /// for the reader there now, but for those of excluded kinds. It counts at most sixteen visits for each
     /// root and each row at or below one, and as many again for each node of the filter.
@@ -141,4 +165,70 @@ impl Touched {
             steps,
         )
     }
+}
+
+/// Copies of paths.
+fn copies_of(alloc: Global, paths: &[Path]) -> Result<Vec<Path>, NoMemory>
+    ensures { IfOk result (λ copies. copies.items ≡ paths.now) }
+{
+    let mut copies = Vec::with_capacity(alloc, paths.len())?;
+    for path in paths {
+        copies.push(path.copy(alloc)?)?;
+    }
+    Ok(copies)
+}
+
+impl Duplicate for Touched {
+    fn copy(&self, alloc: Global) -> Result<Touched, NoMemory> {
+        Ok(Touched {
+            paths: copies_of(alloc, self.paths.as_slice())?,
+            flags: Vec::from_slice(alloc, self.flags.as_slice())?,
+        })
+    }
+}
+
+/// Whether two paths are one.
+#[tactic(auto, using(yp_base::specs::PathLaws::are_one))]
+fn same_path(one: &Path, other: &Path) -> bool
+    ensures { result ≡ true → one.now ≡ other.now }
+{
+    one.cmp(other).is_eq()
+}
+
+/// Whether two lists of paths are one.
+fn same_paths(one: &[Path], other: &[Path]) -> bool
+    ensures { result ≡ true → one.now ≡ other.now }
+{
+    if one.len() != other.len() {
+        return false;
+    }
+    for at in 0..one.len() {
+        if !same_path(&one[at], &other[at]) {
+            return false;
+        }
+    }
+    true
+}
+
+/// Whether two lists of flags are one.
+fn same_flags(one: &[bool], other: &[bool]) -> bool
+    ensures { result ≡ true → one.now ≡ other.now }
+{
+    if one.len() != other.len() {
+        return false;
+    }
+    for at in 0..one.len() {
+        if one[at] != other[at] {
+            return false;
+        }
+    }
+    true
+}
+
+/// Whether two have the same roots, which were there or not alike.
+pub fn same_roots(one: &Touched, other: &Touched) -> bool
+    ensures { result ≡ true → one.now ≡ other.now }
+{
+    same_paths(one.paths.as_slice(), other.paths.as_slice())
+        && same_flags(one.flags.as_slice(), other.flags.as_slice())
 }

@@ -1,9 +1,9 @@
 -- The place of the slot that made an offer.
 use Rattle.std.proofs.Common.{◌≡◌, ◌∙◌, sym, ap, subst, ℕ, zero, suc, ◌<◌, List, [], ◌∷◌, ◌++◌, length, get_or, Option, Some, arith}
-use Rattle.yp_base.specs.declared.notice.Change.{Change}
 use Rattle.yp_schema.specs.declared.schema.SchemaNode.{SchemaNode}
 use Rattle.yp_journal.specs.History.{JournalState}
 use Rattle.yp_attempt.specs.Tracks.{Track}
+use Rattle.yp_roster.specs.declared.records.Record.{Record}
 use Rattle.yp_roster.specs.declared.roster.Offer.{Offer}
 use Rattle.yp_roster.specs.declared.slot.Slot.{Slot}
 use Rattle.yp_roster.specs.Slots.{AreSlotsOf, IsSlotOf}
@@ -30,7 +30,7 @@ slot_at nodes state (one ∷ before) (suc place) (first ∷ slots) track after s
 pub same_some : {X : Type 0} (o : Option X) (one other : X) → o ≡ Some one → o ≡ Some other → one ≡ other
 same_some o one other e f = let both : Some one ≡ Some other = sym e ∙ f in cc
 
-abbrev pub with_out : Option (List Change) → Out → Offer
+abbrev pub with_out : Option Record → Out → Offer
 with_out changes out = record { place = out.place; item = out.item; changes = changes }
 
 -- an offer of which this is out

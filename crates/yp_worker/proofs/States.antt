@@ -1,6 +1,7 @@
 -- What each state of a legal journal has, and the own rules of the receivers' users there.
 use Rattle.std.proofs.Common.{◌≡◌, ℕ, zero, suc, ◌<◌, refl, ap, ◌∙◌, List, [], ◌∷◌, map, length, Some, arith}
 use Rattle.std.specs.List.{slice_get}
+use Rattle.std.specs.Prelude.{IfSome}
 use Rattle.std.proofs.lemmas.List.{length-map}
 use Rattle.yp_schema.specs.declared.schema.SchemaNode.{SchemaNode}
 use Rattle.yp_nacm.specs.declared.compile.UserRules.{UserRules}
@@ -11,13 +12,14 @@ use Rattle.yp_registry.specs.Ids.{HasRisingIds}
 use Rattle.yp_registry.specs.Registry.{Subscriptions, established}
 use Rattle.yp_edit.specs.Changes.{changed_rows}
 use Rattle.yp_journal.specs.declared.command.Command.{Command}
-use Rattle.yp_journal.specs.declared.command.Command.TheVariants.{Tick, Edit, Rules, Establish}
+use Rattle.yp_journal.specs.declared.command.Command.TheVariants.{Tick, Edit, Rules, Establish, Take}
 use Rattle.yp_journal.specs.declared.receiver.ReceiverInfo.{ReceiverInfo}
 use Rattle.yp_journal.specs.History.{JournalState, next_state, reply_to, user_of}
 use Rattle.yp_roster.specs.declared.following.Entered.{Entered}
+use Rattle.yp_roster.specs.Readers.{rules_of_users}
 use Rattle.yp_roster.specs.Slots.{AreRulesAt}
 use Rattle.yp_roster.specs.Steps.{IsEntered}
-use Rattle.yp_worker.specs.Workers.{IsStateOf, rules_of_users}
+use Rattle.yp_worker.specs.Workers.{IsStateOf}
 
 -- each command keeps the rise of the ids
 pub ids_kept : ((nodes : List SchemaNode) (policy : Policy) (registry : Subscriptions) (by : ℕ) (ask : Ask) (now : ℕ) → HasRisingIds registry → HasRisingIds (established nodes policy registry by ask now))
@@ -25,6 +27,7 @@ pub ids_kept : ((nodes : List SchemaNode) (policy : Policy) (registry : Subscrip
 ids_kept law nodes state (Tick tick) ids = ids
 ids_kept law nodes state (Edit patch) ids = ids
 ids_kept law nodes state (Rules policy) ids = ids
+ids_kept law nodes state (Take receiver count) ids = ids
 ids_kept law nodes state (Establish by ask) ids = law nodes state.policy state.registry by ask state.stamp ids
 
 -- the rules of each receiver's user, one by one
@@ -46,7 +49,7 @@ rules_are state rules users is =
 -- an entry that was taken, by what it found and left
 pub is_entered : (e : Entered) (before : JournalState) → IsStateOf e.present.schema.now before → IsStateOf e.present.schema.now e.present.state.now
     → e.present.state.now ≡ next_state e.present.schema.now before e.entry.now.command → e.entry.now.reply ≡ reply_to e.present.schema.now before e.entry.now.command
-    → e.before.now ≡ before.rows → AreRulesAt before e.rules.now → AreRulesAt e.present.state.now e.present.rules.now → e.changed.now ≡ changed_rows before.rows e.present.state.now.rows → IsEntered e before
+    → IfSome e.before (λ tree. tree.now ≡ before.rows) → AreRulesAt before e.rules.now → AreRulesAt e.present.state.now e.present.readers.now → e.changed.now ≡ changed_rows before.rows e.present.state.now.rows → IsEntered e before
 is_entered e before found left after reply rows own present changed = record {
   present = record { datastore = left.datastore; own = present };
   after = after;

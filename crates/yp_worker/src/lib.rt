@@ -7,6 +7,8 @@
 //! 3.7 and 3.11, and RFC 8639 sections 2.4 and 2.7.
 #![tactic(auto)]
 
+pub mod contents;
+mod keeping;
 pub mod laws;
 pub mod offering;
 pub mod opening;
@@ -15,3 +17,4 @@ pub mod saying;
 pub mod settling;
 pub mod taking;
 pub mod worker;
+mod writing;

@@ -1,8 +1,9 @@
 //! The worker before the first entry.
 ghost use Rattle.std.specs.Prelude.{◌≡◌, ◌<◌, ◌^◌, [], length, false, IfOk};
-ghost use Rattle.yp_worker.specs.Workers.{IsIdleWorkerOf, IsWorkerOf, numbers_of};
+ghost use Rattle.yp_worker.specs.Workers.{IsIdleWorkerOf, IsWorkerOf};
+ghost use Rattle.yp_attempt.specs.Workers.{numbers_of};
 
-use crate::rules::rules_at_state;
+use crate::rules::readers_at;
 use crate::worker::Worker;
 use std::alloc::Global;
 use yp_attempt::laws::an_opened_worker_stands_for_nothing;
@@ -11,10 +12,10 @@ use yp_journal::laws::{a_journal_keeps_a_datastore, a_journal_keeps_users_and_na
 use yp_journal::receiver::ReceiverInfo;
 use yp_journal::state::State;
 use yp_registry::laws::{an_establishment_keeps_a_registry, ids_rise};
+use yp_roster::classes::Classes;
 use yp_roster::roster::Roster;
 use yp_schema::schema::Schema;
 use yp_time::start::Start;
-use yp_tree::tree::Tree;
 
 /// Of so many receivers the numbers of those that a worker serves.
 fn numbers_of(alloc: Global, worker: u32, workers: u32, count: u32) -> Result<Vec<u32>, NoMemory>
@@ -32,7 +33,8 @@ fn numbers_of(alloc: Global, worker: u32, workers: u32, count: u32) -> Result<Ve
 
 impl Worker {
     /// The worker before the first entry, for those of these receivers whose number leaves this remainder by
-    /// the number of workers. It has nothing to offer.
+    /// the number of workers. It has nothing to offer. Numbers of receivers are of 32 bits, so there are fewer
+    /// of them than such numbers.
     pub fn open(
         alloc: Global,
         schema: &Schema,
@@ -54,17 +56,22 @@ impl Worker {
         an_establishment_keeps_a_registry();
         ids_rise();
         let state = State::new(alloc, schema, receivers)?;
-        let rules = rules_at_state(alloc, &state)?;
+        let readers = readers_at(alloc, &state)?;
         let mine = numbers_of(alloc, worker, workers, receivers.len() as u32)?;
         Ok(Worker {
             start: *start,
             state,
-            rules,
-            former: Tree::new(alloc),
+            readers,
+            former: None,
             mine,
             roster: Roster {
                 slots: Vec::new(alloc),
+                classes: Classes {
+                    all: Vec::new(alloc),
+                    told: Vec::new(alloc),
+                },
             },
+            contents: Vec::new(alloc),
             out: None,
             spent: false,
         })

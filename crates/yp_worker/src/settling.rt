@@ -4,8 +4,8 @@ ghost use Rattle.yp_schema.specs.declared.schema.SchemaNode.{SchemaNode};
 ghost use Rattle.yp_journal.specs.declared.entry.Entry.{Entry};
 ghost use Rattle.yp_journal.specs.declared.receiver.ReceiverInfo.{ReceiverInfo};
 ghost use Rattle.yp_attempt.specs.Tracks.{Answer};
-ghost use Rattle.yp_queue.specs.declared.packet.Packet.{Packet};
 ghost use Rattle.yp_roster.specs.Steps.{answer_of};
+ghost use Rattle.yp_worker.specs.declared.offering.Sent.{Sent};
 ghost use Rattle.yp_worker.specs.Workers.{HasOffered, IsWorkerOf, IsOffering};
 
 use crate::worker::{Out, Worker};
@@ -16,8 +16,8 @@ impl Worker {
     /// Takes in what the queue of the receiver answered to the offer that is out.
     pub fn settle(&mut self, alloc: Global, settled: Settled)
         requires { (nodes : List SchemaNode) × IsOffering nodes self.old }
-        ensures stands { (nodes : List SchemaNode) (start : ℕ) (receivers : List ReceiverInfo) (mine : List ℕ) (entries : List Entry) (answers : List Answer) (receiver : ℕ) (packet : Packet)
-            → HasOffered nodes start receivers mine entries answers receiver packet self.old → IsWorkerOf nodes start receivers mine entries (answers ++ answer_of settled ∷ []) self.new }
+        ensures stands { (nodes : List SchemaNode) (start : ℕ) (receivers : List ReceiverInfo) (mine : List ℕ) (entries : List Entry) (answers : List Answer) (sent : Sent)
+            → HasOffered nodes start receivers mine entries answers sent self.old → IsWorkerOf nodes start receivers mine entries (answers ++ answer_of settled ∷ []) self.new }
         ensures spent { self.new.spent ≡ self.old.spent }
     {
         if let Some(out) = self.out {

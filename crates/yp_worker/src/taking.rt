@@ -1,27 +1,25 @@
 //! What an entry of the journal makes of a worker.
 ghost use Rattle.std.specs.Prelude.{◌≡◌, ◌<◌, ◌≤◌, ◌^◌, ◌++◌, ◌∷◌, [], ℕ, List, true, false, length, map, IfOk, OnOk, OnErr};
-ghost use Rattle.yp_base.specs.declared.row.Row.{Row as RowThere};
-ghost use Rattle.yp_base.specs.Rows.{AreInOrder};
 ghost use Rattle.yp_edit.specs.Changes.{changed_rows};
 ghost use Rattle.yp_journal.specs.declared.entry.Entry.{Entry as EntryThere};
 ghost use Rattle.yp_journal.specs.declared.receiver.ReceiverInfo.{ReceiverInfo};
 ghost use Rattle.yp_journal.specs.History.{JournalState, MayCome, MayFollow, next_state};
 ghost use Rattle.yp_attempt.specs.Moments.{Moment, MayFollow as FollowsMoments};
 ghost use Rattle.yp_attempt.specs.Tracks.{Answer, Track};
-ghost use Rattle.yp_roster.specs.Rosters.{IsIdleAt, IsRosterAt};
+ghost use Rattle.yp_roster.specs.Rosters.{IsClassed, IsIdleAt, IsRosterAt};
 ghost use Rattle.yp_roster.specs.Slots.{AreSlotsOf};
-ghost use Rattle.yp_roster.specs.Steps.{IsEntered, entered_moment};
+ghost use Rattle.yp_roster.specs.Steps.{HasTree, IsEntered, entered_moment};
 ghost use Rattle.yp_worker.specs.Workers.{IsIdle, IsIdleWorkerOf, IsStateOf, IsTaking, IsWorkerOf, TakesEntry};
 
-use crate::rules::{renewed_rules, rules_left};
+use crate::keeping::{find_former, follow_with, let_go, tree_of};
+use crate::rules::{readers_left, renew, renewed_readers};
 use crate::worker::Worker;
 use std::alloc::Global;
 use std::marker::Brand;
 use std::sync::ledger::{Blank, Ledger};
 use yp_base::memory::NoMemory;
 use yp_base::steps::Steps;
-use yp_edit::changed::Changed;
-use yp_edit::former::follow;
+use yp_edit::changed::{Changed, ChangedRow};
 use yp_journal::command::Command;
 use yp_journal::entry::Entry;
 use yp_journal::laws::{
@@ -32,6 +30,7 @@ use yp_registry::laws::ids_rise;
 use yp_roster::following::Entered;
 use yp_roster::laws::a_roster_follows_a_journal;
 use yp_roster::present::Present;
+use yp_roster::readers::Readers;
 use yp_roster::roster::Roster;
 use yp_schema::schema::Schema;
 use yp_tree::tree::Tree;
@@ -57,6 +56,25 @@ fn accept_into(
     Ok(outcome)
 }
 
+/// An entry with what it found and what it left.
+fn entered_with<'a>(
+    entry: &'a Entry,
+    before: Option<&'a Tree>,
+    rules: &'a Readers,
+    changed: &'a [ChangedRow],
+    present: Present<'a>,
+) -> Entered<'a>
+    ensures { result ≡ record { entry = entry.entry; before = before.entry; rules = rules.entry; changed = changed.entry; present = present.entry } }
+{
+    Entered {
+        entry,
+        before,
+        rules,
+        changed,
+        present,
+    }
+}
+
 /// Goes on by an entry with a roster, and counts no step of it.
 fn enter<L: Ledger>(
     alloc: Global,
@@ -68,30 +86,15 @@ fn enter<L: Ledger>(
     requires name { blank.name ≡ L.name }
     requires parts { blank.parts ≡ L.parts }
     requires some { 0 < L.parts }
-    requires entered { (before : JournalState) × IsEntered entered.now before × ((tracks : List Track) × AreSlotsOf entered.now.present.schema.now before roster.old.slots.items tracks) }
-    ensures { OnOk result ((before : JournalState) (past : List Moment) (answers : List Answer) → IsEntered entered.now before
+    requires entered { (before : JournalState) × IsEntered entered.now before × IsClassed entered.now.present.schema.now before roster.old × ((tracks : List Track) × AreSlotsOf entered.now.present.schema.now before roster.old.slots.items tracks) }
+    requires tree { HasTree entered.now roster.old.classes.all.items }
+    ensures stands { OnOk result ((before : JournalState) (past : List Moment) (answers : List Answer) → IsEntered entered.now before → IsClassed entered.now.present.schema.now before roster.old
         → IsIdleAt entered.now.present.schema.now before mine.now past answers roster.old.slots.items → FollowsMoments past (entered_moment entered.now before)
         → IsRosterAt entered.now.present.schema.now entered.now.present.state.now mine.now (past ++ entered_moment entered.now before ∷ []) answers roster.new.slots.items) }
+    ensures classed { OnOk result (IsClassed entered.now.present.schema.now entered.now.present.state.now roster.new) }
 {
     let mut steps = Steps::<L>::open(blank);
     roster.absorb(alloc, mine, entered, &mut steps)
-}
-
-/// Makes the changes of an entry in a tree that is as its rows were before, and counts no step of it.
-fn follow_with<L: Ledger>(
-    alloc: Global,
-    tree: &mut Tree,
-    changed: &Changed,
-    blank: Blank,
-) -> Result<(), NoMemory>
-    requires name { blank.name ≡ L.name }
-    requires parts { blank.parts ≡ L.parts }
-    requires some { 0 < L.parts }
-    requires changed { (after : List RowThere) × AreInOrder after × (changed.now ≡ changed_rows tree.old after) }
-    ensures { OnOk result ((after : List RowThere) → AreInOrder after → changed.now ≡ changed_rows tree.old after → tree.new ≡ after) }
-{
-    let mut steps = Steps::<L>::open(blank);
-    follow(alloc, tree, changed, &mut steps)
 }
 
 impl Worker {
@@ -111,26 +114,23 @@ impl Worker {
         a_roster_follows_a_journal();
         a_journal_goes_on_entry_by_entry();
         a_legal_journal_goes_on();
-        let renewed = renewed_rules(alloc, &entry.command, &self.state)?;
+        let command = &entry.command;
+        let tree = self.state.tree();
+        let renewed = renewed_readers(alloc, command, &self.state)?;
+        let (roster, former) = (&self.roster, &mut self.former);
+        find_former::<Brand>(alloc, command, roster, tree, changed, former, Blank::new(1))?;
         let present = Present {
             schema,
             state: &self.state,
-            rules: rules_left(&self.rules, &renewed),
+            readers: readers_left(&self.readers, &renewed),
         };
-        let entered = Entered {
-            entry,
-            before: &self.former,
-            rules: self.rules.items(),
-            changed: changed.items(),
-            present,
-        };
+        let before = tree_of(&self.former);
+        let entered = entered_with(entry, before, &self.readers, changed.items(), present);
         let mine = self.mine.as_slice();
         enter::<Brand>(alloc, &mut self.roster, mine, &entered, Blank::new(1))?;
         follow_with::<Brand>(alloc, &mut self.former, changed, Blank::new(1))?;
-        match renewed {
-            Some(rules) => self.rules = rules,
-            None => {}
-        }
+        let_go(alloc, command, changed, &mut self.contents);
+        renew(&mut self.readers, renewed);
         Ok(())
     }
 

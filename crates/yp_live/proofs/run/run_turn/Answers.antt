@@ -1,60 +1,68 @@
-use Rattle.std.proofs.Common.{◌≡◌, ◌∷◌, ◌++◌, [], List, refl, sym, ap, subst, ◌∙◌}
-use Rattle.yp_journal.specs.declared.entry.Entry.{Entry}
-use Rattle.yp_journal.specs.declared.receiver.ReceiverInfo.{ReceiverInfo}
-use Rattle.yp_journal.specs.History.{JournalState, first_state, MayCome}
-use Rattle.yp_core.specs.Updates.{all_feeds, attempts_at}
-use Rattle.yp_live.specs.declared.run.Run.{Run}
-use Rattle.yp_live.specs.Classes.{AreClassesOf}
-use Rattle.yp_live.specs.Desks.{sent}
-use Rattle.yp_live.specs.Readers.{rules_of_each}
-use Rattle.yp_live.specs.Records.{IsFormer}
-use Rattle.yp_live.specs.Runs.{IsStep}
-use Rattle.yp_live.specs.Selections.{AreSelected}
-use Rattle.yp_live.proofs.RunLaws.{desks_length, follows, run_on}
+use Rattle.std.proofs.Common.{◌∙◌, ◌++◌, ◌∷◌, [], List, Vec, Global, ap, sym, length}
+use Rattle.std.proofs.lemmas.List.{length-append}
+use Rattle.yp_journal.specs.declared.command.Command.{Command}
+use Rattle.yp_attempt.specs.Attempts.{answers_in}
+use Rattle.yp_promise.specs.Serving.{all_numbers, run_entered, run_of}
+use Rattle.yp_live.specs.declared.run.Replied.{Replied}
+use Rattle.yp_live.specs.Desks.{DeskState}
+use Rattle.yp_live.specs.Runs.{IsOnItsWay, desks_took, replied_of}
+use Rattle.yp_live.proofs.Results.{when_ok}
+use Rattle.yp_live.proofs.Turning.{entered, run_length, turned}
 use Rattle.yp_live.proofs.run.run_turn.Goals as goal
 
-pub tell_step-requires-clause-step : goal.tell_step-requires-clause-step
-tell_step-requires-clause-step g c =
-    let run : Run = c.args.run.now in (
-      run.state,
-      record { fits = c.requires.run.fits; declared = c.requires.run.declared; rules = c.requires.run.rules; may = c.requires.may; state = c.in_ok-outcome.ensures.state; reply = c.in_ok-outcome.ensures.reply; changed = c.in_ok-outcome.ensures.changed },
-      c.requires.run.selections,
-      c.requires.run.former,
-      c.stamp-before.ensures.value,
-      c.requires.run.classes,
-    )
+pub take_by-requires : goal.take_by-requires
+take_by-requires c =
+    let s = c.args.setting.now in
+    (s.schema.now, (s.receivers.now, (c.requires.may, run_length s.schema.now s.start.now s.receivers.now c.requires.run.entries c.args.run.now c.requires.run.is)))
 
-pub tell_step-requires-clause-desks : goal.tell_step-requires-clause-desks
-tell_step-requires-clause-desks g c =
-    let setting = c.args.setting.now in
-    desks_length setting.schema.now setting.start.now setting.receivers.now c.args.run.now c.requires.run
+pub answer_all-requires : goal.answer_all-requires
+answer_all-requires c =
+    let nodes = c.args.setting.now.schema.now in
+    let start = c.args.setting.now.start.now in
+    let receivers = c.args.setting.now.receivers.now in
+    let entries = c.requires.run.entries in
+    let is = c.requires.run.is in
+    let entry = c.in_ok-entry.entry in
+    let before : List DeskState = c.args.run.now.desks.items in
+    record {
+      start = start;
+      receivers = receivers;
+      entries = entries ++ entry ∷ [];
+      served = run_entered nodes receivers entries entry;
+      is =
+          entered c.a_serial_run_goes_on_offer_by_offer.ensures.enters c.queues_hold_what_was_not_taken.ensures.run c.queues_hold_what_was_not_taken.ensures.enters nodes start receivers entries entry c.args.run.now c.accept.new.self
+          c.take_by.new.desks.items is
+          (c.in_ok-take_by.ensures ∙ ap (λ (k : Command). desks_took k 0 before) (sym c.in_ok-entry.ensures.command))
+          (c.in_ok-entry.ensures.stands start receivers (all_numbers receivers) entries (answers_in (run_of nodes receivers entries).run.done) is.worker);
+    }
 
 pub returns-clause-run : goal.returns-clause-run
-returns-clause-run g c =
-    let setting = c.args.setting.now in
-    let nodes = setting.schema.now in
-    let start = setting.start.now in
-    let receivers : List ReceiverInfo = setting.receivers.now in
-    let run : Run = c.args.run.now in
-    let turn = c.args.turn in
-    let is = c.requires.run in
-    let first : JournalState = first_state receivers in
-    let entry : Entry = record { lane = turn.lane; index = turn.index; stamp = c.in_ok-outcome.outcome.stamp; command = turn.command; reply = c.in_ok-outcome.outcome.reply } in
-    let told : Run = c.tell_step.new.run in
-    let after : Run = record told { entries = c.push.new.self } in
-    let stays : told.state ≡ c.accept.new.self = c.tell_step.ensures.state in
-    let entries : c.push.new.self.items ≡ run.entries.items ++ entry ∷ [] = c.in_ok-push.ensures.items ∙ ap (λ (kept : List Entry). kept ++ entry ∷ []) (ap (λ es. es.items) c.tell_step.ensures.entries) in
-    let step : IsStep nodes receivers run.readers run.state turn.command c.in_ok-outcome.outcome c.accept.new.self =
-    record { fits = is.fits; declared = is.declared; rules = is.rules; may = c.requires.may; state = c.in_ok-outcome.ensures.state; reply = c.in_ok-outcome.ensures.reply; changed = c.in_ok-outcome.ensures.changed } in
-    run_on nodes start receivers run after turn entry is
-    (c.a_journal_keeps_its_state.ensures.command nodes run.state turn.command (subst (λ (rs : List ReceiverInfo). MayCome nodes rs turn.command) (sym is.declared) c.requires.may) is.fits)
-    (c.a_journal_goes_on_entry_by_entry.ensures.entries nodes first run.entries.items entry)
-    (c.a_journal_goes_on_entry_by_entry.ensures.receivers nodes first (run.entries.items ++ entry ∷ []))
-    (c.a_legal_journal_goes_on.ensures.legal_more nodes first run.entries.items entry is.legal (follows nodes start receivers run turn entry is c.requires.may refl c.in_ok-outcome.ensures.reply (c.in_ok-outcome.ensures.stamp ∙ ap (λ (s : JournalState). s.stamp) c.in_ok-outcome.ensures.state)))
-    (λ receiver. c.what_a_journal_makes_goes_on.ensures.more nodes receivers run.entries.items entry receiver)
-    (stays ∙ c.in_ok-outcome.ensures.state) refl entries
-    (c.in_ok-tell_step.ensures.readers ∙ ap (λ (s : JournalState). rules_of_each s.policy receivers) (sym stays))
-    (subst (λ (s : JournalState). AreClassesOf nodes told.readers (all_feeds s) told.outbox.classes) (sym stays) c.in_ok-tell_step.ensures.classes)
-    (subst (λ (s : JournalState). AreSelected nodes s told.outbox.selections.items) (sym stays) c.in_ok-tell_step.ensures.selections)
-    (subst (λ (s : JournalState). IsFormer s.rows told.outbox.former) (sym stays) c.in_ok-tell_step.ensures.former)
-    (c.in_ok-tell_step.ensures.desks run.state step c.stamp-before.ensures.value is.former ∙ ap (λ (s : JournalState). sent nodes start (attempts_at nodes run.state s) run.outbox.desks.items) (sym stays))
+returns-clause-run c =
+    let nodes = c.args.setting.now.schema.now in
+    let start = c.args.setting.now.start.now in
+    let receivers = c.args.setting.now.receivers.now in
+    let entry = c.in_ok-entry.entry in
+    let before : List DeskState = c.args.run.now.desks.items in
+    when_ok c.answer_all.result c.answer_all.ensures.through
+    (λ through entries is.
+    let way : IsOnItsWay nodes start receivers (entries ++ entry ∷ []) (run_entered nodes receivers entries entry) c.accept.new.self c.take_by.new.desks.items =
+    entered c.a_serial_run_goes_on_offer_by_offer.ensures.enters c.queues_hold_what_was_not_taken.ensures.run c.queues_hold_what_was_not_taken.ensures.enters nodes start receivers entries entry c.args.run.now c.accept.new.self
+    c.take_by.new.desks.items is
+    (c.in_ok-take_by.ensures ∙ ap (λ (k : Command). desks_took k 0 before) (sym c.in_ok-entry.ensures.command))
+    (c.in_ok-entry.ensures.stands start receivers (all_numbers receivers) entries (answers_in (run_of nodes receivers entries).run.done) is.worker) in (
+      entry,
+      (
+        λ i. record { lane = c.in_ok-entry.ensures.lane i; index = c.in_ok-entry.ensures.index i; command = c.in_ok-entry.ensures.command i },
+        turned nodes start receivers entries entry c.args.run.now c.answer_all.new.run is
+            (through start receivers (entries ++ entry ∷ []) (run_entered nodes receivers entries entry) way)
+            (ap (λ (those : Vec Replied Global). those.items) c.answer_all.ensures.replies ∙ c.in_ok-push.ensures.items),
+      ),
+    ))
+
+pub returns-clause-count : goal.returns-clause-count
+returns-clause-count c =
+    let before : List Replied = c.args.run.now.replies.items in
+    when_ok c.answer_all.result c.answer_all.ensures.through
+    (λ through.
+    ap (λ (those : Vec Replied Global). length those.items) c.answer_all.ensures.replies
+    ∙ (ap (λ (those : List Replied). length those) c.in_ok-push.ensures.items ∙ length-append before (replied_of c.in_ok-entry.entry ∷ [])))

@@ -1,7 +1,8 @@
 use Rattle.std.proofs.Common.{◌≡◌, ◌++◌, string_bytes}
 use Rattle.std.specs.List.{flat_map}
 use Rattle.std.specs.Vec.Iter.{into_iter_items}
-use Rattle.yp_live.specs.Runs.{CanBeWritten, desk_text}
+use Rattle.yp_live.specs.Desks.{desk_text}
+use Rattle.yp_live.specs.Runs.{CanBeWritten}
 use Rattle.yp_live.proofs.text.push_desks.Given as goal
 
 -- the lines so far and those of the desks that are left are all

@@ -1,15 +1,12 @@
-use Rattle.std.proofs.Common.{◌≡◌, ◌<◌, length, Some, ap, sym, subst, ◌∙◌}
-use Rattle.yp_nacm.specs.declared.compile.UserRules.{UserRules}
+use Rattle.std.proofs.Common.{◌≡◌, ◌<◌, length, ap, sym, subst, ◌∙◌}
 use Rattle.yp_nacm.specs.Same.{are_same_rules}
 use Rattle.yp_journal.specs.History.{rules_at}
+use Rattle.yp_roster.proofs.Classed.{one_some}
 use Rattle.yp_roster.proofs.Entering.{comes_after}
 use Rattle.yp_roster.proofs.following.keeps_rules.Goals as goal
 
-some_one : (a b : UserRules) → Some a ≡ Some b → a ≡ b
-some_one a b e = cc
-
-pub rules_there-before-requires : goal.rules_there-before-requires
-rules_there-before-requires c = subst (λ n. c.args.receiver < n) (sym c.requires.1.own.count) c.requires.2
+pub rules-before-requires : goal.rules-before-requires
+rules-before-requires c = subst (λ n. c.args.receiver < n) (sym c.requires.1.own.count) c.requires.2
 
 pub rules_of-requires-clause-receiver : goal.rules_of-requires-clause-receiver
 rules_of-requires-clause-receiver c =
@@ -19,5 +16,5 @@ rules_of-requires-clause-receiver c =
 
 pub returns : goal.returns
 returns c = λ before entered within.
-    let here : c.rules_there-before.result.now ≡ rules_at before c.args.receiver = some_one _ _ (sym c.rules_there-before.ensures ∙ entered.own.each c.args.receiver (subst (λ n. c.args.receiver < n) (sym entered.own.count) within)) in
+    let here : c.rules-before.result.now ≡ rules_at before c.args.receiver = one_some _ _ (sym c.rules-before.ensures ∙ entered.own.each c.args.receiver (subst (λ n. c.args.receiver < n) (sym entered.own.count) within)) in
     c.same_rules.ensures.same ∙ (λ i. are_same_rules (here i) (c.rules_of.ensures i))

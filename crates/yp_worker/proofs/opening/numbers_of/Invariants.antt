@@ -1,5 +1,5 @@
 use Rattle.std.proofs.Common.{◌≡◌}
-use Rattle.yp_worker.specs.Workers.{numbers_of}
+use Rattle.yp_attempt.specs.Workers.{numbers_of}
 use Rattle.yp_worker.proofs.opening.numbers_of.Given as goal
 
 -- those so far

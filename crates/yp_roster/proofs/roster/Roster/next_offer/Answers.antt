@@ -1,4 +1,7 @@
-use Rattle.std.proofs.Common.{◌∙◌, arith}
+use Rattle.std.proofs.Common.{List, ap, sym, subst, ◌∙◌, arith}
+use Rattle.yp_roster.specs.declared.classes.Class.{Class}
+use Rattle.yp_roster.specs.Classes.{HaveClasses}
+use Rattle.yp_roster.proofs.Classed.{same_members, still_classed}
 use Rattle.yp_roster.proofs.Offering.{found_at, idle_at}
 use Rattle.yp_roster.proofs.Placing.{turn_on}
 use Rattle.yp_roster.proofs.roster.Roster.next_offer.Goals as goal
@@ -6,26 +9,50 @@ use Rattle.yp_roster.proofs.roster.Roster.next_offer.Goals as goal
 pub look_at-requires-clause-looked : goal.look_at-requires-clause-looked
 look_at-requires-clause-looked g c = (c.requires.slots.0, c.loop-place.invariant.looked c.requires.slots.0 c.requires.slots.1)
 
-pub returns-in-Some : goal.returns-in-Some
-returns-in-Some g c = λ mine past answers roster.
+pub look_at-requires-clause-classes : goal.look_at-requires-clause-classes
+look_at-requires-clause-classes g c =
+    let state = c.args.present.now.state.now in
+    let inv = c.loop-place.invariant in
+    let slots = c.loop-place.self.slots.items in
+    subst (λ (classes : List Class). HaveClasses state classes slots) (sym (ap (λ those. those.items) inv.all))
+    (same_members state c.args.self.now.classes.all.items c.args.self.now.slots.items slots inv.members c.requires.classed.classes.each)
+
+pub returns-in-Some-clause-next : goal.returns-in-Some-clause-next
+returns-in-Some-clause-next g c = λ mine past answers roster.
     let present = c.args.present.now in
     let laws = c.a_look_changes_nothing.ensures in
     found_at c.what_feeds_know_of_selections_is_lawful.ensures (record { looks = laws.looks; looked_twice = laws.looked_twice }) present.state.now present.schema.now mine past answers
     c.args.self.now.slots.items c.loop-place.place c.look_at.new.slots.items c.in_ok-found.found c.in-Some.item roster
     (c.in_ok-found.ensures.turn roster.tracks (c.loop-place.invariant.looked roster.tracks roster.kept)) c.in-Some.is
 
+pub returns-in-Some-clause-classed : goal.returns-in-Some-clause-classed
+returns-in-Some-clause-classed g c =
+    let present = c.args.present.now in
+    let inv = c.loop-place.invariant in
+    still_classed present.schema.now present.state.now c.args.self.now _ (c.in_ok-found.ensures.members ∙ inv.members) (c.look_at.ensures.all ∙ inv.all) c.in_ok-found.ensures.told c.requires.classed
+
 pub loop-place-preserved : goal.loop-place-preserved
 loop-place-preserved g c =
     let present = c.args.present.now in
+    let inv = c.loop-place.invariant in
     record {
-      count = c.look_at.ensures.count ∙ c.loop-place.invariant.count;
+      count = c.look_at.ensures.count ∙ inv.count;
       looked = λ tracks kept. turn_on present.schema.now present.state.now tracks c.loop-place.place c.look_at.new.slots.items c.in_ok-found.found
-          (c.in_ok-found.ensures.turn tracks (c.loop-place.invariant.looked tracks kept)) c.in-None.is;
+          (c.in_ok-found.ensures.turn tracks (inv.looked tracks kept)) c.in-None.is;
+      members = c.in_ok-found.ensures.members ∙ inv.members;
+      all = c.look_at.ensures.all ∙ inv.all;
+      told = c.in_ok-found.ensures.told;
     }
 
-pub returns : goal.returns
-returns g c = λ mine past answers roster.
+pub returns-clause-next : goal.returns-clause-next
+returns-clause-next g c = λ mine past answers roster.
     let present = c.args.present.now in
     let laws = c.a_look_changes_nothing.ensures in
     idle_at c.what_feeds_know_of_selections_is_lawful.ensures (record { looks = laws.looks; looked_twice = laws.looked_twice }) present.state.now present.schema.now mine past answers
     c.args.self.now.slots.items c.loop-place.place c.loop-place.self.slots.items roster (c.loop-place.invariant.looked roster.tracks roster.kept) (omega (arith, c.loop-place.invariant.count, c.loop-place-test.false))
+
+pub returns-clause-classed : goal.returns-clause-classed
+returns-clause-classed g c =
+    let present = c.args.present.now in
+    let inv = c.loop-place.invariant in
+    still_classed present.schema.now present.state.now c.args.self.now c.loop-place.self inv.members inv.all inv.told c.requires.classed

@@ -1,4 +1,5 @@
-use Rattle.std.proofs.Common.{◌≡◌, false, ◌∷◌, ◌++◌, map, ap, sym, subst, ◌∙◌}
+use Rattle.std.proofs.Common.{◌≡◌, ◌+◌, List, false, ◌∷◌, ◌++◌, map, ap, refl, sym, subst, ◌∙◌}
+use Rattle.std.specs.Prelude.{slice_set}
 use Rattle.yp_feed.specs.Machine.{FeedState}
 use Rattle.yp_journal.specs.History.{JournalState}
 use Rattle.yp_attempt.specs.Tracks.{Track}
@@ -7,12 +8,15 @@ use Rattle.yp_moment.specs.Windows.{recorded}
 use Rattle.yp_roster.specs.Rosters.{ready_at, standing_at}
 use Rattle.yp_roster.specs.Slots.{IsSlotOf}
 use Rattle.yp_roster.specs.Steps.{answer_of}
+use Rattle.yp_roster.specs.declared.slot.Slot.{Slot}
+use Rattle.yp_roster.specs.Classes.{HasClass, HaveClasses}
+use Rattle.yp_roster.proofs.Classed.{members_gone, members_put, same_members, still_classed}
 use Rattle.yp_roster.proofs.Offering.{settled_gone, settled_on}
 use Rattle.yp_roster.proofs.Placing.{slot_there}
 use Rattle.yp_roster.proofs.roster.Roster.settle.Goals as goal
 
-pub returns-then-ended : goal.returns-then-ended
-returns-then-ended c = λ nodes mine past answers changes found.
+pub returns-then-ended-clause-stands : goal.returns-then-ended-clause-stands
+returns-then-ended-clause-stands c = λ nodes mine past answers changes found.
     let state : JournalState = c.args.state.now in
     let answer = answer_of c.args.settled in
     let laws = c.a_look_changes_nothing.ensures in
@@ -24,8 +28,8 @@ returns-then-ended c = λ nodes mine past answers changes found.
     settled_gone lawful (record { looks = laws.looks; looked_twice = laws.looked_twice }) state nodes mine past answers c.args.self.now.slots.items (record { place = c.args.place; item = c.args.item; changes = changes }) answer found put
     c.settle.new.self c.remove.new.self.items (ap (λ (f : FeedState). f.ended) (sym feed) ∙ sym c.ended.ensures ∙ c.if-ended.true) c.remove.ensures.by_index.2
 
-pub returns-else-ended : goal.returns-else-ended
-returns-else-ended c = λ nodes mine past answers changes found.
+pub returns-else-ended-clause-stands : goal.returns-else-ended-clause-stands
+returns-else-ended-clause-stands c = λ nodes mine past answers changes found.
     let state : JournalState = c.args.state.now in
     let answer = answer_of c.args.settled in
     let laws = c.a_look_changes_nothing.ensures in
@@ -38,3 +42,27 @@ returns-else-ended c = λ nodes mine past answers changes found.
     let lives : here.feed.ended ≡ false = ap (λ (f : FeedState). f.ended) (sym (c.settle.ensures.feed found.track stands.feed)) ∙ sym c.ended.ensures ∙ c.if-ended.false in
     settled_on lawful (record { looks = laws.looks; looked_twice = laws.looked_twice }) state nodes mine past answers c.args.self.now.slots.items (record { place = c.args.place; item = c.args.item; changes = changes }) answer found put
     c.settle.new.self (ap (λ (t : Track). t.feed.ended) (sym same) ∙ lives) (subst (λ (t : Track). IsSlotOf nodes state c.settle.new.self t) same (c.settle.ensures.slot nodes state found.track stands lives))
+
+pub returns-then-ended-clause-classed : goal.returns-then-ended-clause-classed
+returns-then-ended-clause-classed c = λ nodes classed.
+    let state : JournalState = c.args.state.now in
+    let slots = c.args.self.now.slots.items in
+    let place = c.args.place in
+    let put = members_put slots place c.index_mut-slot.result.now c.settle.new.self c.requires.place c.index_mut-slot.ensures.value c.settle.ensures.member in
+    let all = c.args.self.now.classes.all.items in
+    record {
+      classes = record {
+        fit = classed.classes.fit;
+        each = subst (λ (those : List Slot). HaveClasses state all those) (sym c.remove.ensures.by_index.2)
+            (members_gone (HasClass state all) place (place + 1) (slice_set slots place c.settle.new.self) (same_members state all slots (slice_set slots place c.settle.new.self) put classed.classes.each));
+      };
+      told = classed.told;
+    }
+
+pub returns-else-ended-clause-classed : goal.returns-else-ended-clause-classed
+returns-else-ended-clause-classed c = λ nodes classed.
+    let state : JournalState = c.args.state.now in
+    let slots = c.args.self.now.slots.items in
+    let place = c.args.place in
+    let put = members_put slots place c.index_mut-slot.result.now c.settle.new.self c.requires.place c.index_mut-slot.ensures.value c.settle.ensures.member in
+    still_classed nodes state c.args.self.now _ put refl classed.told classed

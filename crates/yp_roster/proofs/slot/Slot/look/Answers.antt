@@ -3,7 +3,7 @@ use Rattle.yp_moment.specs.Windows.{recorded}
 use Rattle.yp_roster.proofs.Results.{when_is_ok}
 use Rattle.yp_roster.proofs.slot.Slot.look.Goals as goal
 
-pub returns : goal.returns
-returns g c = when_is_ok c.offer.result c.offer.ensures (λ found is. λ track stands.
+pub returns-clause-look : goal.returns-clause-look
+returns-clause-look g c = when_is_ok c.offer.result c.offer.ensures.look (λ found is. λ track stands.
     let state = c.args.present.now.state.now in
-    is (freeze_tried recorded state.position state.stamp track) (c.in_ok-freeze.ensures track stands))
+    is (freeze_tried recorded state.position state.stamp track) (c.in_ok-freeze.ensures.slot track stands))

@@ -3,8 +3,8 @@ use Rattle.yp_feed.specs.Machine.{looked, offer_of}
 use Rattle.yp_roster.proofs.Looks.{offers_other}
 use Rattle.yp_roster.proofs.slot.Slot.offer.Goals as goal
 
-pub returns : goal.returns
-returns g c = λ track stands.
+pub returns-clause-look : goal.returns-clause-look
+returns-clause-look g c = λ track stands.
     let present = c.args.present.now in
     let slot = c.args.self.now in
     let laws = c.absorbed_roots_are_those_of_the_window.ensures in

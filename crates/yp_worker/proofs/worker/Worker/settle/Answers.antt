@@ -16,13 +16,13 @@ settle-requires c =
     record { place = omega (arith, there, place, o.found.place) }
 
 pub returns-in-Some-clause-stands : goal.returns-in-Some-clause-stands
-returns-in-Some-clause-stands c = λ nodes start receivers mine entries answers receiver packet o.
+returns-in-Some-clause-stands c = λ nodes start receivers mine entries answers sent o.
     let worker = c.args.self.now in
     let state : JournalState = worker.state in
     let f = o.followed in
     let out = same_some worker.out (record { place = o.offer.place; item = o.offer.item }) c.in-Some.out o.out c.in-Some.is in
     let found = subst (λ (offer : Offer). IsFoundAt nodes state mine (moments_of nodes receivers entries) answers offer worker.roster.slots.items) (offer_out o.offer c.in-Some.out out) o.found in
     record {
-      followed = record { schema = f.schema; legal = f.legal; begun = f.begun; served = f.served; state = f.state; sound = f.sound; rules = f.rules; former = f.former };
-      stands = c.settle.ensures nodes mine (moments_of nodes receivers entries) answers o.offer.changes found;
+      followed = record { schema = f.schema; legal = f.legal; begun = f.begun; served = f.served; state = f.state; sound = f.sound; rules = f.rules; former = f.former; classed = c.settle.ensures.classed nodes f.classed; contents = f.contents };
+      stands = c.settle.ensures.stands nodes mine (moments_of nodes receivers entries) answers o.offer.changes found;
     }

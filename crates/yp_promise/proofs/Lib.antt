@@ -1,0 +1,11 @@
+pub mod Entering
+pub mod Ticks
+pub mod Going
+pub mod Parts
+pub mod Holding
+pub mod Bodies
+pub mod Own
+pub mod Copies
+pub mod Offers
+pub mod Showing
+pub mod Queues

@@ -1,0 +1,89 @@
+-- What was offered to a receiver: nothing that its user may not read, suspensions and incomplete updates only after full queues, and the next resynchronisation carries its own position's selection.
+use Rattle.std.proofs.Common.{◌≡◌, ℕ, refl, sym, ap, subst, ◌∙◌, true, List, [], ◌∷◌, ◌++◌}
+use Rattle.std.specs.Prelude.{◌==◌}
+use Rattle.std.specs.List.{AllByRecursion}
+use Rattle.yp_base.specs.declared.row.Row.{Row}
+use Rattle.yp_feed.specs.declared.item.Item.TheVariants.{Suspended}
+use Rattle.yp_schema.specs.declared.schema.SchemaNode.{SchemaNode}
+use Rattle.yp_schema.specs.WellFormed.{IsSchema}
+use Rattle.yp_journal.specs.declared.entry.Entry.{Entry}
+use Rattle.yp_journal.specs.declared.receiver.ReceiverInfo.{ReceiverInfo}
+use Rattle.yp_journal.specs.History.{first_state, may_read, state_at, IsLegal}
+use Rattle.yp_attempt.specs.Attempts.{replay}
+use Rattle.yp_attempt.specs.Content.{Content}
+use Rattle.yp_attempt.specs.Runs.{Run, first_run}
+use Rattle.yp_attempt.specs.Tracks.{Answer, Attempt, All, Notice}
+use Rattle.yp_mirror.specs.FullQueues.{HasEightFull, HasFull}
+use Rattle.yp_mirror.specs.Heard.{IsTakenUpdate, is_incomplete_update, of_sub, told_by}
+use Rattle.yp_mirror.specs.Links.{IsAttemptOf, IsRunOf}
+use Rattle.yp_mirror.specs.Stories.{Story, story_of}
+use Rattle.yp_moment.specs.Concealed.{NamesReadable}
+use Rattle.yp_moment.specs.Entries.{moments_of}
+use Rattle.yp_moment.specs.Windows.{recorded}
+use Rattle.yp_promise.specs.Promise.{IsConcealed, LeavesOutAfterFull, Resynchronises, SuspendsAfterEight}
+use Rattle.yp_promise.specs.Serving.{run_of}
+use Rattle.yp_promise.specs.Shown.{offered_to}
+use Rattle.yp_promise.proofs.Bodies.{wanted}
+use Rattle.yp_promise.proofs.Copies.{GoesByAsk}
+use Rattle.yp_promise.proofs.Own.{own_answers, own_attempt, own_part}
+use Rattle.yp_promise.proofs.Parts.{all_there, number_is}
+
+-- ---- the laws that are rested on
+
+pub record OfferLaws : Type 0 where
+  pub suspends : (c : Content) (story : Story) (receiver : ℕ) (run : Run) → IsRunOf c story receiver run → (sub : ℕ) (before : List Attempt) (a : Attempt) → IsAttemptOf run sub before a → a.made.body ≡ Notice Suspended → HasEightFull before
+  pub leaves_out : (c : Content) (story : Story) (receiver : ℕ) (run : Run) → IsRunOf c story receiver run → (sub : ℕ) (before : List Attempt) (a : Attempt) → IsAttemptOf run sub before a → is_incomplete_update a.made.body ≡ true → HasFull before
+  pub carries : (c : Content) (story : Story) (receiver : ℕ) (run : Run) → IsRunOf c story receiver run → (sub : ℕ) (before : List Attempt) (a : Attempt) → IsAttemptOf run sub before a → IsTakenUpdate a
+      → story.resyncing sub ≡ true → (told_by c before).awaits ≡ true → a.made.body ≡ All (story.want sub a.at)
+  pub here : (c : Content) (story : Story) (receiver : ℕ) (run : Run) → IsRunOf c story receiver run → (sub : ℕ) (before : List Attempt) (a : Attempt) → IsAttemptOf run sub before a → IsTakenUpdate a
+      → story.resyncing sub ≡ true → (told_by c before).awaits ≡ true → a.made.position ≡ a.at
+
+-- the laws of what is concealed
+pub record ConcealLaws : Type 0 where
+  pub made : (nodes : List SchemaNode) (receivers : List ReceiverInfo) (entries : List Entry) (receiver : ℕ) (answers : List Answer) → IsSchema nodes → IsLegal nodes (first_state receivers) entries
+      → (id : ℕ) (before : List Attempt) (a : Attempt) → IsAttemptOf (replay recorded (receiver ∷ []) first_run (moments_of nodes receivers entries) answers).run id before a
+      → NamesReadable (may_read nodes (state_at nodes receivers entries a.made.position) receiver) a.made.body
+  pub offered : (nodes : List SchemaNode) (receivers : List ReceiverInfo) (entries : List Entry) (receiver : ℕ) (answers : List Answer) → IsSchema nodes → IsLegal nodes (first_state receivers) entries
+      → (id : ℕ) (before : List Attempt) (a : Attempt) → IsAttemptOf (replay recorded (receiver ∷ []) first_run (moments_of nodes receivers entries) answers).run id before a
+      → NamesReadable (may_read nodes (state_at nodes receivers entries a.at) receiver) a.made.body
+
+module _ (nodes : List SchemaNode) (receivers : List ReceiverInfo) (entries : List Entry) (receiver : ℕ) where
+  abbrev all_offered : List Attempt
+  all_offered = offered_to receiver (run_of nodes receivers entries)
+
+  abbrev story : Story
+  story = story_of (moments_of nodes receivers entries) receiver
+
+  abbrev own : Run
+  own = own_part nodes receivers entries receiver
+
+  -- an attempt that was offered is one of its own subscription
+  its_own : (before : List Attempt) (a : Attempt) (after : List Attempt) → all_offered ≡ before ++ a ∷ after → IsAttemptOf own a.sub (of_sub a.sub before) a
+  its_own before a after is = own_attempt nodes receivers entries receiver before a after is a.sub (number_is a.sub)
+
+  pub all_concealed : ConcealLaws → IsSchema nodes → IsLegal nodes (first_state receivers) entries → (replay recorded (receiver ∷ []) first_run (moments_of nodes receivers entries) (own_answers nodes receivers entries receiver)).run ≡ own
+      → AllByRecursion (IsConcealed nodes receivers entries receiver) all_offered
+  all_concealed laws schema legal same =
+      all_there (IsConcealed nodes receivers entries receiver) all_offered [] all_offered refl
+      (λ before a after is.
+      let it : IsAttemptOf (replay recorded (receiver ∷ []) first_run (moments_of nodes receivers entries) (own_answers nodes receivers entries receiver)).run a.sub (of_sub a.sub before) a =
+      subst (λ (run : Run). IsAttemptOf run a.sub (of_sub a.sub before) a) (sym same) (its_own before a after is) in
+      record {
+        made = laws.made nodes receivers entries receiver (own_answers nodes receivers entries receiver) schema legal a.sub (of_sub a.sub before) a it;
+        offered = laws.offered nodes receivers entries receiver (own_answers nodes receivers entries receiver) schema legal a.sub (of_sub a.sub before) a it;
+      })
+
+  module _ (laws : OfferLaws) (of : IsRunOf recorded story receiver own) where
+    pub suspends_after_eight : SuspendsAfterEight all_offered
+    suspends_after_eight before a after is says = laws.suspends recorded story receiver own of a.sub (of_sub a.sub before) a (its_own before a after is) says
+
+    pub leaves_out_after_full : LeavesOutAfterFull all_offered
+    leaves_out_after_full before a after is says = laws.leaves_out recorded story receiver own of a.sub (of_sub a.sub before) a (its_own before a after is) says
+
+    pub resyncs_carry : GoesByAsk nodes receivers entries receiver → Resynchronises nodes receivers entries receiver all_offered
+    resyncs_carry goes id ask gives resyncing before a after is mine taken awaits =
+        let it : IsAttemptOf own id (of_sub id before) a = own_attempt nodes receivers entries receiver before a after is id (ap (λ (n : ℕ). n == id) mine ∙ number_is id) in
+        let told = (goes id ask gives).1 ∙ resyncing in (
+          laws.carries recorded story receiver own of id (of_sub id before) a it taken told awaits ∙ ap (λ (rows : List Row). All rows) (wanted nodes receivers entries receiver id a.at),
+          laws.here recorded story receiver own of id (of_sub id before) a it taken told awaits,
+        )

@@ -1,0 +1,5 @@
+pub mod Serving
+pub mod Shown
+pub mod Received
+pub mod Promise
+pub mod Posts

@@ -1,0 +1,100 @@
+-- What the receiver of a legal journal is promised, by all that was offered to it and all that it took (RFC 8641 sections 3.1, 3.3, 3.7, 3.9 and 3.11, RFC 8639 section 2.7, RFC 8341 section 3.4.5).
+use Rattle.std.specs.Prelude.{◌≡◌, ℕ, ◌≤◌, ◌==◌, ◌&&◌, Bool, true, false, List, [], ◌∷◌, ◌++◌, Some}
+use Rattle.std.specs.List.{AllByRecursion}
+use Rattle.yp_schema.specs.declared.schema.SchemaNode.{SchemaNode}
+use Rattle.yp_registry.specs.declared.ask.Ask.{Ask}
+use Rattle.yp_feed.specs.declared.item.Item.TheVariants.{Suspended}
+use Rattle.yp_feed.specs.Machine.{is_mirrored, resyncs}
+use Rattle.yp_journal.specs.declared.command.Command.TheVariants.{Establish}
+use Rattle.yp_journal.specs.declared.entry.Entry.{Entry}
+use Rattle.yp_journal.specs.declared.receiver.ReceiverInfo.{ReceiverInfo}
+use Rattle.yp_journal.specs.declared.reply.Reply.TheVariants.{Id}
+use Rattle.yp_journal.specs.History.{may_read, state_at}
+use Rattle.yp_attempt.specs.Tracks.{Attempt, All, Notice}
+use Rattle.yp_attempt.specs.Attempts.{Notification, answers_in, attempts, taken_of}
+use Rattle.yp_mirror.specs.FullQueues.{HasFull, HasEightFull}
+use Rattle.yp_mirror.specs.Heard.{is_full_update, is_incomplete_update, is_update, of_sub, told_by, IsTakenUpdate}
+use Rattle.yp_moment.specs.Concealed.{NamesReadable}
+use Rattle.yp_moment.specs.Entries.{moments_of, selected_at}
+use Rattle.yp_moment.specs.Windows.{recorded}
+use Rattle.yp_promise.specs.Received.{held_of, received}
+
+-- ---- subscriptions
+
+-- a journal gives a subscription of this id by what was asked for
+pub record Gives (entries : List Entry) (id : ℕ) (ask : Ask) : Type 0 where
+  pub before : List Entry
+  pub entry : Entry
+  pub after : List Entry
+  pub by : ℕ
+  pub parts : entries ≡ before ++ entry ∷ after
+  pub command : entry.command ≡ Establish by ask
+  pub reply : entry.reply ≡ Id id
+
+-- whether a notification is an update of a subscription
+abbrev pub is_update_of : ℕ → Notification → Bool
+is_update_of id n = (n.sub == id) && is_update n.made.body
+
+-- ---- what it took
+
+-- after each update of a mirrored subscription the receiver holds what is selected at the position at which the update was made
+abbrev pub Mirrors : List SchemaNode → List ReceiverInfo → List Entry → ℕ → List Notification → Type 0
+Mirrors nodes receivers entries receiver got = (id : ℕ) (ask : Ask) → Gives entries id ask → is_mirrored ask.trigger ≡ true
+    → (before : List Notification) (update : Notification) (after : List Notification) → got ≡ before ++ update ∷ after → is_update_of id update ≡ true
+    → held_of id (received [] (before ++ update ∷ [])) ≡ Some (selected_at nodes (state_at nodes receivers entries update.made.position) id receiver)
+
+-- the first update of a mirrored subscription is a full one
+abbrev pub BeginsFull : List Entry → List Notification → Type 0
+BeginsFull entries got = (id : ℕ) (ask : Ask) → Gives entries id ask → is_mirrored ask.trigger ≡ true
+    → (before : List Notification) (update : Notification) (after : List Notification) → got ≡ before ++ update ∷ after → is_update_of id update ≡ true
+    → AllByRecursion (λ n. is_update_of id n ≡ false) before → is_full_update update.made.body ≡ true
+
+-- of two updates of a subscription the later was made at no lower position
+abbrev pub NeverFalls : List Notification → Type 0
+NeverFalls got = (id : ℕ) (before : List Notification) (one : Notification) (between : List Notification) (other : Notification) (after : List Notification)
+    → got ≡ before ++ one ∷ (between ++ other ∷ after) → is_update_of id one ≡ true → is_update_of id other ≡ true → one.made.position ≤ other.made.position
+
+-- ---- what was offered to it
+
+-- nothing is named that its user may not read, neither at the position at which it was made nor at the one at which it was offered
+pub record IsConcealed (nodes : List SchemaNode) (receivers : List ReceiverInfo) (entries : List Entry) (receiver : ℕ) (a : Attempt) : Type 0 where
+  pub made : NamesReadable (may_read nodes (state_at nodes receivers entries a.made.position) receiver) a.made.body
+  pub offered : NamesReadable (may_read nodes (state_at nodes receivers entries a.at) receiver) a.made.body
+
+-- a subscription is told to be suspended only after eight full answers in a row, since which it wasn't told to go on
+abbrev pub SuspendsAfterEight : List Attempt → Type 0
+SuspendsAfterEight offered = (before : List Attempt) (a : Attempt) (after : List Attempt) → offered ≡ before ++ a ∷ after → a.made.body ≡ Notice Suspended → HasEightFull (of_sub a.sub before)
+
+-- an incomplete update is offered only after a full answer, since which no update was taken
+abbrev pub LeavesOutAfterFull : List Attempt → Type 0
+LeavesOutAfterFull offered = (before : List Attempt) (a : Attempt) (after : List Attempt) → offered ≡ before ++ a ∷ after → is_incomplete_update a.made.body ≡ true → HasFull (of_sub a.sub before)
+
+-- where all that is selected is awaited, after an incomplete update or eight full answers in a row, the next update of a subscription that resynchronises is just that: what is selected at the position at which it is offered, and made there
+abbrev pub Resynchronises : List SchemaNode → List ReceiverInfo → List Entry → ℕ → List Attempt → Type 0
+Resynchronises nodes receivers entries receiver offered = (id : ℕ) (ask : Ask) → Gives entries id ask → resyncs ask.trigger ≡ true
+    → (before : List Attempt) (a : Attempt) (after : List Attempt) → offered ≡ before ++ a ∷ after → a.sub ≡ id → IsTakenUpdate a → (told_by recorded (of_sub id before)).awaits ≡ true
+    → (a.made.body ≡ All (selected_at nodes (state_at nodes receivers entries a.at) id receiver)) × (a.made.position ≡ a.at)
+
+-- ---- the promise
+
+-- of the receiver of this number: what was offered to it, and what it took
+pub record Serves (nodes : List SchemaNode) (receivers : List ReceiverInfo) (entries : List Entry) (receiver : ℕ) (offered : List Attempt) (got : List Notification) : Type 0 where
+  -- what was offered is what the definition makes for it of the journal, with the answers that its queue gave
+  pub own : offered ≡ attempts recorded (receiver ∷ []) (moments_of nodes receivers entries) (answers_in offered)
+  -- what it took was accepted first, in the same order
+  pub waiting : List Notification
+  pub accepted : taken_of offered ≡ got ++ waiting
+  -- after each update it holds fresh selection at the update's position
+  pub mirrors : Mirrors nodes receivers entries receiver got
+  -- the first update is a full one
+  pub begins : BeginsFull entries got
+  -- the positions of updates never fall
+  pub rising : NeverFalls got
+  -- nothing is named that its user may not read
+  pub concealed : AllByRecursion (IsConcealed nodes receivers entries receiver) offered
+  -- suspensions follow only full queues
+  pub suspends : SuspendsAfterEight offered
+  -- and so do incomplete updates
+  pub leaves_out : LeavesOutAfterFull offered
+  -- and the next resynchronisation carries its own position's selection
+  pub resynchronises : Resynchronises nodes receivers entries receiver offered

@@ -1,0 +1,258 @@
+-- The classes of slots, and the records and the steps of classes.
+use Rattle.std.proofs.Common.{◌≡◌, ℕ, zero, suc, ◌+◌, ◌<◌, refl, sym, ap, subst, ◌∙◌, Bool, true, false, ◌&&◌, List, [], ◌∷◌, ◌++◌, map, length, take, drop, get_or, Some, arith}
+use Rattle.std.specs.Prelude.{slice_set, ◌||◌}
+use Rattle.std.specs.List.{AllByRecursion, slice_get}
+use Rattle.std.proofs.lemmas.Bool.{and_parts, or_right}
+use Rattle.std.proofs.lemmas.Option.{slice_get_read}
+use mathlib.Core.Bool.{beq}
+use Rattle.std.proofs.lemmas.List.{drop_more}
+use Rattle.yp_base.specs.declared.notice.Kinds.{Kinds}
+use Rattle.yp_base.specs.declared.notice.Change.{Change}
+use Rattle.yp_schema.specs.declared.schema.SchemaNode.{SchemaNode}
+use Rattle.yp_filter.specs.View.{filter_view}
+use Rattle.yp_nacm.specs.Decision.{is_readable}
+use Rattle.yp_select.specs.Selection.{selection}
+use Rattle.yp_touch.specs.declared.root.Root.{Root}
+use Rattle.yp_touch.specs.Absorbed.{absorbed}
+use Rattle.yp_touch.specs.Absorbed.{recorded as record_of_roots}
+use Rattle.yp_journal.specs.History.{JournalState, rules_at}
+use Rattle.yp_attempt.specs.Tracks.{excluded_kinds}
+use Rattle.yp_roster.specs.declared.classes.Class.{Class}
+use Rattle.yp_roster.specs.declared.records.Told.{Told}
+use Rattle.yp_roster.specs.declared.roster.Roster.{Roster}
+use Rattle.yp_roster.specs.declared.slot.Slot.{Slot}
+use Rattle.yp_roster.specs.Classes.{AreClasses, AreClassedTo, AreClassesOf, HasClass, HaveClasses, IsClassOf, KeepNumbers, Member, follow, member_of}
+use Rattle.yp_roster.specs.Records.{AreTold, IsRecord, IsTold, record_for}
+use Rattle.yp_roster.specs.Rosters.{IsClassed}
+use Rattle.yp_roster.specs.Slots.{record_at}
+use Rattle.yp_roster.specs.Steps.{AreStepsOf, IsStepOf, step_of}
+
+-- ---- lists
+
+-- what holds of all that is left holds of the next one, and of all after it
+pub next_of : {X : Type 0} (P : X → Type 0) (xs : List X) (i : ℕ) (x : X) → i < length xs → x ≡ get_or xs i x → AllByRecursion P (drop i xs) → P x × AllByRecursion P (drop (i + 1) xs)
+next_of P xs i x less is all = subst (AllByRecursion P) (drop_more xs i x less ∙ ap (λ y. y ∷ drop (i + 1) xs) (sym is)) all
+
+-- what is added has the next number
+pub added_last : {X : Type 0} (xs : List X) (x : X) → slice_get (xs ++ x ∷ []) (length xs) ≡ Some x
+added_last [] x = refl
+added_last (y ∷ xs) x = added_last xs x
+
+-- a number at which there is one is within the list
+pub within_is : {X : Type 0} (xs : List X) (number : ℕ) (x : X) → slice_get xs number ≡ Some x → number < length xs
+within_is [] number x there = absurd cc
+within_is (y ∷ xs) zero x there = omega arith
+within_is (y ∷ xs) (suc number) x there = let less = within_is xs number x there in omega (arith, less)
+
+-- what holds of all holds of the one at a number
+pub one_of : {X : Type 0} (P : X → Type 0) (xs : List X) (number : ℕ) (x : X) → AllByRecursion P xs → slice_get xs number ≡ Some x → P x
+one_of P [] number x all there = absurd cc
+one_of P (y ∷ xs) zero x all there = let one : y ≡ x = cc in subst P one all.0
+one_of P (y ∷ xs) (suc number) x all there = one_of P xs number x all.1 there
+
+pub one_some : {X : Type 0} (a b : X) → Some a ≡ Some b → a ≡ b
+one_some a b e = cc
+
+-- what is at a number is the one there
+pub one_at : {X : Type 0} (xs : List X) (number : ℕ) (x item : X) → slice_get xs number ≡ Some x → item ≡ get_or xs number item → x ≡ item
+one_at xs number x item there is = one_some x item (sym there ∙ slice_get_read xs (length xs) number item refl (within_is xs number x there) is)
+
+-- what holds of some and of one more holds of all of them
+pub all_more : {X : Type 0} (P : X → Type 0) (xs : List X) (x : X) → AllByRecursion P xs → P x → AllByRecursion P (xs ++ x ∷ [])
+all_more P [] x all one = (one, tt)
+all_more P (y ∷ xs) x all one = (all.0, all_more P xs x all.1 one)
+
+same_bools : (a b : Bool) → beq a b ≡ true → a ≡ b
+same_bools true true e = refl
+same_bools true false e = absurd cc
+same_bools false true e = absurd cc
+same_bools false false e = refl
+
+-- kinds of edits that are the same one by one
+pub same_kinds : (a b : Kinds) → (beq a.create b.create && (beq a.delete b.delete && (beq a.insert b.insert && (beq a.moved b.moved && beq a.replace b.replace)))) ≡ true → a ≡ b
+same_kinds a b e =
+    let first = and_parts _ _ e in
+    let second = and_parts _ _ first.1 in
+    let third = and_parts _ _ second.1 in
+    let last = and_parts _ _ third.1 in
+    λ i. record {
+      create = same_bools a.create b.create first.0 i;
+      delete = same_bools a.delete b.delete second.0 i;
+      insert = same_bools a.insert b.insert third.0 i;
+      moved = same_bools a.moved b.moved last.0 i;
+      replace = same_bools a.replace b.replace last.1 i;
+    }
+
+-- what was there keeps its place where one is added
+pub keep_more : (classes : List Class) (class : Class) → KeepNumbers classes (classes ++ class ∷ [])
+keep_more [] class number other there = absurd cc
+keep_more (c ∷ classes) class zero other there = there
+keep_more (c ∷ classes) class (suc number) other there = keep_more classes class number other there
+
+-- ---- members
+
+-- what holds of slots as members holds of the one at a place
+pub member_there : (P : Member → Type 0) (slots : List Slot) (place : ℕ) (slot : Slot) → AllByRecursion P (map member_of slots) → place < length slots → slot ≡ get_or slots place slot → P (member_of slot)
+member_there P [] place slot all within is = absurd (omega (arith, within))
+member_there P (first ∷ slots) zero slot all within is = subst (λ (s : Slot). P (member_of s)) (sym is) all.0
+member_there P (first ∷ slots) (suc place) slot all within is = member_there P slots place slot all.1 (omega (arith, within)) is
+
+-- another slot at a place that is the same as a member
+pub members_put : (slots : List Slot) (place : ℕ) (slot new : Slot) → place < length slots → slot ≡ get_or slots place slot → member_of new ≡ member_of slot → map member_of (slice_set slots place new) ≡ map member_of slots
+members_put [] place slot new within is same = absurd (omega (arith, within))
+members_put (first ∷ slots) zero slot new within is same = ap (λ (m : Member). m ∷ map member_of slots) (same ∙ ap member_of is)
+members_put (first ∷ slots) (suc place) slot new within is same = ap (λ (ms : List Member). member_of first ∷ ms) (members_put slots place slot new (omega (arith, within)) is same)
+
+pub members_joined : (P : Member → Type 0) (slots more : List Slot) → AllByRecursion P (map member_of slots) → AllByRecursion P (map member_of more) → AllByRecursion P (map member_of (slots ++ more))
+members_joined P [] more all rest = rest
+members_joined P (slot ∷ slots) more all rest = (all.0, members_joined P slots more all.1 rest)
+
+members_taken : (P : Member → Type 0) (n : ℕ) (slots : List Slot) → AllByRecursion P (map member_of slots) → AllByRecursion P (map member_of (take n slots))
+members_taken P zero [] all = tt
+members_taken P zero (slot ∷ slots) all = tt
+members_taken P (suc n) [] all = tt
+members_taken P (suc n) (slot ∷ slots) all = (all.0, members_taken P n slots all.1)
+
+members_dropped : (P : Member → Type 0) (n : ℕ) (slots : List Slot) → AllByRecursion P (map member_of slots) → AllByRecursion P (map member_of (drop n slots))
+members_dropped P zero [] all = tt
+members_dropped P zero (slot ∷ slots) all = all
+members_dropped P (suc n) [] all = tt
+members_dropped P (suc n) (slot ∷ slots) all = members_dropped P n slots all.1
+
+-- some slots go
+pub members_gone : (P : Member → Type 0) (from to : ℕ) (slots : List Slot) → AllByRecursion P (map member_of slots) → AllByRecursion P (map member_of (take from slots ++ drop to slots))
+members_gone P from to slots all = members_joined P (take from slots) (drop to slots) (members_taken P from slots all) (members_dropped P to slots all)
+
+put_taken : (slots : List Slot) (place : ℕ) (new : Slot) → place < length slots → take (suc place) (slice_set slots place new) ≡ take place slots ++ new ∷ []
+put_taken [] place new within = absurd (omega (arith, within))
+put_taken (first ∷ []) zero new within = refl
+put_taken (first ∷ (second ∷ slots)) zero new within = refl
+put_taken (first ∷ slots) (suc place) new within = ap (λ (those : List Slot). first ∷ those) (put_taken slots place new (omega (arith, within)))
+
+-- ---- the classes of slots
+
+module _ (state : JournalState) where
+  pub class_still : (before after : List Class) (member : Member) → KeepNumbers before after → HasClass state before member → HasClass state after member
+  class_still before after member keep has = record { class = has.class; there = keep member.class has.class has.there; shared = has.shared }
+
+  -- each has the class that it had, where classes keep their numbers
+  pub classes_still : (before after : List Class) (members : List Member) → KeepNumbers before after → AllByRecursion (HasClass state before) members → AllByRecursion (HasClass state after) members
+  classes_still before after [] keep have = tt
+  classes_still before after (member ∷ members) keep have = (class_still before after member keep have.0, classes_still before after members keep have.1)
+
+  -- slots that are the same as members
+  pub same_members : (classes : List Class) (slots new : List Slot) → map member_of new ≡ map member_of slots → HaveClasses state classes slots → HaveClasses state classes new
+  same_members classes slots new same have = subst (λ (those : List Member). AllByRecursion (HasClass state classes) those) (sym same) have
+
+module _ (nodes : List SchemaNode) (state : JournalState) where
+  -- no slots have no classes
+  pub none_classed : (classes : List Class) (slots : List Slot) → classes ≡ [] → slots ≡ [] → AreClassesOf nodes state classes slots
+  none_classed classes slots first second =
+      subst (λ (those : List Slot). AreClassesOf nodes state classes those) (sym second)
+      (subst (λ (those : List Class). AreClassesOf nodes state those []) (sym first) (record { fit = tt; each = tt }))
+
+  -- one slot more, with its class
+  pub classed_more : (before after : List Class) (slots : List Slot) (slot : Slot) → KeepNumbers before after → (AreClasses nodes (length state.receivers) before → AreClasses nodes (length state.receivers) after) → HasClass state after (member_of slot)
+      → AreClassesOf nodes state before slots → AreClassesOf nodes state after (slots ++ slot ∷ [])
+  classed_more before after slots slot keep fit has are = record {
+    fit = fit are.fit;
+    each = members_joined (HasClass state after) slots (slot ∷ []) (classes_still state before after (map member_of slots) keep are.each) (has, tt);
+  }
+
+  pub classed_next : (before after : List Class) (slots : List Slot) (place : ℕ) (new : Slot) → KeepNumbers before after → (AreClasses nodes (length state.receivers) before → AreClasses nodes (length state.receivers) after) → HasClass state after (member_of new) → place < length slots
+      → AreClassedTo nodes state before place slots → AreClassedTo nodes state after (place + 1) (slice_set slots place new)
+  classed_next before after slots place new keep fit has within are =
+      let next : suc place ≡ place + 1 = omega arith in
+      subst (λ (n : ℕ). AreClassesOf nodes state after (take n (slice_set slots place new))) next
+      (subst (λ (those : List Slot). AreClassesOf nodes state after those) (sym (put_taken slots place new within)) (classed_more before after (take place slots) new keep fit has are))
+
+  -- slots that are the same as members, of the same classes, with records that are theirs
+  pub still_classed : (old new : Roster) → map member_of new.slots.items ≡ map member_of old.slots.items → new.classes.all ≡ old.classes.all → AreTold nodes state new.classes.all.items new.classes.told.items → IsClassed nodes state old → IsClassed nodes state new
+  still_classed old new same all told classed = record {
+    classes = subst (λ (classes : List Class). AreClassesOf nodes state classes new.slots.items) (sym (ap (λ those. those.items) all))
+        (record { fit = classed.classes.fit; each = same_members state old.classes.all.items old.slots.items new.slots.items same classed.classes.each });
+    told = told;
+  }
+
+-- the receivers and the rules of two states
+module _ (nodes : List SchemaNode) (before after : JournalState) (rules : (number : ℕ) → rules_at before number ≡ rules_at after number) where
+  pub class_alike : (class : Class) (member : Member) → IsClassOf before class member → IsClassOf after class member
+  class_alike class member shares = record { filter = shares.filter; rules = sym (rules class.first) ∙ shares.rules ∙ rules member.receiver; on_change = shares.on_change }
+
+  members_alike : (classes : List Class) (members : List Member) → AllByRecursion (HasClass before classes) members → AllByRecursion (HasClass after classes) members
+  members_alike classes [] have = tt
+  members_alike classes (member ∷ members) have =
+      (record { class = have.0.class; there = have.0.there; shared = class_alike have.0.class member have.0.shared }, members_alike classes members have.1)
+
+  -- the classes of one are those of the other, where users read alike
+  pub classes_alike : (classes : List Class) (slots : List Slot) → after.receivers ≡ before.receivers → AreClassesOf nodes before classes slots → AreClassesOf nodes after classes slots
+  classes_alike classes slots receivers are = record {
+    fit = subst (λ (n : ℕ). AreClasses nodes n classes) (sym (ap length receivers)) are.fit;
+    each = members_alike classes (map member_of slots) are.each;
+  }
+
+-- ---- the records of classes
+
+-- the record of a class is that of each of its slots with the same places, without the same kinds of edits
+pub record_shared : (nodes : List SchemaNode) (state : JournalState) (class : Class) (slot : Slot) (excluded : Kinds) (roots : List Root) → IsClassOf state class (member_of slot)
+    → record_for nodes state (filter_view class.filter) class.first excluded roots ≡ record_for nodes state (filter_view slot.filter) slot.feed.receiver excluded roots
+record_shared nodes state class slot excluded roots shares = λ i. record_of_roots excluded roots (selection nodes (shares.filter i) (λ path. is_readable nodes (shares.rules i) path) state.rows)
+
+-- a record that a class was told is that of a slot of it with the same places, without the same kinds of edits
+module _ (nodes : List SchemaNode) (state : JournalState) (classes : List Class) (slot : Slot) (has : HasClass state classes (member_of slot)) (one : Told) (number : one.class ≡ slot.class) (kinds : one.excluded ≡ excluded_kinds slot.feed.trigger) (places : one.touched ≡ slot.touched) where
+  pub told_again : IsTold nodes state classes one → IsRecord nodes state.position (record_at nodes state slot) one.record
+  told_again told =
+      let same : told.class ≡ has.class = one_some told.class has.class (sym told.there ∙ ap (slice_get classes) number ∙ has.there) in
+      let made : record_for nodes state (filter_view told.class.filter) told.class.first one.excluded one.touched ≡ record_at nodes state slot =
+      (λ i. record_for nodes state (filter_view (same i).filter) (same i).first (kinds i) (places i)) ∙ record_shared nodes state has.class slot (excluded_kinds slot.feed.trigger) slot.touched has.shared in
+      subst (λ (changes : List Change). IsRecord nodes state.position changes one.record) made told.record_is
+
+  pub told_first : IsRecord nodes state.position (record_at nodes state slot) one.record → IsTold nodes state classes one
+  told_first is =
+      let made : record_for nodes state (filter_view has.class.filter) has.class.first one.excluded one.touched ≡ record_at nodes state slot =
+      (λ i. record_for nodes state (filter_view has.class.filter) has.class.first (kinds i) (places i)) ∙ record_shared nodes state has.class slot (excluded_kinds slot.feed.trigger) slot.touched has.shared in
+      record {
+        class = has.class;
+        there = ap (slice_get classes) number ∙ has.there;
+        record_is = subst (λ (changes : List Change). IsRecord nodes state.position changes one.record) (sym made) is;
+      }
+
+-- the record that was found among those that classes were told, where it is of the places of a slot
+pub told_there : (nodes : List SchemaNode) (state : JournalState) (classes : List Class) (slot : Slot) (those : List Told) (place : ℕ) (item one : Told) → HasClass state classes (member_of slot) → AreTold nodes state classes those
+    → slice_get those place ≡ Some one → item ≡ get_or those place item → one.class ≡ slot.class → one.excluded ≡ excluded_kinds slot.feed.trigger → one.touched ≡ slot.touched → IsRecord nodes state.position (record_at nodes state slot) item.record
+told_there nodes state classes slot those place item one has told there is number kinds places =
+    subst (λ (t : Told). IsRecord nodes state.position (record_at nodes state slot) t.record) (one_at those place one item there is)
+    (told_again nodes state classes slot has one number kinds places (one_of (IsTold nodes state classes) those place one told there))
+
+-- ---- the steps of classes
+
+-- the step of a class is that of each of its slots
+pub step_shared : (nodes : List SchemaNode) (before after : JournalState) (class : Class) (slot : Slot) → IsClassOf after class (member_of slot)
+    → step_of nodes before after (filter_view class.filter) class.first ≡ step_of nodes before after (filter_view slot.filter) slot.feed.receiver
+step_shared nodes before after class slot shares =
+    λ i. absorbed [] (selection nodes (shares.filter i) (λ path. is_readable nodes (shares.rules i) path) before.rows) (selection nodes (shares.filter i) (λ path. is_readable nodes (shares.rules i) path) after.rows)
+
+module _ (nodes : List SchemaNode) (before after : JournalState) where
+  -- the step of the class of a number
+  pub step_there : (classes : List Class) (steps : List (List Root)) (number : ℕ) (class : Class) → AreStepsOf nodes before after classes steps → slice_get classes number ≡ Some class
+      → (step : List Root) × (slice_get steps number ≡ Some step) × IsStepOf nodes before after class step
+  step_there [] steps number class are there = absurd cc
+  step_there (c ∷ classes) [] number class are there = absurd are
+  step_there (c ∷ classes) (step ∷ steps) zero class are there =
+      let one : c ≡ class = cc in
+      (step, refl, subst (λ (those : Class). IsStepOf nodes before after those step) one are.0)
+  step_there (c ∷ classes) (step ∷ steps) (suc number) class are there = step_there classes steps number class are.1 there
+
+  -- one class more, with its step
+  pub steps_more : (classes : List Class) (steps : List (List Root)) (class : Class) (step : List Root) → AreStepsOf nodes before after classes steps → IsStepOf nodes before after class step
+      → AreStepsOf nodes before after (classes ++ class ∷ []) (steps ++ step ∷ [])
+  steps_more [] [] class step are is = (is, tt)
+  steps_more [] (s ∷ steps) class step are is = absurd are
+  steps_more (c ∷ classes) [] class step are is = absurd are
+  steps_more (c ∷ classes) (s ∷ steps) class step are is = (are.0, steps_more classes steps class step are.1 is)
+
+-- a class on change among some is one that follows
+pub follows_one : (classes : List Class) (i : ℕ) (class : Class) → i < length classes → class ≡ get_or classes i class → class.on_change ≡ true → follow classes ≡ true
+follows_one [] i class within is on = absurd (omega (arith, within))
+follows_one (first ∷ classes) zero class within is on = ap (λ (c : Class). c.on_change || follow classes) (sym is) ∙ ap (λ (b : Bool). b || follow classes) on
+follows_one (first ∷ classes) (suc i) class within is on = or_right first.on_change (follow classes) (follows_one classes i class (omega (arith, within)) is on)
