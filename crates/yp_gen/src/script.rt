@@ -20,7 +20,6 @@ const HEAD: &str = r#"{"start":"2026-01-01T00:00:00Z"}
 const USUAL_LINE: usize = 160;
 
 /// The lines before the drawn commands: the setting of the script, and its subscriptions.
-#[tactic(auto, unfolding(crate::specs::Scripts::setting_text, crate::specs::Scripts::subscriptions_text))]
 fn head() -> &'static str
     ensures { result.now ≡ setting_text ++ subscriptions_text }
 {
