@@ -1,10 +1,8 @@
 -- The classes of slots, and the records and the steps of classes.
-use Rattle.std.proofs.Common.{◌≡◌, ℕ, zero, suc, ◌+◌, ◌<◌, refl, sym, ap, subst, ◌∙◌, Bool, true, false, ◌&&◌, List, [], ◌∷◌, ◌++◌, map, length, take, drop, get_or, Some, arith}
+use Rattle.std.proofs.Common.{◌≡◌, ℕ, zero, suc, ◌+◌, ◌<◌, ◌≤◌, refl, sym, ap, subst, ◌∙◌, Bool, true, List, [], ◌∷◌, ◌++◌, map, length, take, drop, get_or, Some, arith}
 use Rattle.std.specs.Prelude.{slice_set, ◌||◌}
 use Rattle.std.specs.List.{AllByRecursion, slice_get}
-use Rattle.std.proofs.lemmas.Bool.{and_parts, or_right}
-use Rattle.std.proofs.lemmas.Option.{slice_get_read}
-use mathlib.Core.Bool.{beq}
+use Rattle.std.proofs.lemmas.Bool.{or_right}
 use Rattle.std.proofs.lemmas.List.{drop_more}
 use Rattle.yp_base.specs.declared.notice.Kinds.{Kinds}
 use Rattle.yp_base.specs.declared.notice.Change.{Change}
@@ -23,7 +21,7 @@ use Rattle.yp_roster.specs.declared.roster.Roster.{Roster}
 use Rattle.yp_roster.specs.declared.slot.Slot.{Slot}
 use Rattle.yp_roster.specs.Classes.{AreClasses, AreClassedTo, AreClassesOf, HasClass, HaveClasses, IsClassOf, KeepNumbers, Member, follow, member_of}
 use Rattle.yp_roster.specs.Records.{AreTold, IsRecord, IsTold, record_for}
-use Rattle.yp_roster.specs.Rosters.{IsClassed}
+use Rattle.yp_roster.specs.Rosters.{AreQuietTo, IsClassed}
 use Rattle.yp_roster.specs.Slots.{record_at}
 use Rattle.yp_roster.specs.Steps.{AreStepsOf, IsStepOf, step_of}
 
@@ -53,35 +51,16 @@ one_of P (y ∷ xs) (suc number) x all there = one_of P xs number x all.1 there
 pub one_some : {X : Type 0} (a b : X) → Some a ≡ Some b → a ≡ b
 one_some a b e = cc
 
--- what is at a number is the one there
-pub one_at : {X : Type 0} (xs : List X) (number : ℕ) (x item : X) → slice_get xs number ≡ Some x → item ≡ get_or xs number item → x ≡ item
-one_at xs number x item there is = one_some x item (sym there ∙ slice_get_read xs (length xs) number item refl (within_is xs number x there) is)
+-- the one at a place
+pub get_there : {X : Type 0} (xs : List X) (i : ℕ) (x : X) → i < length xs → x ≡ get_or xs i x → slice_get xs i ≡ Some x
+get_there [] i x within is = absurd (omega (arith, within))
+get_there (y ∷ xs) zero x within is = ap (λ z. Some z) (sym is)
+get_there (y ∷ xs) (suc i) x within is = get_there xs i x (omega (arith, within)) is
 
--- what holds of some and of one more holds of all of them
-pub all_more : {X : Type 0} (P : X → Type 0) (xs : List X) (x : X) → AllByRecursion P xs → P x → AllByRecursion P (xs ++ x ∷ [])
-all_more P [] x all one = (one, tt)
-all_more P (y ∷ xs) x all one = (all.0, all_more P xs x all.1 one)
-
-same_bools : (a b : Bool) → beq a b ≡ true → a ≡ b
-same_bools true true e = refl
-same_bools true false e = absurd cc
-same_bools false true e = absurd cc
-same_bools false false e = refl
-
--- kinds of edits that are the same one by one
-pub same_kinds : (a b : Kinds) → (beq a.create b.create && (beq a.delete b.delete && (beq a.insert b.insert && (beq a.moved b.moved && beq a.replace b.replace)))) ≡ true → a ≡ b
-same_kinds a b e =
-    let first = and_parts _ _ e in
-    let second = and_parts _ _ first.1 in
-    let third = and_parts _ _ second.1 in
-    let last = and_parts _ _ third.1 in
-    λ i. record {
-      create = same_bools a.create b.create first.0 i;
-      delete = same_bools a.delete b.delete second.0 i;
-      insert = same_bools a.insert b.insert third.0 i;
-      moved = same_bools a.moved b.moved last.0 i;
-      replace = same_bools a.replace b.replace last.1 i;
-    }
+pub was_there : {X : Type 0} (xs : List X) (i : ℕ) (x y : X) → x ≡ get_or xs i x → slice_get xs i ≡ Some y → x ≡ y
+was_there [] i x y is there = absurd cc
+was_there (z ∷ xs) zero x y is there = let one : z ≡ y = cc in is ∙ one
+was_there (z ∷ xs) (suc i) x y is there = was_there xs i x y is there
 
 -- what was there keeps its place where one is added
 pub keep_more : (classes : List Class) (class : Class) → KeepNumbers classes (classes ++ class ∷ [])
@@ -123,7 +102,7 @@ members_dropped P (suc n) (slot ∷ slots) all = members_dropped P n slots all.1
 pub members_gone : (P : Member → Type 0) (from to : ℕ) (slots : List Slot) → AllByRecursion P (map member_of slots) → AllByRecursion P (map member_of (take from slots ++ drop to slots))
 members_gone P from to slots all = members_joined P (take from slots) (drop to slots) (members_taken P from slots all) (members_dropped P to slots all)
 
-put_taken : (slots : List Slot) (place : ℕ) (new : Slot) → place < length slots → take (suc place) (slice_set slots place new) ≡ take place slots ++ new ∷ []
+pub put_taken : (slots : List Slot) (place : ℕ) (new : Slot) → place < length slots → take (suc place) (slice_set slots place new) ≡ take place slots ++ new ∷ []
 put_taken [] place new within = absurd (omega (arith, within))
 put_taken (first ∷ []) zero new within = refl
 put_taken (first ∷ (second ∷ slots)) zero new within = refl
@@ -167,11 +146,13 @@ module _ (nodes : List SchemaNode) (state : JournalState) where
       (subst (λ (those : List Slot). AreClassesOf nodes state after those) (sym (put_taken slots place new within)) (classed_more before after (take place slots) new keep fit has are))
 
   -- slots that are the same as members, of the same classes, with records that are theirs
-  pub still_classed : (old new : Roster) → map member_of new.slots.items ≡ map member_of old.slots.items → new.classes.all ≡ old.classes.all → AreTold nodes state new.classes.all.items new.classes.told.items → IsClassed nodes state old → IsClassed nodes state new
-  still_classed old new same all told classed = record {
+  pub still_classed : (old new : Roster) → map member_of new.slots.items ≡ map member_of old.slots.items → new.classes.all ≡ old.classes.all → AreTold nodes state new.classes.all.items new.classes.told.items → new.looked ≤ length new.slots.items → AreQuietTo state new.looked new.slots.items → IsClassed nodes state old → IsClassed nodes state new
+  still_classed old new same all told within quiet classed = record {
     classes = subst (λ (classes : List Class). AreClassesOf nodes state classes new.slots.items) (sym (ap (λ those. those.items) all))
         (record { fit = classed.classes.fit; each = same_members state old.classes.all.items old.slots.items new.slots.items same classed.classes.each });
     told = told;
+    within = within;
+    quiet = quiet;
   }
 
 -- the receivers and the rules of two states
@@ -200,29 +181,22 @@ record_shared nodes state class slot excluded roots shares = λ i. record_of_roo
 
 -- a record that a class was told is that of a slot of it with the same places, without the same kinds of edits
 module _ (nodes : List SchemaNode) (state : JournalState) (classes : List Class) (slot : Slot) (has : HasClass state classes (member_of slot)) (one : Told) (number : one.class ≡ slot.class) (kinds : one.excluded ≡ excluded_kinds slot.feed.trigger) (places : one.touched ≡ slot.touched) where
-  pub told_again : IsTold nodes state classes one → IsRecord nodes state.position (record_at nodes state slot) one.record
+  pub told_again : IsTold nodes state classes one → IsRecord nodes state.position (record_at nodes state slot) one.made
   told_again told =
       let same : told.class ≡ has.class = one_some told.class has.class (sym told.there ∙ ap (slice_get classes) number ∙ has.there) in
       let made : record_for nodes state (filter_view told.class.filter) told.class.first one.excluded one.touched ≡ record_at nodes state slot =
       (λ i. record_for nodes state (filter_view (same i).filter) (same i).first (kinds i) (places i)) ∙ record_shared nodes state has.class slot (excluded_kinds slot.feed.trigger) slot.touched has.shared in
-      subst (λ (changes : List Change). IsRecord nodes state.position changes one.record) made told.record_is
+      subst (λ (changes : List Change). IsRecord nodes state.position changes one.made) made told.record_is
 
-  pub told_first : IsRecord nodes state.position (record_at nodes state slot) one.record → IsTold nodes state classes one
+  pub told_first : IsRecord nodes state.position (record_at nodes state slot) one.made → IsTold nodes state classes one
   told_first is =
       let made : record_for nodes state (filter_view has.class.filter) has.class.first one.excluded one.touched ≡ record_at nodes state slot =
       (λ i. record_for nodes state (filter_view has.class.filter) has.class.first (kinds i) (places i)) ∙ record_shared nodes state has.class slot (excluded_kinds slot.feed.trigger) slot.touched has.shared in
       record {
         class = has.class;
         there = ap (slice_get classes) number ∙ has.there;
-        record_is = subst (λ (changes : List Change). IsRecord nodes state.position changes one.record) (sym made) is;
+        record_is = subst (λ (changes : List Change). IsRecord nodes state.position changes one.made) (sym made) is;
       }
-
--- the record that was found among those that classes were told, where it is of the places of a slot
-pub told_there : (nodes : List SchemaNode) (state : JournalState) (classes : List Class) (slot : Slot) (those : List Told) (place : ℕ) (item one : Told) → HasClass state classes (member_of slot) → AreTold nodes state classes those
-    → slice_get those place ≡ Some one → item ≡ get_or those place item → one.class ≡ slot.class → one.excluded ≡ excluded_kinds slot.feed.trigger → one.touched ≡ slot.touched → IsRecord nodes state.position (record_at nodes state slot) item.record
-told_there nodes state classes slot those place item one has told there is number kinds places =
-    subst (λ (t : Told). IsRecord nodes state.position (record_at nodes state slot) t.record) (one_at those place one item there is)
-    (told_again nodes state classes slot has one number kinds places (one_of (IsTold nodes state classes) those place one told there))
 
 -- ---- the steps of classes
 

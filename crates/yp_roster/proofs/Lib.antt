@@ -4,6 +4,7 @@ pub mod Classed
 pub mod Standing
 pub mod Looks
 pub mod Going
+pub mod Quiet
 pub mod Entering
 pub mod Placing
 pub mod Offering

@@ -84,22 +84,27 @@ module _ (nodes : List SchemaNode) (state : JournalState) (slot : Slot) (track :
 
   -- ---- offers
 
-  -- what is not of changes is offered whatever the number of edits, and the track stays
-  pub offers_other : (f : FeedState) (n q : ℕ) (item : Option Item) → q ≡ capped (length slot.touched) → item ≡ offer_of slot.feed q 1 state.stamp → IsOther item → f ≡ looked slot.feed q 1 n state.stamp
-      → IsSlotOf nodes state (record slot { feed = f }) (rebased recorded n state.stamp track) × IsOfferOf nodes state.position state.stamp (rebased recorded n state.stamp track) (record { item = item; changes = None })
-  offers_other f n q item many is other after =
+  -- what is not of changes is offered whatever the number of edits
+  pub other_same : (q : ℕ) (item : Option Item) → q ≡ capped (length slot.touched) → item ≡ offer_of slot.feed q 1 state.stamp → IsOther item → IsSame track.feed state.stamp (roots_in recorded track) (edit_count recorded track) item
+  other_same q item many is other =
       let stamp = state.stamp in
       let r = roots_in recorded track in
       let e = edit_count recorded track in
       let given : item ≡ offer_of track.feed q 1 stamp = is ∙ ap (λ (g : FeedState). offer_of g q 1 stamp) stands.feed in
-      let same : IsSame track.feed stamp r e item =
       ⊎_elim
       (λ u. record { offers = sym ((u stamp q 1 r e).offers) ∙ sym given; stays = sym ((u stamp q 1 r e).looks) ∙ stays_with_one track.feed q stamp })
       (λ read.
       let few : nat_lt 0 q ≡ nat_lt 0 r = ap (nat_lt 0) many ∙ capped_some (length slot.touched) ∙ ap (nat_lt 0) (as_many nodes state slot track stands windows (record { on_change = read.0; unowed = read.1 })) in
       let with_one : item ≡ offer_of track.feed r 1 stamp = given ∙ same_offer track.feed r q 1 stamp few in
       subst (IsSame track.feed stamp r e) (sym with_one) (same_with_edits track.feed stamp r e (subst IsOther with_one other)))
-      (unread_or track.feed) in
+      (unread_or track.feed)
+
+  -- and the track stays
+  pub offers_other : (f : FeedState) (n q : ℕ) (item : Option Item) → q ≡ capped (length slot.touched) → item ≡ offer_of slot.feed q 1 state.stamp → IsOther item → f ≡ looked slot.feed q 1 n state.stamp
+      → IsSlotOf nodes state (record slot { feed = f }) (rebased recorded n state.stamp track) × IsOfferOf nodes state.position state.stamp (rebased recorded n state.stamp track) (record { item = item; changes = None })
+  offers_other f n q item many is other after =
+      let stamp = state.stamp in
+      let same = other_same q item many is other in
       let back : f ≡ slot.feed = after ∙ ap (λ (b : Bool). record slot.feed { base = if b then n else slot.feed.base }) (stays_with_one slot.feed q stamp) in
       subst (λ (t : Track). IsSlotOf nodes state (record slot { feed = f }) t × IsOfferOf nodes state.position stamp t (record { item = item; changes = None })) (sym (unmoved n stamp track same.stays)) (
         subst (λ (g : FeedState). IsSlotOf nodes state (record slot { feed = g }) track) (sym back) stands,

@@ -1,5 +1,5 @@
 -- What a roster stands for after an entry.
-use Rattle.std.proofs.Common.{◌≡◌, ℕ, ◌+◌, ◌<◌, refl, sym, ap, subst, ◌∙◌, Bool, true, false, not, List, [], ◌∷◌, ◌++◌, map, Result, Ok, Err, arith, append-nil}
+use Rattle.std.proofs.Common.{◌≡◌, ℕ, ◌+◌, ◌<◌, refl, sym, ap, subst, ◌∙◌, Bool, true, not, List, [], ◌∷◌, ◌++◌, map, Result, Ok, Err, arith, append-nil}
 use Rattle.std.specs.Prelude.{All, nat_lt, filter}
 use Rattle.std.specs.List.{AllByRecursion}
 use Rattle.std.proofs.lemmas.List.{map-append}
@@ -12,13 +12,13 @@ use Rattle.yp_registry.specs.declared.refused.Refused.{Refused}
 use Rattle.yp_registry.specs.Ids.{HasRisingIds}
 use Rattle.yp_registry.specs.Registry.{Subscriptions, establish_answer, established, next_id}
 use Rattle.yp_registry.specs.Terms.{Terms}
-use Rattle.yp_feed.specs.Machine.{FeedState, freezes, frozen, is_on_change}
+use Rattle.yp_feed.specs.Machine.{FeedState, freezes}
 use Rattle.yp_journal.specs.declared.command.Command.{Command}
 use Rattle.yp_journal.specs.declared.command.Command.TheVariants.{Tick, Edit, Rules, Establish, Take}
 use Rattle.yp_journal.specs.declared.entry.Entry.{Entry}
 use Rattle.yp_journal.specs.declared.reply.Reply.TheVariants.{Id}
 use Rattle.yp_journal.specs.History.{JournalState, next_state, reply_by, reply_to}
-use Rattle.yp_attempt.specs.ListLaws.{and_false, by_bool, filter_fail, filter_pass}
+use Rattle.yp_attempt.specs.ListLaws.{by_bool, filter_fail, filter_pass}
 use Rattle.yp_attempt.specs.Moments.{Moment, Act, Quiet, Starts, after_moment, is_kept_by, new_track}
 use Rattle.yp_attempt.specs.Runs.{Standing, with_started}
 use Rattle.yp_attempt.specs.TrackLaws.{moment_same}
@@ -32,12 +32,10 @@ use Rattle.yp_roster.specs.Slots.{AreSlotsOf}
 use Rattle.yp_roster.specs.Steps.{IsEntered, IsGivenBy, entered_moment, entered_track, names_of, new_tracks}
 use Rattle.yp_roster.proofs.Begun.{found_id, found_has}
 use Rattle.yp_roster.proofs.Looks.{tried_as}
+use Rattle.yp_roster.proofs.Quiet.{frozen_stays}
 use Rattle.yp_roster.proofs.Offering.{LooksChangeNothing}
 
 -- ---- a record is set aside once
-
-frozen_stays : (f : FeedState) (r : ℕ) → freezes (frozen f) r ≡ false
-frozen_stays f r = and_false (is_on_change f.trigger) _ (and_false (nat_lt 0 f.tries) _ (and_false (nat_lt 256 r) false refl))
 
 tried_twice : (n stamp : ℕ) (t : Track) → freeze_tried recorded n stamp (freeze_tried recorded n stamp t) ≡ freeze_tried recorded n stamp t
 tried_twice n stamp t =

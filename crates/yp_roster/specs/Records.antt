@@ -37,7 +37,7 @@ IsRecord nodes position changes (Some told) = IsWithText nodes position changes 
 pub record IsTold (nodes : List SchemaNode) (state : JournalState) (classes : List Class) (told : Told) : Type 0 where
   pub class : Class
   pub there : slice_get classes told.class ≡ Some class
-  pub record_is : IsRecord nodes state.position (record_for nodes state (filter_view class.filter) class.first told.excluded told.touched) told.record
+  pub record_is : IsRecord nodes state.position (record_for nodes state (filter_view class.filter) class.first told.excluded told.touched) told.made
 
 abbrev pub AreTold : List SchemaNode → JournalState → List Class → List Told → Type 0
 AreTold nodes state classes those = AllByRecursion (IsTold nodes state classes) those

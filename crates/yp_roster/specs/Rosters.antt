@@ -1,5 +1,5 @@
 -- A roster of the feeds of some receivers: the entries of a journal and the answers that it stands for, and what it offers next.
-use Rattle.std.specs.Prelude.{◌≡◌, ℕ, ◌≤◌, ◌∷◌, ◌++◌, List, length, map, Option, Some, None}
+use Rattle.std.specs.Prelude.{◌≡◌, ℕ, ◌≤◌, ◌∷◌, ◌++◌, List, length, map, min, take, false, Option, Some, None}
 use Rattle.std.specs.List.{AllByRecursion}
 use Rattle.yp_schema.specs.declared.schema.SchemaNode.{SchemaNode}
 use Rattle.yp_schema.specs.WellFormed.{IsSchema}
@@ -10,6 +10,7 @@ use Rattle.yp_time.specs.Ticks.{tick_limit}
 use Rattle.yp_journal.specs.declared.entry.Entry.{Entry}
 use Rattle.yp_journal.specs.declared.receiver.ReceiverInfo.{ReceiverInfo}
 use Rattle.yp_journal.specs.History.{JournalState, first_state, state_of, IsLegal}
+use Rattle.yp_feed.specs.Machine.{freezes, offer_of}
 use Rattle.yp_attempt.specs.Moments.{Moment}
 use Rattle.yp_attempt.specs.Runs.{Standing, first_offer}
 use Rattle.yp_attempt.specs.Tracks.{Answer, Track, offered_item}
@@ -46,12 +47,23 @@ pub record IsRosterOf (nodes : List SchemaNode) (receivers : List ReceiverInfo) 
   pub legal : IsLegal nodes (first_state receivers) entries
   pub stands : IsRosterAt nodes (state_of nodes (first_state receivers) entries) mine (moments_of nodes receivers entries) answers slots
 
--- ---- how its slots share
+-- ---- how its slots share, and which were looked at
 
--- the slots of a roster have their classes at a state, and each record that is kept is that of its class there
+-- a slot that was looked at and offers nothing: it has nothing to set aside, and would offer nothing even if the record of its places had an edit
+pub record IsQuiet (state : JournalState) (slot : Slot) : Type 0 where
+  pub thawed : freezes slot.feed (min (length slot.touched) 4294967295) ≡ false
+  pub none : offer_of slot.feed (min (length slot.touched) 4294967295) 1 state.stamp ≡ None
+
+-- so many of some slots are
+abbrev pub AreQuietTo : JournalState → ℕ → List Slot → Type 0
+AreQuietTo state place slots = AllByRecursion (IsQuiet state) (take place slots)
+
+-- the slots of a roster have their classes at a state, each record that is kept is that of its class there, and the first slots, so many as it says, offer nothing
 pub record IsClassed (nodes : List SchemaNode) (state : JournalState) (roster : Roster) : Type 0 where
   pub classes : AreClassesOf nodes state roster.classes.all.items roster.slots.items
   pub told : AreTold nodes state roster.classes.all.items roster.classes.told.items
+  pub within : roster.looked ≤ length roster.slots.items
+  pub quiet : AreQuietTo state roster.looked roster.slots.items
 
 -- ---- what a roster offers
 

@@ -84,7 +84,7 @@ impl Slot {
     /// was set aside goes, and changes are counted anew, or all that is selected is owed.
     pub fn renew(&mut self, alloc: Global, n: u64, stamp: u64)
         requires stamp { stamp ≤ tick_limit }
-        ensures slot { (nodes : List SchemaNode) (before after : JournalState) → ComesAfter before after → (track : Track)
+        ensures { (nodes : List SchemaNode) (before after : JournalState) → ComesAfter before after → (track : Track)
             → IsSlotOf nodes before self.old track → IsSlotOf nodes after self.new (with_control n stamp Rules (with_next nodes after track)) }
     {
         self.feed.control(Control::Rules, n, stamp);

@@ -1,12 +1,13 @@
 //! What a patch makes of slots, by their classes.
 ghost use Rattle.std.specs.Prelude.{◌≡◌, ◌+◌, ◌<◌, ℕ, [], List, length, map, true, is_some, Some, IfOk, OnOk};
 ghost use Rattle.std.specs.List.{AllByRecursion, slice_get};
+ghost use Rattle.yp_filter.specs.View.{filter_view};
 ghost use Rattle.yp_journal.specs.History.{JournalState};
 ghost use Rattle.yp_attempt.specs.Tracks.{Track};
 ghost use Rattle.yp_roster.specs.declared.classes.Class.{Class as ClassThere};
 ghost use Rattle.yp_roster.specs.Classes.{AreClasses, AreClassesOf, HaveClasses, IsClass, member_of};
 ghost use Rattle.yp_roster.specs.Slots.{AreSlotsOf};
-ghost use Rattle.yp_roster.specs.Steps.{AreEnteredTo, AreStepsOf, HasTree, IsEntered, IsEnteredByPatch, IsStepOf, entered_track};
+ghost use Rattle.yp_roster.specs.Steps.{AreEnteredTo, AreStepsOf, HasTree, IsEnteredByPatch, IsStepOf, entered_track, step_of};
 
 use crate::classes::Class;
 use crate::following::Entered;
@@ -20,8 +21,38 @@ use yp_touch::laws::{
     a_step_without_roots_leaves_the_roots, absorbed_roots_are_those_of_the_window,
 };
 use yp_touch::touched::Touched;
+use yp_tree::tree::Tree;
 
-/// The roots of the step of what a class selects, from nothing, where it sends on change.
+/// The roots of the step of what a class selects, from nothing.
+fn roots_of<L: Ledger>(
+    alloc: Global,
+    entered: &Entered,
+    class: &Class,
+    before: &Tree,
+    steps: &mut Steps<L>,
+) -> Result<Touched, NoMemory>
+    requires entered { (found : JournalState) × IsEnteredByPatch entered.now found × (before.now ≡ found.rows) }
+    requires class { IsClass entered.now.present.schema.now (length entered.now.present.state.now.receivers) class.now }
+    ensures { IfOk result (λ step. (found : JournalState) → IsEnteredByPatch entered.now found → before.now ≡ found.rows
+        → step ≡ step_of entered.now.present.schema.now found entered.now.present.state.now (filter_view class.now.filter) class.now.first) }
+{
+    let present = &entered.present;
+    let rules = present.rules_of(class.first);
+    let mut step = Touched::new(alloc);
+    step.absorb(
+        alloc,
+        present.schema,
+        &class.filter,
+        rules,
+        before,
+        present.state.tree(),
+        entered.changed,
+        steps,
+    )?;
+    Ok(step)
+}
+
+/// The same where the class sends on change.
 fn step_of<L: Ledger>(
     alloc: Global,
     entered: &Entered,
@@ -33,24 +64,13 @@ fn step_of<L: Ledger>(
     requires tree { class.now.on_change ≡ true → is_some entered.now.before ≡ true }
     ensures { IfOk result (λ step. (before : JournalState) → IsEnteredByPatch entered.now before → IsStepOf entered.now.present.schema.now before entered.now.present.state.now class.now step) }
 {
-    let mut step = Touched::new(alloc);
-    if class.on_change {
-        if let Some(before) = entered.before {
-            let present = &entered.present;
-            let rules = present.rules_of(class.first);
-            step.absorb(
-                alloc,
-                present.schema,
-                &class.filter,
-                rules,
-                before,
-                present.state.tree(),
-                entered.changed,
-                steps,
-            )?;
-        }
+    if !class.on_change {
+        return Ok(Touched::new(alloc));
     }
-    Ok(step)
+    match entered.before {
+        Some(before) => roots_of(alloc, entered, class, before, steps),
+        None => Ok(Touched::new(alloc)),
+    }
 }
 
 /// Those of each class.
@@ -152,8 +172,9 @@ pub(crate) fn enter_patch<L: Ledger>(
     absorbed_roots_are_those_of_the_window();
     a_step_without_roots_leaves_the_roots();
     let those = steps_of(alloc, entered, classes, steps)?;
-    if touch_nothing(those.as_slice()) {
+    let list = those.as_slice();
+    if touch_nothing(list) {
         return Ok(());
     }
-    join_all(slots, alloc, entered, those.as_slice())
+    join_all(slots, alloc, entered, list)
 }

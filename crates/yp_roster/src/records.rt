@@ -26,7 +26,7 @@ pub struct Told {
     pub class: usize,
     pub excluded: Kinds,
     pub touched: Touched,
-    pub record: Option<Record>,
+    pub made: Option<Record>,
 }
 
 impl Duplicate for Record {

@@ -1,5 +1,5 @@
 //! The roster: the slots of some receivers, in the order in which they are asked for offers.
-ghost use Rattle.std.specs.Prelude.{◌≡◌, ◌+◌, ◌<◌, ◌∷◌, ◌++◌, [], ℕ, List, length, vec_len, IfOk, OnOk, Option, Some, IfSome, map, option_copied};
+ghost use Rattle.std.specs.Prelude.{◌≡◌, ◌+◌, ◌<◌, ◌∷◌, ◌++◌, [], ℕ, List, length, take, None, ◌≤◌, vec_len, IfOk, OnOk, Option, Some, IfSome, map, option_copied};
 ghost use Rattle.yp_schema.specs.declared.schema.SchemaNode.{SchemaNode};
 ghost use Rattle.yp_schema.specs.WellFormed.{IsSchema};
 ghost use Rattle.yp_journal.specs.declared.receiver.ReceiverInfo.{ReceiverInfo};
@@ -12,7 +12,7 @@ ghost use Rattle.yp_attempt.specs.Tracks.{Answer, Track};
 ghost use Rattle.yp_roster.specs.declared.records.Record.{Record as RecordThere};
 ghost use Rattle.yp_roster.specs.Classes.{AreClassedTo, AreClassesOf, HaveClasses, follow, member_of};
 ghost use Rattle.yp_roster.specs.Records.{AreTold};
-ghost use Rattle.yp_roster.specs.Rosters.{IsClassed, IsFoundAt, IsIdleAt, IsLookedTo, IsNextAt, IsRosterAt, IsRosterOf, IsTurnOf};
+ghost use Rattle.yp_roster.specs.Rosters.{AreQuietTo, IsClassed, IsFoundAt, IsIdleAt, IsLookedTo, IsNextAt, IsRosterAt, IsRosterOf, IsTurnOf};
 ghost use Rattle.yp_roster.specs.Slots.{AreSlotsOf, IsPresent};
 ghost use Rattle.yp_roster.specs.Steps.{AreEnteredTo, HasTree, IsEntered, IsEnteredByRules, IsGivenBy, IsMomentAt, answer_of, entered_moment, entered_track, new_tracks};
 
@@ -42,11 +42,13 @@ use yp_registry::laws::an_id_is_given_once;
 use yp_registry::terms::Terms;
 use yp_touch::laws::absorbed_roots_are_those_of_the_window;
 
-/// The slots of the feeds of some receivers, and what those of a class share.
+/// The slots of the feeds of some receivers, what those of a class share, and how many of the first ones were
+/// looked at since the last entry and offer nothing.
 #[derive(Drop)]
 pub struct Roster {
     pub slots: Vec<Slot>,
     pub classes: Classes,
+    pub looked: usize,
 }
 
 /// What a roster offers next: the place of the slot that offers it, the item, and the record where it is of
@@ -182,11 +184,21 @@ fn look_at<L: Ledger>(
     ensures count { length slots.new.items ≡ length slots.old.items }
     ensures turn { IfOk result (λ found. (tracks : List Track) → IsLookedTo present.now.schema.now present.now.state.now tracks place slots.old.items
         → IsTurnOf present.now.schema.now present.now.state.now tracks place slots.new.items found) }
+    ensures before { OnOk result (take place slots.new.items ≡ take place slots.old.items) }
+    ensures quiet { IfOk result (λ found. found.item ≡ None → AreQuietTo present.now.state.now place slots.old.items → AreQuietTo present.now.state.now (place + 1) slots.new.items) }
     ensures members { OnOk result (map member_of slots.new.items ≡ map member_of slots.old.items) }
     ensures all { classes.new.all ≡ classes.old.all }
     ensures told { OnOk result (AreTold present.now.schema.now present.now.state.now classes.new.all.items classes.new.told.items) }
 {
     slots[place].look(alloc, present, classes, steps)
+}
+
+/// The smaller of two numbers.
+fn least(one: usize, other: usize) -> usize
+    ensures first { result ≤ one }
+    ensures second { result ≤ other }
+{
+    if one < other { one } else { other }
 }
 
 impl Roster {
@@ -202,6 +214,7 @@ impl Roster {
                 all: Vec::new(alloc),
                 told: Vec::new(alloc),
             },
+            looked: 0,
         }
     }
 
@@ -213,7 +226,8 @@ impl Roster {
     }
 
     /// The first offer of its slots, in order. It looks at them one after another until one offers something,
-    /// and answers none where none does. Slots of one class with the same places share one record.
+    /// and answers none where none does. It begins where it found the last offer since the last entry. Slots of
+    /// one class with the same places share one record.
     pub fn next_offer<L: Ledger>(
         &mut self,
         alloc: Global,
@@ -230,11 +244,13 @@ impl Roster {
     {
         what_feeds_know_of_selections_is_lawful();
         a_look_changes_nothing();
-        for place in 0..self.slots.len() {
+        absorbed_roots_are_those_of_the_window();
+        for place in self.looked..self.slots.len() {
             let classes = &mut self.classes;
             let found = look_at(&mut self.slots, place, alloc, present, classes, steps)?;
             match found.item {
                 Some(item) => {
+                    self.looked = place;
                     return Ok(Some(Offer {
                         place,
                         item,
@@ -244,6 +260,7 @@ impl Roster {
                 None => {}
             }
         }
+        self.looked = self.slots.len();
         Ok(None)
     }
 
@@ -270,7 +287,8 @@ impl Roster {
                 enter_patch(&mut self.slots, alloc, entered, classes, steps)
             }
             Command::Rules(_) => {
-                self.classes.all = enter_rules(&mut self.slots, alloc, entered)?;
+                let anew = enter_rules(&mut self.slots, alloc, entered)?;
+                self.classes.all = anew;
                 Ok(())
             }
             Command::Establish { .. } => Ok(()),
@@ -301,6 +319,7 @@ impl Roster {
         an_id_is_given_once();
         self.enter(alloc, entered, steps)?;
         self.classes.told = Vec::new(alloc);
+        self.looked = 0;
         let live = entered.present.state.registry().live();
         match started(entered.entry, live) {
             Some(terms) => {
@@ -337,6 +356,7 @@ impl Roster {
         what_feeds_know_of_selections_is_lawful();
         a_look_changes_nothing();
         a_worker_puts_in_the_next_answer();
+        self.looked = least(self.looked, place);
         let slot = &mut self.slots[place];
         slot.settle(alloc, item, settled, state.position(), state.stamp());
         if slot.feed.ended() {

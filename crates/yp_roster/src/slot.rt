@@ -1,13 +1,14 @@
 //! What is kept of one feed, and what a look at it finds.
-ghost use Rattle.std.specs.Prelude.{◌≡◌, ◌<◌, ℕ, [], length, min, true, false, Some, IfOk, OnOk};
+ghost use Rattle.std.specs.Prelude.{◌≡◌, ◌<◌, ℕ, [], length, min, true, false, None, Some, IfOk, OnOk};
 ghost use Rattle.std.specs.List.{AllByRecursion};
 ghost use Rattle.yp_encode.specs.Sendable.{IsSendableChange};
-ghost use Rattle.yp_feed.specs.Machine.{offer_of};
+ghost use Rattle.yp_feed.specs.Machine.{freezes, offer_of};
 ghost use Rattle.yp_attempt.specs.Tracks.{Track, excluded_kinds, freeze_tried, rebased};
 ghost use Rattle.yp_attempt.specs.Workers.{ready};
 ghost use Rattle.yp_moment.specs.Windows.{recorded};
 ghost use Rattle.yp_roster.specs.Classes.{HasClass, member_of};
 ghost use Rattle.yp_roster.specs.Records.{AreTold, IsRecord};
+ghost use Rattle.yp_roster.specs.Rosters.{IsQuiet};
 ghost use Rattle.yp_roster.specs.Slots.{IsPresent, IsKeptAt, IsSlotOf, IsLook, record_at};
 
 use crate::classes::Classes;
@@ -134,7 +135,7 @@ impl Slot {
         let excluded = excluded_kinds(self.feed.trigger());
         let told = &mut classes.told;
         if let Some(place) = find(told.as_slice(), self.class, &excluded, &self.touched) {
-            return told[place].record.copy(alloc);
+            return told[place].made.copy(alloc);
         }
         let changes = self.record(alloc, present, steps)?;
         let record = with_text(alloc, present, changes)?;
@@ -142,7 +143,7 @@ impl Slot {
             class: self.class,
             excluded,
             touched: self.touched.copy(alloc)?,
-            record: record.copy(alloc)?,
+            made: record.copy(alloc)?,
         })?;
         Ok(record)
     }
@@ -159,6 +160,7 @@ impl Slot {
         ensures slot { OnOk result ((track : Track) → IsSlotOf present.now.schema.now present.now.state.now self.old track
             → IsSlotOf present.now.schema.now present.now.state.now self.new (freeze_tried recorded present.now.state.now.position present.now.state.now.stamp track)) }
         ensures member { OnOk result (member_of self.new ≡ member_of self.old) }
+        ensures thawed { OnOk result (freezes self.new.feed (min (length self.new.touched) 4294967295) ≡ false) }
     {
         absorbed_roots_are_those_of_the_window();
         let from = self.feed.base();
@@ -188,6 +190,7 @@ impl Slot {
         requires told { AreTold present.now.schema.now present.now.state.now classes.old.all.items classes.old.told.items }
         requires due { offer_of self.old.feed (min (length self.old.touched) 4294967295) 1 present.now.state.now.stamp ≡ Some Item.Changes }
         ensures look { IfOk result (λ looked. IsLook present.now.schema.now present.now.state.now (rebased recorded present.now.state.now.position present.now.state.now.stamp) self.old self.new looked) }
+        ensures quiet { IfOk result (λ looked. looked.item ≡ None → IsQuiet present.now.state.now self.new) }
         ensures member { OnOk result (member_of self.new ≡ member_of self.old) }
         ensures all { classes.new.all ≡ classes.old.all }
         ensures told { OnOk result (AreTold present.now.schema.now present.now.state.now classes.new.all.items classes.new.told.items) }
@@ -221,9 +224,11 @@ impl Slot {
     ) -> Result<Looked, NoMemory>
         requires present { IsPresent present.now.schema.now present.now.state.now present.now.readers.now }
         requires kept { IsKeptAt present.now.schema.now present.now.state.now self.old }
+        requires thawed { freezes self.old.feed (min (length self.old.touched) 4294967295) ≡ false }
         requires class { HasClass present.now.state.now classes.old.all.items (member_of self.old) }
         requires told { AreTold present.now.schema.now present.now.state.now classes.old.all.items classes.old.told.items }
         ensures look { IfOk result (λ looked. IsLook present.now.schema.now present.now.state.now (rebased recorded present.now.state.now.position present.now.state.now.stamp) self.old self.new looked) }
+        ensures quiet { IfOk result (λ looked. looked.item ≡ None → IsQuiet present.now.state.now self.new) }
         ensures member { OnOk result (member_of self.new ≡ member_of self.old) }
         ensures all { classes.new.all ≡ classes.old.all }
         ensures told { OnOk result (AreTold present.now.schema.now present.now.state.now classes.new.all.items classes.new.told.items) }
@@ -255,6 +260,7 @@ impl Slot {
         requires class { HasClass present.now.state.now classes.old.all.items (member_of self.old) }
         requires told { AreTold present.now.schema.now present.now.state.now classes.old.all.items classes.old.told.items }
         ensures look { IfOk result (λ looked. IsLook present.now.schema.now present.now.state.now (ready recorded present.now.state.now.position present.now.state.now.stamp) self.old self.new looked) }
+        ensures quiet { IfOk result (λ looked. looked.item ≡ None → IsQuiet present.now.state.now self.new) }
         ensures member { OnOk result (member_of self.new ≡ member_of self.old) }
         ensures all { classes.new.all ≡ classes.old.all }
         ensures told { OnOk result (AreTold present.now.schema.now present.now.state.now classes.new.all.items classes.new.told.items) }

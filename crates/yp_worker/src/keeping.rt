@@ -1,6 +1,6 @@
 //! What a worker keeps besides its state from entry to entry: a second tree, for the feeds on change, and
 //! what classes select.
-ghost use Rattle.std.specs.Prelude.{◌≡◌, ◌<◌, List, None, true, false, is_some, IfOk, IfSome, OnOk};
+ghost use Rattle.std.specs.Prelude.{◌≡◌, ◌<◌, List, None, true, false, is_some, IfSome, OnOk};
 ghost use Rattle.yp_base.specs.declared.row.Row.{Row};
 ghost use Rattle.yp_base.specs.Rows.{AreInOrder};
 ghost use Rattle.yp_schema.specs.declared.schema.SchemaNode.{SchemaNode};

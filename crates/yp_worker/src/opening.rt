@@ -6,13 +6,14 @@ ghost use Rattle.yp_attempt.specs.Workers.{numbers_of};
 use crate::rules::readers_at;
 use crate::worker::Worker;
 use std::alloc::Global;
-use yp_attempt::laws::an_opened_worker_stands_for_nothing;
+use yp_attempt::laws::{
+    an_opened_worker_stands_for_nothing, what_is_reached_is_what_replaying_gives,
+};
 use yp_base::memory::NoMemory;
 use yp_journal::laws::{a_journal_keeps_a_datastore, a_journal_keeps_users_and_names};
 use yp_journal::receiver::ReceiverInfo;
 use yp_journal::state::State;
 use yp_registry::laws::{an_establishment_keeps_a_registry, ids_rise};
-use yp_roster::classes::Classes;
 use yp_roster::roster::Roster;
 use yp_schema::schema::Schema;
 use yp_time::start::Start;
@@ -51,6 +52,7 @@ impl Worker {
     {
         schema.stands();
         an_opened_worker_stands_for_nothing();
+        what_is_reached_is_what_replaying_gives();
         a_journal_keeps_a_datastore();
         a_journal_keeps_users_and_names();
         an_establishment_keeps_a_registry();
@@ -64,13 +66,7 @@ impl Worker {
             readers,
             former: None,
             mine,
-            roster: Roster {
-                slots: Vec::new(alloc),
-                classes: Classes {
-                    all: Vec::new(alloc),
-                    told: Vec::new(alloc),
-                },
-            },
+            roster: Roster::open(alloc),
             contents: Vec::new(alloc),
             out: None,
             spent: false,

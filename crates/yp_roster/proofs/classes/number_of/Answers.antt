@@ -3,4 +3,6 @@ use Rattle.yp_roster.proofs.Results.{when_ok}
 use Rattle.yp_roster.proofs.classes.number_of.Goals as goal
 
 pub returns-clause-classes : goal.returns-clause-classes
-returns-clause-classes c = when_ok c.class_of.result c.class_of.ensures.classes (λ on. on c.args.present.now.schema.now (length c.args.present.now.state.now.receivers) c.requires.fits c.first_of-first.ensures.within)
+returns-clause-classes c = when_ok c.class_of.result c.class_of.ensures.classes (λ keep. λ are.
+    let present = c.args.present.now in
+    keep present.schema.now (length present.state.now.receivers) c.requires.fits c.first_of-first.ensures.within are)

@@ -1,14 +1,10 @@
-use Rattle.std.proofs.Common.{◌≡◌, List, [], refl, sym, subst}
-use Rattle.std.specs.List.{AllByRecursion}
+use Rattle.std.proofs.Common.{List, sym, subst, refl}
+use Rattle.yp_journal.specs.History.{JournalState}
 use Rattle.yp_touch.specs.declared.root.Root.{Root}
 use Rattle.yp_roster.specs.Steps.{AreStepsOf}
-use Rattle.yp_journal.specs.History.{JournalState}
 use Rattle.yp_roster.proofs.Patched.{classed_after, unmoved}
 use Rattle.yp_roster.proofs.Results.{when_ok}
 use Rattle.yp_roster.proofs.patching.enter_patch.Goals as goal
-
-pub steps_of-requires-clause-entered : goal.steps_of-requires-clause-entered
-steps_of-requires-clause-entered g c = (c.requires.entered.0, c.requires.entered.1)
 
 pub steps_of-requires-clause-classes : goal.steps_of-requires-clause-classes
 steps_of-requires-clause-classes g c =
@@ -16,18 +12,30 @@ steps_of-requires-clause-classes g c =
 
 pub returns-then-touch_nothing-clause-slots : goal.returns-then-touch_nothing-clause-slots
 returns-then-touch_nothing-clause-slots g c = λ before tracks by have are.
+    let e = c.args.entered.now in
+    let after : JournalState = e.present.state.now in
     let laws = c.same_rules_are_one.ensures in
     let leave = c.a_step_without_roots_leaves_the_roots.ensures in
-    unmoved c.args.entered.now before by (record { one = laws.one; itself = laws.itself }) c.absorbed_roots_are_those_of_the_window.ensures.last leave.leaves leave.topmost c.args.classes.now c.in_ok-those.those.items (c.in_ok-those.ensures before by)
-    (subst (AllByRecursion (λ (step : List Root). step ≡ [])) c.as_slice.ensures.value (c.touch_nothing.ensures c.if-touch_nothing.true)) c.args.slots.now.items tracks have are
+    unmoved e before by (record { one = laws.one; itself = laws.itself }) c.absorbed_roots_are_those_of_the_window.ensures.last leave.leaves leave.topmost c.args.classes.now c.as_slice-list.result.now
+    (subst (λ (list : List (List Root)). AreStepsOf e.present.schema.now before after c.args.classes.now list) (sym c.as_slice-list.ensures.value) (c.in_ok-those.ensures before by))
+    (c.touch_nothing.ensures c.if-touch_nothing.true) c.args.slots.now.items tracks have are
 
 pub join_all-requires : goal.join_all-requires
 join_all-requires g c =
-    let present = c.args.entered.now.present in
+    let e = c.args.entered.now in
+    let after : JournalState = e.present.state.now in
     let before : JournalState = c.requires.entered.0 in
-    record { steps = (before, c.args.classes.now, subst (AreStepsOf present.schema.now before present.state.now c.args.classes.now) (sym c.as_slice-2.ensures.value) (c.in_ok-those.ensures before c.requires.entered.1), c.requires.entered.2.each) }
+    record {
+      steps = (
+        before,
+        c.args.classes.now,
+        subst (λ (list : List (List Root)). AreStepsOf e.present.schema.now before after c.args.classes.now list) (sym c.as_slice-list.ensures.value) (c.in_ok-those.ensures before c.requires.entered.1),
+        c.requires.entered.2.each,
+      );
+    }
 
 pub returns-clause-slots : goal.returns-clause-slots
 returns-clause-slots g c = when_ok c.join_all.result c.join_all.ensures.entered (λ on. λ before tracks by have are.
-    let present = c.args.entered.now.present in
-    on before c.args.classes.now tracks by (subst (AreStepsOf present.schema.now before present.state.now c.args.classes.now) (sym c.as_slice-2.ensures.value) (c.in_ok-those.ensures before by)) have are)
+    let e = c.args.entered.now in
+    let after : JournalState = e.present.state.now in
+    on before c.args.classes.now tracks by (subst (λ (list : List (List Root)). AreStepsOf e.present.schema.now before after c.args.classes.now list) (sym c.as_slice-list.ensures.value) (c.in_ok-those.ensures before by)) have are)

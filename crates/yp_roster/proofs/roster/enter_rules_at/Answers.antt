@@ -13,6 +13,6 @@ returns-clause-entered c = when_ok c.enter_rules.result c.enter_rules.ensures.sl
     entered_on c.args.entered.now before c.args.place c.args.slots.now.items tracks c.index_mut.result.now c.enter_rules.new.self are c.requires.place c.index_mut.ensures.value (on before by))
 
 pub returns-clause-classed : goal.returns-clause-classed
-returns-clause-classed c = when_all_ok c.enter_rules.result c.enter_rules.ensures.numbers c.enter_rules.ensures.classes c.enter_rules.ensures.class (λ keep fit has. λ are.
+returns-clause-classed c = when_all_ok c.enter_rules.result c.enter_rules.ensures.class c.enter_rules.ensures.numbers c.enter_rules.ensures.classes (λ has keep fit. λ are.
     let present = c.args.entered.now.present in
     classed_next present.schema.now present.state.now c.args.classes.now.items c.enter_rules.new.classes.items c.args.slots.now.items c.args.place c.enter_rules.new.self keep fit has c.requires.place are)

@@ -1,4 +1,4 @@
-use Rattle.std.proofs.Common.{◌≡◌, ◌∙◌, ap, sym, List, [], length, true, false, true≢false}
+use Rattle.std.proofs.Common.{◌≡◌, ◌∙◌, ap, sym, List, [], length}
 use Rattle.std.specs.Prelude.{◌==◌}
 use Rattle.yp_edit.specs.declared.changed.ChangedRow.{ChangedRow}
 use Rattle.yp_journal.specs.History.{JournalState, next_state}

@@ -1,14 +1,16 @@
-use Rattle.std.proofs.Common.{◌≡◌, length, map, refl, ap, sym, subst, ◌∙◌}
+use Rattle.std.proofs.Common.{◌≡◌, List, arith, length, map, refl, ap, sym, subst, ◌∙◌}
 use Rattle.std.specs.List.{AllByRecursion}
 use Rattle.yp_registry.specs.Registry.{Subscriptions, live_at}
 use Rattle.yp_registry.specs.Terms.{AreTermsOf}
 use Rattle.yp_journal.specs.History.{JournalState}
 use Rattle.yp_attempt.specs.Runs.{first_offer}
 use Rattle.yp_moment.specs.Windows.{recorded}
+use Rattle.yp_roster.specs.declared.records.Told.{Told}
 use Rattle.yp_roster.specs.Records.{AreTold}
 use Rattle.yp_roster.specs.Rosters.{standing_at}
 use Rattle.yp_roster.specs.Steps.{entered_moment, entered_track}
 use Rattle.yp_roster.proofs.Begun.{found_has}
+use Rattle.yp_roster.proofs.Quiet.{quiet_none}
 use Rattle.yp_roster.proofs.Results.{when_ok}
 use Rattle.yp_roster.proofs.Taking.{entered_quietly, entered_starting}
 use Rattle.yp_roster.proofs.roster.Roster.absorb.Goals as goal
@@ -55,9 +57,19 @@ begin-requires-clause-present g c = c.requires.entered.1.present
 pub returns-in-Some-clause-classed : goal.returns-in-Some-clause-classed
 returns-in-Some-clause-classed g c = when_ok c.begin.result c.begin.ensures.classes (λ begun.
     let present = c.args.entered.now.present in
-    record { classes = begun c.in_ok-enter.ensures.classes; told = subst (AreTold present.schema.now present.state.now c.begin.new.classes.items) (sym c.new.ensures.items) tt })
+    record {
+      classes = begun c.in_ok-enter.ensures.classes;
+      told = subst (λ (those : List Told). AreTold present.schema.now present.state.now c.begin.new.classes.items those) (sym c.new.ensures.items) tt;
+      within = omega arith;
+      quiet = quiet_none present.state.now c.begin.new.slots.items;
+    })
 
 pub returns-in-None-clause-classed : goal.returns-in-None-clause-classed
 returns-in-None-clause-classed g c =
     let present = c.args.entered.now.present in
-    record { classes = c.in_ok-enter.ensures.classes; told = subst (AreTold present.schema.now present.state.now c.enter.new.self.classes.all.items) (sym c.new.ensures.items) tt }
+    record {
+      classes = c.in_ok-enter.ensures.classes;
+      told = subst (λ (those : List Told). AreTold present.schema.now present.state.now c.enter.new.self.classes.all.items those) (sym c.new.ensures.items) tt;
+      within = omega arith;
+      quiet = quiet_none present.state.now c.enter.new.self.slots.items;
+    }

@@ -1,8 +1,9 @@
 use Rattle.std.proofs.Common.{◌≡◌, List, ap, sym, subst, ◌∙◌}
-use Rattle.yp_roster.specs.declared.classes.Class.{Class}
-use Rattle.yp_roster.specs.Classes.{AreClassesOf, HaveClasses}
 use Rattle.yp_journal.specs.declared.command.Command.TheVariants.{Tick, Establish, Take}
 use Rattle.yp_journal.specs.History.{JournalState, next_state, rules_at}
+use Rattle.yp_roster.specs.declared.classes.Class.{Class}
+use Rattle.yp_roster.specs.Classes.{AreClassesOf, HaveClasses}
+use Rattle.yp_roster.specs.Steps.{HasTree}
 use Rattle.yp_roster.proofs.Classed.{classes_alike}
 use Rattle.yp_roster.proofs.Entering.{pass_quietly}
 use Rattle.yp_roster.proofs.Patched.{classed_after}
@@ -64,11 +65,19 @@ returns-in-Take-clause-classes g c =
     classes_alike nodes before e.present.state.now (λ number. ap (λ (s : JournalState). rules_at s number) (sym left)) c.args.self.now.classes.all.items c.args.self.now.slots.items (ap (λ (s : JournalState). s.receivers) left) c.requires.entered.2
 
 pub enter_patch-requires-clause-entered : goal.enter_patch-requires-clause-entered
-enter_patch-requires-clause-entered g c = (c.requires.entered.0, record { patch = c.in-Edit.field-0; command = c.in-Edit.is; entered = c.requires.entered.1 }, subst (λ (classes : List Class). AreClassesOf c.args.entered.now.present.schema.now c.requires.entered.0 classes c.args.self.now.slots.items) (sym c.as_slice-classes.ensures.value) c.requires.entered.2)
+enter_patch-requires-clause-entered g c = (
+  c.requires.entered.0,
+  record { patch = c.in-Edit.field-0; command = c.in-Edit.is; entered = c.requires.entered.1 },
+  subst (λ (classes : List Class). AreClassesOf c.args.entered.now.present.schema.now c.requires.entered.0 classes c.args.self.now.slots.items) (sym c.as_slice-classes.ensures.value) c.requires.entered.2,
+)
+
+pub enter_patch-requires-clause-tree : goal.enter_patch-requires-clause-tree
+enter_patch-requires-clause-tree g c = subst (λ (classes : List Class). HasTree c.args.entered.now classes) (sym c.as_slice-classes.ensures.value) c.requires.tree
 
 pub returns-in-Edit-clause-slots : goal.returns-in-Edit-clause-slots
 returns-in-Edit-clause-slots g c = when_ok c.enter_patch.result c.enter_patch.ensures.slots (λ on. λ before tracks entered classed are.
-    on before tracks (record { patch = c.in-Edit.field-0; command = c.in-Edit.is; entered = entered }) (subst (λ (classes : List Class). HaveClasses before classes c.args.self.now.slots.items) (sym c.as_slice-classes.ensures.value) classed.each) are)
+    on before tracks (record { patch = c.in-Edit.field-0; command = c.in-Edit.is; entered = entered })
+    (subst (λ (classes : List Class). HaveClasses before classes c.args.self.now.slots.items) (sym c.as_slice-classes.ensures.value) classed.each) are)
 
 pub returns-in-Edit-clause-classes : goal.returns-in-Edit-clause-classes
 returns-in-Edit-clause-classes g c = when_ok c.enter_patch.result c.enter_patch.ensures.members (λ same.
@@ -77,6 +86,6 @@ returns-in-Edit-clause-classes g c = when_ok c.enter_patch.result c.enter_patch.
 pub enter_rules-requires : goal.enter_rules-requires
 enter_rules-requires g c = (c.requires.entered.0, record { policy = c.in-Rules.field-0; command = c.in-Rules.is; entered = c.requires.entered.1 }, c.requires.entered.3)
 
-pub returns-in_ok-self-in-Rules-clause-slots : goal.returns-in_ok-self-in-Rules-clause-slots
-returns-in_ok-self-in-Rules-clause-slots g c = λ before tracks entered classed are.
-    c.in_ok-self-in-Rules.ensures.slots before tracks (record { policy = c.in-Rules.field-0; command = c.in-Rules.is; entered = entered }) are
+pub returns-in_ok-anew-in-Rules-clause-slots : goal.returns-in_ok-anew-in-Rules-clause-slots
+returns-in_ok-anew-in-Rules-clause-slots g c = λ before tracks entered classed are.
+    c.in_ok-anew-in-Rules.ensures.slots before tracks (record { policy = c.in-Rules.field-0; command = c.in-Rules.is; entered = entered }) are

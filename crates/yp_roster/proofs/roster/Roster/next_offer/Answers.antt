@@ -1,7 +1,11 @@
-use Rattle.std.proofs.Common.{List, ap, sym, subst, ◌∙◌, arith}
+use Rattle.std.proofs.Common.{◌≡◌, List, ap, length, refl, sym, subst, ◌∙◌, arith}
 use Rattle.yp_roster.specs.declared.classes.Class.{Class}
 use Rattle.yp_roster.specs.Classes.{HaveClasses}
 use Rattle.yp_roster.proofs.Classed.{same_members, still_classed}
+use Rattle.std.specs.List.{AllByRecursion}
+use Rattle.yp_roster.specs.declared.slot.Slot.{Slot}
+use Rattle.yp_roster.specs.Rosters.{IsQuiet}
+use Rattle.yp_roster.proofs.Quiet.{looked_so_far, quiet_fewer}
 use Rattle.yp_roster.proofs.Offering.{found_at, idle_at}
 use Rattle.yp_roster.proofs.Placing.{turn_on}
 use Rattle.yp_roster.proofs.roster.Roster.next_offer.Goals as goal
@@ -29,7 +33,8 @@ pub returns-in-Some-clause-classed : goal.returns-in-Some-clause-classed
 returns-in-Some-clause-classed g c =
     let present = c.args.present.now in
     let inv = c.loop-place.invariant in
-    still_classed present.schema.now present.state.now c.args.self.now _ (c.in_ok-found.ensures.members ∙ inv.members) (c.look_at.ensures.all ∙ inv.all) c.in_ok-found.ensures.told c.requires.classed
+    still_classed present.schema.now present.state.now c.args.self.now _ (c.in_ok-found.ensures.members ∙ inv.members) (c.look_at.ensures.all ∙ inv.all) c.in_ok-found.ensures.told (omega (arith, c.look_at.ensures.count, c.loop-place.invariant.count, c.loop-place-test.true))
+    (subst (λ (those : List Slot). AllByRecursion (IsQuiet present.state.now) those) (sym c.in_ok-found.ensures.before) inv.quiet) c.requires.classed
 
 pub loop-place-preserved : goal.loop-place-preserved
 loop-place-preserved g c =
@@ -41,6 +46,7 @@ loop-place-preserved g c =
           (c.in_ok-found.ensures.turn tracks (inv.looked tracks kept)) c.in-None.is;
       members = c.in_ok-found.ensures.members ∙ inv.members;
       all = c.look_at.ensures.all ∙ inv.all;
+      quiet = c.in_ok-found.ensures.quiet c.in-None.is inv.quiet;
       told = c.in_ok-found.ensures.told;
     }
 
@@ -55,4 +61,20 @@ pub returns-clause-classed : goal.returns-clause-classed
 returns-clause-classed g c =
     let present = c.args.present.now in
     let inv = c.loop-place.invariant in
-    still_classed present.schema.now present.state.now c.args.self.now c.loop-place.self inv.members inv.all inv.told c.requires.classed
+    let many : c.len-self.result ≡ length c.loop-place.self.slots.items = omega (arith, c.len-self.ensures, c.loop-place.self.slots.ok) in
+    still_classed present.schema.now present.state.now c.args.self.now _ inv.members inv.all inv.told (omega (arith, many))
+    (quiet_fewer present.state.now c.len-self.result c.loop-place.place c.loop-place.self.slots.items (omega (arith, many, inv.count, c.loop-place-test.false)) inv.quiet) c.requires.classed
+
+pub loop-place-init : goal.loop-place-init
+loop-place-init g c =
+    let present = c.args.present.now in
+    let laws = c.absorbed_roots_are_those_of_the_window.ensures in
+    let classed = c.requires.classed in
+    record {
+      count = omega (arith, c.len-place-end.ensures, c.args.self.now.slots.ok);
+      looked = λ tracks are. looked_so_far (record { roots = laws.roots; record_is = laws.recorded }) present.schema.now present.state.now c.args.self.now.looked c.args.self.now.slots.items tracks classed.within classed.quiet are;
+      members = refl;
+      all = refl;
+      quiet = classed.quiet;
+      told = classed.told;
+    }

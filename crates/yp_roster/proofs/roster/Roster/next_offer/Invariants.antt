@@ -2,7 +2,7 @@ use Rattle.std.proofs.Common.{◌≡◌, List, length, map}
 use Rattle.yp_attempt.specs.Tracks.{Track}
 use Rattle.yp_roster.specs.Classes.{member_of}
 use Rattle.yp_roster.specs.Records.{AreTold}
-use Rattle.yp_roster.specs.Rosters.{IsLookedTo}
+use Rattle.yp_roster.specs.Rosters.{AreQuietTo, IsLookedTo}
 use Rattle.yp_roster.specs.Slots.{AreSlotsOf}
 use Rattle.yp_roster.proofs.roster.Roster.next_offer.Given as goal
 
@@ -13,5 +13,6 @@ invariant-loop-place g l = record {
   looked : (tracks : List Track) → AreSlotsOf l.present.schema.now l.present.state.now l.fn.self.slots.items tracks → IsLookedTo l.present.schema.now l.present.state.now tracks l.place l.self.slots.items;
   members : map member_of l.self.slots.items ≡ map member_of l.fn.self.slots.items;
   all : l.self.classes.all ≡ l.fn.self.classes.all;
+  quiet : AreQuietTo l.present.state.now l.place l.self.slots.items;
   told : AreTold l.present.schema.now l.present.state.now l.self.classes.all.items l.self.classes.told.items;
 }

@@ -1,4 +1,4 @@
-use Rattle.std.proofs.Common.{◌≡◌, ◌+◌, List, false, ◌∷◌, ◌++◌, map, ap, refl, sym, subst, ◌∙◌}
+use Rattle.std.proofs.Common.{◌≡◌, ℕ, suc, ◌+◌, ◌≤◌, List, arith, length, take, drop, length-append, length-take, length-drop, false, ◌∷◌, ◌++◌, map, ap, refl, sym, subst, ◌∙◌}
 use Rattle.std.specs.Prelude.{slice_set}
 use Rattle.yp_feed.specs.Machine.{FeedState}
 use Rattle.yp_journal.specs.History.{JournalState}
@@ -11,6 +11,9 @@ use Rattle.yp_roster.specs.Steps.{answer_of}
 use Rattle.yp_roster.specs.declared.slot.Slot.{Slot}
 use Rattle.yp_roster.specs.Classes.{HasClass, HaveClasses}
 use Rattle.yp_roster.proofs.Classed.{members_gone, members_put, same_members, still_classed}
+use Rattle.std.specs.List.{AllByRecursion}
+use Rattle.yp_roster.specs.Rosters.{AreQuietTo, IsQuiet}
+use Rattle.yp_roster.proofs.Quiet.{gone_before, put_before, put_length, quiet_fewer}
 use Rattle.yp_roster.proofs.Offering.{settled_gone, settled_on}
 use Rattle.yp_roster.proofs.Placing.{slot_there}
 use Rattle.yp_roster.proofs.roster.Roster.settle.Goals as goal
@@ -50,6 +53,9 @@ returns-then-ended-clause-classed c = λ nodes classed.
     let place = c.args.place in
     let put = members_put slots place c.index_mut-slot.result.now c.settle.new.self c.requires.place c.index_mut-slot.ensures.value c.settle.ensures.member in
     let all = c.args.self.now.classes.all.items in
+    let n = c.least-self.result in
+    let after : List Slot = slice_set slots place c.settle.new.self in
+    let next : suc place ≡ place + 1 = omega arith in
     record {
       classes = record {
         fit = classed.classes.fit;
@@ -57,6 +63,11 @@ returns-then-ended-clause-classed c = λ nodes classed.
             (members_gone (HasClass state all) place (place + 1) (slice_set slots place c.settle.new.self) (same_members state all slots (slice_set slots place c.settle.new.self) put classed.classes.each));
       };
       told = classed.told;
+      within = subst (λ (those : List Slot). n ≤ length those) (sym c.remove.ensures.by_index.2) (omega (arith, c.least-self.ensures.second, c.requires.place, put_length slots place c.settle.new.self, length-append (take place after) (drop (place + 1) after), length-take place after, length-drop (place + 1) after));
+      quiet = subst (λ (those : List Slot). AreQuietTo state n those) (sym c.remove.ensures.by_index.2)
+          (subst (λ (m : ℕ). AreQuietTo state n (take place after ++ drop m after)) next
+          (subst (λ (those : List Slot). AllByRecursion (IsQuiet state) those) (sym (gone_before n after place c.least-self.ensures.second ∙ put_before n slots place c.settle.new.self c.least-self.ensures.second))
+          (quiet_fewer state n c.args.self.now.looked slots c.least-self.ensures.first classed.quiet)));
     }
 
 pub returns-else-ended-clause-classed : goal.returns-else-ended-clause-classed
@@ -65,4 +76,7 @@ returns-else-ended-clause-classed c = λ nodes classed.
     let slots = c.args.self.now.slots.items in
     let place = c.args.place in
     let put = members_put slots place c.index_mut-slot.result.now c.settle.new.self c.requires.place c.index_mut-slot.ensures.value c.settle.ensures.member in
-    still_classed nodes state c.args.self.now _ put refl classed.told classed
+    still_classed nodes state c.args.self.now _ put refl classed.told
+    (omega (arith, c.least-self.ensures.second, c.requires.place, put_length slots place c.settle.new.self))
+    (subst (λ (those : List Slot). AllByRecursion (IsQuiet state) those) (sym (put_before c.least-self.result slots place c.settle.new.self c.least-self.ensures.second))
+    (quiet_fewer state c.least-self.result c.args.self.now.looked slots c.least-self.ensures.first classed.quiet)) classed

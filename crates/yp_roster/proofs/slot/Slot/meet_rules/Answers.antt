@@ -43,6 +43,6 @@ returns c = λ before by track stands.
     let other : are_same_rules (rules_at before track.feed.receiver) (rules_at after track.feed.receiver) ≡ false =
     (λ i. are_same_rules (rules_at before (sym number i)) (rules_at after (sym number i))) ∙ sym (c.keeps_rules.ensures before entered within) ∙ c.if-keeps_rules.false in
     let comes = comes_after nodes before after e.entry.now.command entered.after in
-    let renewed = c.renew.ensures.slot nodes before after comes track stands in
+    let renewed = c.renew.ensures nodes before after comes track stands in
     ruled (record { one = laws.one; itself = laws.itself }) nodes before after e.entry.now c.renew.new.self track other
     (subst (λ (t : Track). IsSlotOf nodes after c.renew.new.self t) (λ i. with_control (c.position.ensures.count i) (c.stamp.ensures.value i) Rules (with_next nodes after track)) renewed)

@@ -1,8 +1,9 @@
 use Rattle.std.proofs.Common.{[], ap, refl, sym, subst, ◌∙◌}
+use Rattle.yp_feed.specs.Machine.{looked, offer_of}
 use Rattle.yp_roster.specs.Records.{IsRecord}
 use Rattle.yp_roster.specs.Slots.{record_at}
-use Rattle.yp_feed.specs.Machine.{looked, offer_of}
 use Rattle.yp_roster.proofs.Looks.{moves_base, offers_record}
+use Rattle.yp_roster.proofs.Quiet.{quiet_counted}
 use Rattle.yp_roster.proofs.slot.Slot.offer_changes.Goals as goal
 
 pub returns-in-Some-clause-look : goal.returns-in-Some-clause-look
@@ -24,5 +25,13 @@ returns-in-None-clause-look g c = λ track stands.
     refl
     c.count-roots.ensures
     (c.want_offer-item.ensures.answer ∙ ap (λ stamp. offer_of slot.feed c.count-roots.result 0 stamp) c.stamp-stamp.ensures.value)
+    (c.want_offer-item.ensures.state ∙ (λ i. looked slot.feed c.count-roots.result 0 (c.position-n.ensures.count i) (c.stamp-stamp.ensures.value i)))
+    c.new.ensures
+
+pub returns-in-None-clause-quiet : goal.returns-in-None-clause-quiet
+returns-in-None-clause-quiet g c = λ none.
+    let state = c.args.present.now.state.now in
+    let slot = c.args.self.now in
+    quiet_counted state slot c.want_offer-item.new.self state.position c.count-roots.result c.new.result c.requires.due
     (c.want_offer-item.ensures.state ∙ (λ i. looked slot.feed c.count-roots.result 0 (c.position-n.ensures.count i) (c.stamp-stamp.ensures.value i)))
     c.new.ensures

@@ -9,9 +9,7 @@ use Rattle.yp_roster.proofs.Entering.{renews}
 use Rattle.yp_roster.proofs.slot.Slot.renew.Goals as goal
 
 pub returns : goal.returns
-returns c = record {
-  slot = λ nodes before after comes track stands.
-      subst (λ (slot : Slot). IsSlotOf nodes after slot (with_control c.args.n c.args.stamp Rules (with_next nodes after track))) (sym c.go_on.ensures)
-      (renews nodes before after c.args.self.now track comes stands c.control.new.self c.args.n c.args.stamp (not c.resyncs-moved.result) c.control.ensures
-      (ap not (c.resyncs-moved.ensures ∙ ap resyncs c.trigger.ensures)));
-}
+returns c = λ nodes before after comes track stands.
+    subst (λ (slot : Slot). IsSlotOf nodes after slot (with_control c.args.n c.args.stamp Rules (with_next nodes after track))) (sym c.go_on.ensures)
+    (renews nodes before after c.args.self.now track comes stands c.control.new.self c.args.n c.args.stamp (not c.resyncs-moved.result) c.control.ensures
+    (ap not (c.resyncs-moved.ensures ∙ ap resyncs c.trigger.ensures)))
