@@ -1,7 +1,7 @@
 -- What each status tells a caller follows from the one relation of a call.
 use Rattle.std.proofs.Common.{◌≡◌, ℕ, ◌+◌, true, true≢false, List, [], Option, Some, None, drop, Result, Ok, Err, refl, sym, ap, ◌∙◌, subst}
 use Rattle.std.specs.Prelude.{IfSome}
-use Rattle.yp_script.specs.declared.fault.ScriptKind.{ScriptKind}
+use Rattle.yp_command.specs.declared.fault.ScriptKind.{ScriptKind}
 use Rattle.yp_script.specs.declared.script.Script.{Script}
 use Rattle.push_program.specs.declared.top.Status.{Status}
 use Rattle.push_program.specs.declared.top.Status.TheVariants.{Done, BadWords, BadScript, ReadFault, WriteFault, NoMemory}

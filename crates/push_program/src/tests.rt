@@ -5,9 +5,9 @@ use std::alloc::Global;
 use std::test::Fail;
 use yp_base::memory::NoMemory;
 use yp_base::txt::Txt;
+use yp_command::fault::ScriptKind;
 use yp_io::memory::{MemSink, MemSource};
 use yp_io::source::{Got, Source};
-use yp_script::fault::ScriptKind;
 
 const START: &str = r#"{"start":"2026-01-01T00:00:00Z"}
 "#;

@@ -1,6 +1,6 @@
 //! The call that the program makes.
 ghost use Rattle.std.specs.Prelude.{◌≡◌, ◌+◌, ◌<◌, ◌≤◌, ℕ, List, true, length, drop, IfSome, IfOk, IfErr, Some, [], Ok, Err, string_bytes};
-ghost use Rattle.yp_script.specs.declared.fault.ScriptKind.{ScriptKind as Kind};
+ghost use Rattle.yp_command.specs.declared.fault.ScriptKind.{ScriptKind as Kind};
 ghost use Rattle.push_program.specs.declared.top.Status.TheVariants.{Done, BadWords, BadScript, WriteFault};
 ghost use Rattle.push_program.specs.Answers.{Answers, WritesTold, WritesPrefix, is_run, tells_good_words, tells_whole_reading, tells_no_writing, TellsReading, TellsWriting, IsComplete};
 ghost use Rattle.yp_live.specs.Promise.{Tells};
@@ -10,11 +10,12 @@ ghost use Rattle.yp_script.specs.Script.{script_in};
 
 use std::alloc::Global;
 use yp_base::txt::Txt;
+use yp_command::fault::ScriptKind;
 use yp_io::sink::Sink;
 use yp_io::source::Source;
 use yp_io::whole::{ReadError, read_whole, write_whole};
 use yp_live::script::report_of_script;
-use yp_script::fault::{ScriptFault, ScriptKind};
+use yp_script::fault::ScriptFault;
 use yp_script::reading::{BYTE_LIMIT, read_script};
 
 /// How a run ended.

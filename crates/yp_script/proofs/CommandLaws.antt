@@ -4,19 +4,20 @@ use Rattle.std.proofs.lemmas.List.{length-map}
 use Rattle.serde_json.specs.Data.{Data}
 use Rattle.yp_schema.specs.declared.schema.SchemaNode.{SchemaNode}
 use Rattle.yp_journal.specs.declared.command.Command.{Command}
-use Rattle.yp_script.specs.declared.command.Laned.{Laned}
+use Rattle.yp_command.specs.declared.command.Request.{Request}
+use Rattle.yp_command.specs.declared.halt.Halt.{Halt}
+use Rattle.yp_command.specs.declared.halt.Halt.TheVariants as halts
+use Rattle.yp_command.specs.Faults.{Said, said_map, together}
+use Rattle.yp_command.specs.Readings.{Halts}
+use Rattle.yp_command.specs.Requests.{command_said}
+use Rattle.yp_command.specs.Words.{whole_said}
+use Rattle.yp_script.specs.declared.lane.Laned.{Laned}
 use Rattle.yp_script.specs.declared.form.Form.TheVariants as forms
-use Rattle.yp_script.specs.declared.form.Request.{Request}
 use Rattle.yp_script.specs.declared.gathered.Gathered.{Gathered}
-use Rattle.yp_script.specs.declared.halt.Halt.{Halt}
-use Rattle.yp_script.specs.declared.halt.Halt.TheVariants as halts
 use Rattle.yp_script.specs.declared.reader.Reader.{Reader}
-use Rattle.yp_script.specs.Faults.{Said, said_map, together}
-use Rattle.yp_script.specs.Readings.{Halts}
 use Rattle.yp_script.specs.Readers.{progress_with, schema_in, Added, Adds}
 use Rattle.yp_script.specs.Script.{Progress, with_command, with_laned}
-use Rattle.yp_script.specs.Values.{command_said, laned_said}
-use Rattle.yp_script.specs.Words.{whole_said}
+use Rattle.yp_script.specs.Values.{laned_said}
 
 -- reading a command leaves what is held
 pub record Same (old mid : Reader) : Type 0 where

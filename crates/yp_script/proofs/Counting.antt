@@ -8,22 +8,25 @@ use Rattle.serde_json.specs.Data.{Data}
 use Rattle.yp_base.specs.Results.{◌>>=◌, or_fault}
 use Rattle.yp_schema.specs.Reading.{schema_of}
 use Rattle.yp_journal.specs.declared.command.Command.{Command as Asking}
-use Rattle.yp_script.specs.declared.fault.ScriptKind.TheVariants as kinds
+use Rattle.yp_command.specs.declared.fault.ScriptKind.TheVariants as kinds
+use Rattle.yp_command.specs.Faults.{Said}
+use Rattle.yp_command.specs.Requests.{command_said}
+use Rattle.yp_command.specs.Words.{is_yes}
+use Rattle.yp_command.specs.SaidLaws.{map_is, map_any, then_is, if_is}
 use Rattle.yp_script.specs.declared.fault.ScriptFault.{ScriptFault}
 use Rattle.yp_script.specs.declared.form.Form.{Form}
 use Rattle.yp_script.specs.declared.form.Form.TheVariants.{Start, Schema, Receiver, Command, Lanes, Lane, Join}
 use Rattle.yp_script.specs.declared.script.Script.{Script}
 use Rattle.yp_script.specs.declared.stage.Stage.{Stage}
 use Rattle.yp_script.specs.declared.stage.Stage.TheVariants.{After}
-use Rattle.yp_script.specs.Faults.{LineFault, Said}
+use Rattle.yp_script.specs.Faults.{LineFault}
 use Rattle.yp_script.specs.Forms.{line_form}
 use Rattle.yp_script.specs.Lines.{Line, pieces_of, without_feed, is_blank, json_in, is_in_script, lines_from}
 use Rattle.yp_script.specs.Order.{next_stage}
 use Rattle.yp_script.specs.Readings.{Gives}
 use Rattle.yp_script.specs.Script.{Progress, no_progress, with_start, with_part, with_receiver, put_at, with_command, with_lanes, with_laned, schema_said, taken, at_stage, form_taken, line_taken, at_line, complete_start, script_at, script_from, script_of, count_commands}
-use Rattle.yp_script.specs.Values.{start_said, receiver_said, command_said, lanes_said, laned_said}
-use Rattle.yp_script.specs.Words.{is_yes}
-use Rattle.yp_script.specs.SaidLaws.{map_is, map_any, then_is, if_is, line_is}
+use Rattle.yp_script.specs.Values.{start_said, receiver_said, lanes_said, laned_said}
+use Rattle.yp_script.specs.SaidLaws.{line_is}
 
 -- ---- a line has one command at most
 

@@ -1,65 +1,47 @@
 -- What each script keeps: receivers of distinct names, and commands of these receivers.
-use Rattle.std.proofs.Common.{◌≡◌, ℕ, ◌+◌, ◌-◌, ◌<◌, ◌≤◌, inl, inr, option_and_then, codes, true, false, not, ◌&&◌, ◌||◌, List, [], ◌∷◌, ◌++◌, length, take, min, get_or, Option, Some, None, option_map, is_some, Result, Ok, Err, refl, sym, ap, ◌∙◌, subst, arith, nat_lt, IfSome, IfOk, length-append}
+use Rattle.std.proofs.Common.{◌≡◌, ℕ, ◌+◌, ◌-◌, ◌<◌, ◌≤◌, inl, inr, codes, true, false, not, ◌&&◌, ◌||◌, List, [], ◌∷◌, ◌++◌, length, take, min, get_or, Option, Some, None, option_map, is_some, Result, Ok, Err, refl, sym, ap, ◌∙◌, subst, arith, nat_lt, IfOk, length-append}
 use Rattle.std.specs.List.{All, list_any}
 use Rattle.std.specs.Cmp.Lexicographic.{nat_list_eq_equiv}
 use Rattle.std.proofs.lemmas.Bool.{ltb-true, not-true, cases_lt, and_parts, or_parts}
-use Rattle.std.proofs.lemmas.List.{length-map, length-replicate, length-set, map-append, get_or_past, take_all}
+use Rattle.std.proofs.lemmas.List.{length-replicate, length-set, map-append, get_or_past, take_all}
 use Rattle.std.proofs.lemmas.List.Elements.{All-push, All-nil, All-set, All-get_or, All-weaker, All-replicate}
-use Rattle.std.proofs.lemmas.Option.{IfSome_then}
 use Rattle.std.proofs.lemmas.Result.{IfOk-weaker}
 use Rattle.serde_json.specs.Data.{Data}
-use Rattle.std.specs.Option.{ForSome}
-use Rattle.yp_base.specs.declared.notice.Trigger.{Trigger}
-use Rattle.yp_base.specs.declared.notice.Trigger.TheVariants.{Periodic, OnChange}
 use Rattle.yp_base.specs.Json.{member_of}
 use Rattle.yp_base.specs.Results.{◌>>=◌, or_fault}
 use Rattle.yp_base.specs.Types.{same_text, is_among, are_distinct}
 use Rattle.yp_schema.specs.declared.schema.SchemaNode.{SchemaNode}
 use Rattle.yp_schema.specs.Reading.{schema_of}
-use Rattle.yp_nacm.specs.declared.policy.Policy.{Policy}
-use Rattle.yp_nacm.specs.Policies.{IsPolicyOf}
-use Rattle.yp_nacm_text.specs.Faults.{Fault}
-use Rattle.yp_nacm_text.specs.Policies.{policy_in}
-use Rattle.yp_edit.specs.Shapes.{patch_in}
 use Rattle.yp_journal.specs.declared.command.Command.{Command}
-use Rattle.yp_journal.specs.declared.command.Command.TheVariants as commands
 use Rattle.yp_journal.specs.declared.receiver.ReceiverInfo.{ReceiverInfo}
-use Rattle.yp_journal.specs.History.{MayCome, IsTakeOf}
-use Rattle.yp_registry.specs.Terms.{HasAnchor}
-use Rattle.yp_time.specs.Ticks.{tick_limit, IsAnchor}
-use Rattle.yp_script.specs.declared.command.Laned.{Laned}
-use Rattle.yp_script.specs.declared.fault.ScriptKind.TheVariants as kinds
+use Rattle.yp_command.specs.declared.fault.ScriptKind.TheVariants as kinds
+use Rattle.yp_command.specs.declared.command.Request.{Request}
+use Rattle.yp_command.specs.Commands.{IsCommandOf, CommandsMayCome}
+use Rattle.yp_command.specs.Faults.{Said, said_map}
+use Rattle.yp_command.specs.Names.{names_of, receiver_number}
+use Rattle.yp_command.specs.Requests.{command_said}
+use Rattle.yp_command.specs.Words.{text_at, where_true, whole_said, whole_there, is_yes}
+use Rattle.yp_command.specs.CommandLaws.{command_is, of_more}
+use Rattle.yp_command.specs.NameLaws.{none_there}
+use Rattle.yp_command.specs.SaidLaws.{map_is, map_any, then_is, if_is, or_is, together_is, holding_is, where_is, whole_is, whole_there_is}
+use Rattle.yp_script.specs.declared.lane.Laned.{Laned}
 use Rattle.yp_script.specs.declared.fault.ScriptFault.{ScriptFault}
 use Rattle.yp_script.specs.declared.form.Form.{Form}
 use Rattle.yp_script.specs.declared.form.Form.TheVariants as forms
-use Rattle.yp_script.specs.declared.form.Request.{Request}
-use Rattle.yp_script.specs.declared.form.Request.TheVariants.{Tick, Patch, Policy as Ruling, Establish, Take}
 use Rattle.yp_script.specs.declared.script.Script.{Script}
 use Rattle.yp_script.specs.declared.stage.Stage.{Stage}
 use Rattle.yp_script.specs.declared.stage.Stage.TheVariants.{Opening, Started, Schemas, Receivers, Before, Within, After}
-use Rattle.yp_script.specs.Asks.{establish_said}
-use Rattle.yp_script.specs.Commands.{IsBounded, HasBounds, anchor_of}
-use Rattle.yp_script.specs.Faults.{LineFault, Said, said_map}
+use Rattle.yp_script.specs.Commands.{HasBounds}
+use Rattle.yp_script.specs.Faults.{LineFault}
 use Rattle.yp_script.specs.Forms.{line_form}
 use Rattle.yp_script.specs.Lines.{Line, pieces_of, lines_from}
-use Rattle.yp_script.specs.Names.{names_of, receiver_number}
 use Rattle.yp_script.specs.Order.{next_stage}
 use Rattle.yp_script.specs.Readings.{Gives}
 use Rattle.yp_script.specs.Script.{Progress, no_progress, with_start, with_part, with_receiver, put_at, with_command, with_lanes, with_laned, schema_said, taken, at_stage, form_taken, line_taken, at_line, complete_start, script_at, script_from, script_of, IsReceiver, AreReceivers, MayRun}
-use Rattle.yp_script.specs.Values.{is_receiver_name, is_user_name, is_new_name, has_receiver_form, takes_itself, name_said, user_said, places_said, receiver_of, receiver_said, patch_said, sound, policy_said, command_said, lanes_said, laned_said, start_said}
-use Rattle.yp_script.specs.Words.{text_at, where_true, whole_said, whole_there, is_yes}
-use Rattle.yp_script.proofs.AskLaws.{asked_is, take_is}
-use Rattle.yp_script.proofs.ListLaws.{found_still}
-use Rattle.yp_script.proofs.Positions.{position_within, none_there}
-use Rattle.yp_script.specs.SaidLaws.{map_is, map_any, then_is, if_is, or_is, together_is, holding_is, where_is, itself_is, then_some, line_is, whole_is, whole_there_is}
+use Rattle.yp_script.specs.Values.{is_receiver_name, is_user_name, is_new_name, has_receiver_form, takes_itself, name_said, user_said, places_said, receiver_of, receiver_said, lanes_said, laned_said, start_said}
+use Rattle.yp_script.specs.SaidLaws.{line_is}
 
 -- ---- receivers' names
-
--- a number of a receiver is one of these
-number_within : (receivers : List ReceiverInfo) (name : List ℕ) → IfSome (receiver_number receivers name) (λ n. n < length receivers)
-number_within receivers name =
-    IfSome_then (receiver_number receivers name) (position_within (same_text name) (names_of receivers))
-    (λ n h. let same : length (names_of receivers) ≡ length receivers = length-map receivers (λ (r : ReceiverInfo). r.name) in omega arith)
 
 among_more : (text other : List ℕ) (names : List (List ℕ)) → is_among text names ≡ false → same_text text other ≡ false → is_among text (names ++ other ∷ []) ≡ false
 among_more text other [] among differs = ap (λ b. b || false) differs
@@ -124,60 +106,12 @@ receiver_is receivers json =
 
 -- ---- commands
 
--- a command of this schema and these receivers
-abbrev pub IsOf : List SchemaNode → List ReceiverInfo → Command → Type 0
-IsOf nodes receivers (commands.Tick tick) = tick ≤ tick_limit
-IsOf nodes receivers (commands.Edit patch) = (json : Data) × (patch_in json ≡ Some patch)
-IsOf nodes receivers (commands.Rules policy) = (json : Data) × (policy_in nodes json ≡ Ok policy)
-IsOf nodes receivers (commands.Establish by ask) = by < length receivers
-IsOf nodes receivers (commands.Take receiver count) = IsTakeOf receivers receiver count
+all_more : (nodes : List SchemaNode) (receivers : List ReceiverInfo) (receiver : ReceiverInfo) (gathered : List Command) → All (IsCommandOf nodes receivers) gathered → All (IsCommandOf nodes (receivers ++ receiver ∷ [])) gathered
+all_more nodes receivers receiver gathered are = All-weaker (IsCommandOf nodes receivers) (IsCommandOf nodes (receivers ++ receiver ∷ [])) (of_more nodes receivers receiver) gathered are
 
-of_more : (nodes : List SchemaNode) (receivers : List ReceiverInfo) (receiver : ReceiverInfo) (command : Command) → IsOf nodes receivers command → IsOf nodes (receivers ++ receiver ∷ []) command
-of_more nodes receivers receiver (commands.Tick tick) is = is
-of_more nodes receivers receiver (commands.Edit patch) is = is
-of_more nodes receivers receiver (commands.Rules policy) is = is
-of_more nodes receivers receiver (commands.Establish by ask) is = omega (arith, is, length-append receivers (receiver ∷ []))
-of_more nodes receivers receiver (commands.Take number count) is = record {
-  info = is.info;
-  there = found_still receivers (receiver ∷ []) number is.info is.there;
-  by_command = is.by_command;
-  some = is.some;
-  few = is.few;
-}
-
-all_more : (nodes : List SchemaNode) (receivers : List ReceiverInfo) (receiver : ReceiverInfo) (gathered : List Command) → All (IsOf nodes receivers) gathered → All (IsOf nodes (receivers ++ receiver ∷ [])) gathered
-all_more nodes receivers receiver gathered are = All-weaker (IsOf nodes receivers) (IsOf nodes (receivers ++ receiver ∷ [])) (of_more nodes receivers receiver) gathered are
-
-patch_is : (nodes : List SchemaNode) (receivers : List ReceiverInfo) (json : Data) → IfOk (patch_said json) (IsOf nodes receivers)
-patch_is nodes receivers json =
-    map_is commands.Edit (or_fault kinds.Patch (patch_in json)) (λ patch. patch_in json ≡ Some patch) (IsOf nodes receivers)
-    (or_is kinds.Patch (patch_in json) (λ patch. patch_in json ≡ Some patch) (itself_is (patch_in json)))
-    (λ patch is. (json, is))
-
-sound_is : {X : Type 0} (r : Result X Fault) → IfOk (sound r) (λ x. r ≡ Ok x)
-sound_is (Ok x) = refl
-sound_is (Err fault) = tt
-
-policy_is : (nodes : List SchemaNode) (receivers : List ReceiverInfo) (json : Data) → IfOk (policy_said nodes json) (IsOf nodes receivers)
-policy_is nodes receivers json = map_is commands.Rules (sound (policy_in nodes json)) (λ policy. policy_in nodes json ≡ Ok policy) (IsOf nodes receivers) (sound_is (policy_in nodes json)) (λ policy is. (json, is))
-
-establish_is : (nodes : List SchemaNode) (start : Option ℕ) (receivers : List ReceiverInfo) (json : Data) → IfOk (establish_said start receivers json) (IsOf nodes receivers)
-establish_is nodes start receivers json =
-    let by = option_and_then (receiver_number receivers) (text_at (codes "by") json) in
-    asked_is start receivers json (λ n. n < length receivers) (IsOf nodes receivers)
-    (or_is kinds.Member by (λ n. n < length receivers) (then_some (receiver_number receivers) (text_at (codes "by") json) (λ n. n < length receivers) (number_within receivers)))
-    (λ n ask there. there)
-
-command_is : (nodes : List SchemaNode) (start : Option ℕ) (receivers : List ReceiverInfo) (request : Request Data) → IfOk (command_said nodes start receivers request) (IsOf nodes receivers)
-command_is nodes start receivers (Tick json) = map_is commands.Tick (whole_said 0 tick_limit json) (λ n. (0 ≤ n) × (n ≤ tick_limit)) (IsOf nodes receivers) (whole_is 0 tick_limit json) (λ n bounds. bounds.1)
-command_is nodes start receivers (Patch json) = patch_is nodes receivers json
-command_is nodes start receivers (Ruling json) = policy_is nodes receivers json
-command_is nodes start receivers (Establish json) = establish_is nodes start receivers json
-command_is nodes start receivers (Take json) = take_is receivers json (IsOf nodes receivers) (λ number count is. is)
-
-laned_is : (nodes : List SchemaNode) (start : Option ℕ) (receivers : List ReceiverInfo) (count : ℕ) (place : Data) (request : Request Data) → IfOk (laned_said nodes start receivers count place request) (λ laned. IsOf nodes receivers laned.command)
+laned_is : (nodes : List SchemaNode) (start : Option ℕ) (receivers : List ReceiverInfo) (count : ℕ) (place : Data) (request : Request Data) → IfOk (laned_said nodes start receivers count place request) (λ laned. IsCommandOf nodes receivers laned.command)
 laned_is nodes start receivers count place request =
-    together_is (λ lane command. record { lane = lane; command = command }) (whole_said 1 count place) (command_said nodes start receivers request) (IsOf nodes receivers) (λ laned. IsOf nodes receivers laned.command)
+    together_is (λ lane command. record { lane = lane; command = command }) (whole_said 1 count place) (command_said nodes start receivers request) (IsCommandOf nodes receivers) (λ laned. IsCommandOf nodes receivers laned.command)
     (command_is nodes start receivers request) (λ lane command is. is)
 
 -- ---- commands come after the schema
@@ -244,9 +178,9 @@ module _ (first : List Command) (laned : List (List Command)) (last : List Comma
 -- what a script keeps, and what it keeps so far
 pub record Keeps (nodes : List SchemaNode) (known : List ReceiverInfo) (first : List Command) (laned : List (List Command)) (last : List Command) : Type 0 where
   pub receivers : AreReceivers known
-  pub before : All (IsOf nodes known) first
-  pub lanes : All (All (IsOf nodes known)) laned
-  pub after : All (IsOf nodes known) last
+  pub before : All (IsCommandOf nodes known) first
+  pub lanes : All (All (IsCommandOf nodes known)) laned
+  pub after : All (IsCommandOf nodes known) last
   pub few : length laned ≤ 64
 
 abbrev Keep : Progress → Type 0
@@ -260,7 +194,7 @@ keeps_receiver progress receiver keeps may = record {
   receivers = joined progress.receivers receiver keeps.receivers may;
   before = all_more progress.schema progress.receivers receiver progress.before keeps.before;
   lanes =
-      All-weaker (All (IsOf progress.schema progress.receivers)) (All (IsOf progress.schema (progress.receivers ++ receiver ∷ []))) (all_more progress.schema progress.receivers receiver) progress.lanes keeps.lanes;
+      All-weaker (All (IsCommandOf progress.schema progress.receivers)) (All (IsCommandOf progress.schema (progress.receivers ++ receiver ∷ []))) (all_more progress.schema progress.receivers receiver) progress.lanes keeps.lanes;
   after = all_more progress.schema progress.receivers receiver progress.after keeps.after;
   few = keeps.few;
 }
@@ -269,17 +203,17 @@ keeps_receiver progress receiver keeps may = record {
 keeps_part : (progress : Progress) (part : Data) (nodes : List SchemaNode) → Keep progress → (progress.before ≡ []) × (progress.lanes ≡ []) × (progress.after ≡ []) → Keep (with_part progress part nodes)
 keeps_part progress part nodes keeps none = record {
   receivers = keeps.receivers;
-  before = subst (All (IsOf nodes progress.receivers)) (sym none.0) (All-nil (IsOf nodes progress.receivers));
-  lanes = subst (All (All (IsOf nodes progress.receivers))) (sym none.1) (All-nil (All (IsOf nodes progress.receivers)));
-  after = subst (All (IsOf nodes progress.receivers)) (sym none.2) (All-nil (IsOf nodes progress.receivers));
+  before = subst (All (IsCommandOf nodes progress.receivers)) (sym none.0) (All-nil (IsCommandOf nodes progress.receivers));
+  lanes = subst (All (All (IsCommandOf nodes progress.receivers))) (sym none.1) (All-nil (All (IsCommandOf nodes progress.receivers)));
+  after = subst (All (IsCommandOf nodes progress.receivers)) (sym none.2) (All-nil (IsCommandOf nodes progress.receivers));
   few = keeps.few;
 }
 
-keeps_command : (stage : Stage) (progress : Progress) (command : Command) → Keep progress → IsOf progress.schema progress.receivers command → Keep (put_at stage progress command)
+keeps_command : (stage : Stage) (progress : Progress) (command : Command) → Keep progress → IsCommandOf progress.schema progress.receivers command → Keep (put_at stage progress command)
 keeps_command After progress command keeps is =
-    record { receivers = keeps.receivers; before = keeps.before; lanes = keeps.lanes; after = All-push (IsOf progress.schema progress.receivers) progress.after command keeps.after is; few = keeps.few }
+    record { receivers = keeps.receivers; before = keeps.before; lanes = keeps.lanes; after = All-push (IsCommandOf progress.schema progress.receivers) progress.after command keeps.after is; few = keeps.few }
 keeps_command other progress command keeps is =
-    record { receivers = keeps.receivers; before = All-push (IsOf progress.schema progress.receivers) progress.before command keeps.before is; lanes = keeps.lanes; after = keeps.after; few = keeps.few }
+    record { receivers = keeps.receivers; before = All-push (IsCommandOf progress.schema progress.receivers) progress.before command keeps.before is; lanes = keeps.lanes; after = keeps.after; few = keeps.few }
 
 lane_at : {X : Type 0} (P : X → Type 0) (lanes : List (List X)) (place : ℕ) → All (All P) lanes → All P (get_or lanes place [])
 lane_at P lanes place are =
@@ -288,9 +222,9 @@ lane_at P lanes place are =
       | inr h ↦ subst (All P) (sym (get_or_past lanes place [] h)) (All-nil P)
     ]
 
-keeps_laned : (progress : Progress) (laned : Laned) → Keep progress → IsOf progress.schema progress.receivers laned.command → Keep (with_laned progress laned)
+keeps_laned : (progress : Progress) (laned : Laned) → Keep progress → IsCommandOf progress.schema progress.receivers laned.command → Keep (with_laned progress laned)
 keeps_laned progress laned keeps is =
-    let Own = IsOf progress.schema progress.receivers in
+    let Own = IsCommandOf progress.schema progress.receivers in
     let lane : All Own (get_or progress.lanes (laned.lane - 1) [] ++ laned.command ∷ []) =
     All-push Own (get_or progress.lanes (laned.lane - 1) []) laned.command (lane_at Own progress.lanes (laned.lane - 1) keeps.lanes) is in
     record {
@@ -327,7 +261,7 @@ keeps_taken progress (forms.Receiver value) stage leads keeps bare =
       led (next_stage progress.stage (forms.Receiver value)) stage progress.before progress.lanes progress.after leads (receiver_leads progress.before progress.lanes progress.after progress.stage value),
     ))
 keeps_taken progress (forms.Command request) stage leads keeps bare =
-    map_is (with_command progress) (command_said progress.schema progress.start progress.receivers request) (IsOf progress.schema progress.receivers) (KeepAt stage)
+    map_is (with_command progress) (command_said progress.schema progress.start progress.receivers request) (IsCommandOf progress.schema progress.receivers) (KeepAt stage)
     (command_is progress.schema progress.start progress.receivers request)
     (λ command is.
     let next = with_command progress command in (
@@ -341,14 +275,14 @@ keeps_taken progress (forms.Lanes value) stage leads keeps bare =
       record {
         receivers = keeps.receivers;
         before = keeps.before;
-        lanes = All-replicate (All (IsOf progress.schema progress.receivers)) count [] (All-nil (IsOf progress.schema progress.receivers));
+        lanes = All-replicate (All (IsCommandOf progress.schema progress.receivers)) count [] (All-nil (IsCommandOf progress.schema progress.receivers));
         after = keeps.after;
         few = omega (arith, bounds, length-replicate {A = List Command} count []);
       },
       led (next_stage progress.stage (forms.Lanes value)) stage next.before next.lanes next.after leads (lanes_lead next.before next.lanes next.after progress.stage value),
     ))
 keeps_taken progress (forms.Lane lane request) stage leads keeps bare =
-    map_is (with_laned progress) (laned_said progress.schema progress.start progress.receivers (length progress.lanes) lane request) (λ laned. IsOf progress.schema progress.receivers laned.command) (KeepAt stage)
+    map_is (with_laned progress) (laned_said progress.schema progress.start progress.receivers (length progress.lanes) lane request) (λ laned. IsCommandOf progress.schema progress.receivers laned.command) (KeepAt stage)
     (laned_is progress.schema progress.start progress.receivers (length progress.lanes) lane request)
     (λ laned is.
     let next = with_laned progress laned in (
@@ -399,31 +333,15 @@ no_receivers = record { few = omega arith; distinct = refl; each = All-nil IsRec
 script_keeps : (end : ℕ) (lines : List Line) → IfOk (script_from end no_progress lines) ScriptKeeps
 script_keeps end lines =
     keeps_lines end no_progress lines
-    (record { receivers = no_receivers; before = All-nil (IsOf [] []); lanes = All-nil (All (IsOf [] [])); after = All-nil (IsOf [] []); few = omega arith }, (refl, refl, refl))
+    (record { receivers = no_receivers; before = All-nil (IsCommandOf [] []); lanes = All-nil (All (IsCommandOf [] [])); after = All-nil (IsCommandOf [] []); few = omega arith }, (refl, refl, refl))
 
 -- ---- what a journal of its receivers takes
 
--- a policy that is read is one of its schema
-abbrev pub PathsKept : Type 0
-PathsKept = (nodes : List SchemaNode) (json : Data) (policy : Policy) → policy_in nodes json ≡ Ok policy → IsPolicyOf nodes policy
-
-has_anchor : (trigger : Trigger) → ForSome (anchor_of trigger) IsAnchor → HasAnchor trigger
-has_anchor (Periodic period (Some anchor)) within = within anchor refl
-has_anchor (Periodic period None) within = tt
-has_anchor (OnChange dampening sync excluded) within = tt
-
-may_come : PathsKept → (nodes : List SchemaNode) (receivers : List ReceiverInfo) (command : Command) → IsOf nodes receivers command → IsBounded command → MayCome nodes receivers command
-may_come paths nodes receivers (commands.Tick tick) is few = is
-may_come paths nodes receivers (commands.Edit patch) is few = record { json = is.0; read = is.1; few = few.0 }
-may_come paths nodes receivers (commands.Rules policy) is few = paths nodes is.0 policy is.1
-may_come paths nodes receivers (commands.Establish by ask) is few = (is, has_anchor ask.trigger few.1)
-may_come paths nodes receivers (commands.Take receiver count) is few = is
-
-may_run : PathsKept → (script : Script) → ScriptKeeps script → HasBounds script → MayRun script
-may_run paths script keeps few = record {
-  before = λ k d h. may_come paths script.schema script.receivers (get_or script.before k d) (keeps.before k d h) (few.before k d h);
-  lanes = λ k d h. λ j e g. may_come paths script.schema script.receivers (get_or (get_or script.lanes k d) j e) (keeps.lanes k d h j e g) (few.lanes k d h j e g);
-  after = λ k d h. may_come paths script.schema script.receivers (get_or script.after k d) (keeps.after k d h) (few.after k d h);
+may_run : CommandsMayCome → (script : Script) → ScriptKeeps script → HasBounds script → MayRun script
+may_run may script keeps few = record {
+  before = λ k d h. may script.schema script.receivers (get_or script.before k d) (keeps.before k d h) (few.before k d h);
+  lanes = λ k d h. λ j e g. may script.schema script.receivers (get_or (get_or script.lanes k d) j e) (keeps.lanes k d h j e g) (few.lanes k d h j e g);
+  after = λ k d h. may script.schema script.receivers (get_or script.after k d) (keeps.after k d h) (few.after k d h);
 }
 
 -- ---- what is read
@@ -440,9 +358,9 @@ pub read_lanes : (r : Result Script ScriptFault) → IfOk r ScriptKeeps → IfOk
 read_lanes (Ok script) keeps = keeps.few
 read_lanes (Err fault) keeps = tt
 
-pub read_commands : PathsKept → (r : Result Script ScriptFault) → IfOk r ScriptKeeps → IfOk r HasBounds → IfOk r MayRun
-read_commands paths (Ok script) keeps few = may_run paths script keeps few
-read_commands paths (Err fault) keeps few = tt
+pub read_commands : CommandsMayCome → (r : Result Script ScriptFault) → IfOk r ScriptKeeps → IfOk r HasBounds → IfOk r MayRun
+read_commands may (Ok script) keeps few = may_run may script keeps few
+read_commands may (Err fault) keeps few = tt
 
 -- nothing past so many bytes is looked at
 pub take_least : (bytes : List ℕ) (most front : ℕ) → front ≡ min (length bytes) most → take front bytes ≡ take most bytes

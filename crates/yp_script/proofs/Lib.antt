@@ -1,12 +1,7 @@
-pub mod AskLaws
 pub mod CommandLaws
 pub mod Counting
 pub mod Keeping
 pub mod LineLaws
-pub mod ListLaws
-pub mod MemberLaws
-pub mod NameLaws
 pub mod OrderLaws
 pub mod PartLaws
-pub mod Positions
 pub mod StepLaws

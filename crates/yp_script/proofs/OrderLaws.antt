@@ -5,21 +5,23 @@ use Rattle.std.specs.Result.{result_ok}
 use Rattle.std.proofs.lemmas.Result.{IfOk-weaker}
 use Rattle.serde_json.specs.Data.{Data}
 use Rattle.yp_base.specs.Results.{◌>>=◌, or_fault}
-use Rattle.yp_script.specs.declared.fault.ScriptKind.TheVariants as kinds
+use Rattle.yp_command.specs.declared.fault.ScriptKind.TheVariants as kinds
+use Rattle.yp_command.specs.declared.command.Request.{Request}
+use Rattle.yp_command.specs.Faults.{Said}
+use Rattle.yp_command.specs.SaidLaws.{then_is}
 use Rattle.yp_script.specs.declared.fault.ScriptFault.{ScriptFault}
 use Rattle.yp_script.specs.declared.form.Form.{Form}
 use Rattle.yp_script.specs.declared.form.Form.TheVariants.{Start, Schema, Receiver, Command, Lanes, Lane, Join}
-use Rattle.yp_script.specs.declared.form.Request.{Request}
 use Rattle.yp_script.specs.declared.script.Script.{Script}
 use Rattle.yp_script.specs.declared.stage.Stage.{Stage}
 use Rattle.yp_script.specs.declared.stage.Stage.TheVariants.{Opening, Started, Schemas, Receivers, Before, Within, After}
-use Rattle.yp_script.specs.Faults.{LineFault, Said}
+use Rattle.yp_script.specs.Faults.{LineFault}
 use Rattle.yp_script.specs.Forms.{line_form}
 use Rattle.yp_script.specs.Lines.{Line, pieces_of, lines_from}
 use Rattle.yp_script.specs.Order.{next_stage, LanesPart, lanes_part, InOrder}
 use Rattle.yp_script.specs.Readings.{Gives}
 use Rattle.yp_script.specs.Script.{Progress, no_progress, taken, at_stage, form_taken, line_taken, at_line, complete_start, script_at, script_from, script_of, form_at, AreInOrder}
-use Rattle.yp_script.specs.SaidLaws.{then_is, line_is}
+use Rattle.yp_script.specs.SaidLaws.{line_is}
 
 -- ---- what may stand after a stage
 

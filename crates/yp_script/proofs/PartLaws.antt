@@ -11,7 +11,7 @@ use Rattle.yp_schema.specs.declared.fault.SchemaKind.{SchemaKind}
 use Rattle.yp_schema.specs.Rounds.{Nodes, Fault, added, checked, at_place, first_round, second_round, part_in, parts_in}
 use Rattle.yp_schema.specs.Stated.{node_in}
 use Rattle.yp_schema.specs.Reading.{numbered, schema_of}
-use Rattle.yp_script.specs.declared.fault.ScriptKind.TheVariants as kinds
+use Rattle.yp_command.specs.declared.fault.ScriptKind.TheVariants as kinds
 use Rattle.yp_script.specs.Faults.{LineFault}
 use Rattle.yp_script.specs.Readings.{at_part}
 use Rattle.yp_script.specs.Script.{at_line, schema_said}

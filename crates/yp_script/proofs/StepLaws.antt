@@ -9,26 +9,28 @@ use Rattle.yp_base.specs.Results.{◌>>=◌, or_fault, bind_same}
 use Rattle.yp_schema.specs.declared.schema.SchemaNode.{SchemaNode}
 use Rattle.yp_schema.specs.Reading.{schema_of}
 use Rattle.yp_schema.specs.Rounds.{Fault}
+use Rattle.yp_command.specs.declared.fault.ScriptKind.{ScriptKind}
+use Rattle.yp_command.specs.declared.fault.ScriptKind.TheVariants as kinds
+use Rattle.yp_command.specs.declared.halt.Halt.{Halt}
+use Rattle.yp_command.specs.declared.halt.Halt.TheVariants as halts
+use Rattle.yp_command.specs.Faults.{Said, said_map, least}
+use Rattle.yp_command.specs.Readings.{beside}
 use Rattle.yp_script.specs.declared.cursor.Lines.{Lines}
 use Rattle.yp_script.specs.declared.cursor.Line.{Line as FoundLine}
-use Rattle.yp_script.specs.declared.fault.ScriptKind.{ScriptKind}
-use Rattle.yp_script.specs.declared.fault.ScriptKind.TheVariants as kinds
 use Rattle.yp_script.specs.declared.fault.ScriptFault.{ScriptFault}
 use Rattle.yp_script.specs.declared.fault.ScriptFault.TheVariants.{At, Memory}
 use Rattle.yp_script.specs.declared.form.Form.{Form}
 use Rattle.yp_script.specs.declared.form.Form.TheVariants as forms
-use Rattle.yp_script.specs.declared.halt.Halt.{Halt}
-use Rattle.yp_script.specs.declared.halt.Halt.TheVariants as halts
 use Rattle.yp_script.specs.declared.reader.Reader.{Reader}
 use Rattle.yp_script.specs.declared.script.Script.{Script}
 use Rattle.yp_script.specs.declared.stage.Stage.{Stage}
 use Rattle.yp_script.specs.declared.stage.Stage.TheVariants as stages
 use Rattle.yp_script.specs.Cursor.{lines_left, last_number, seen_line}
-use Rattle.yp_script.specs.Faults.{LineFault, Said, said_map, least}
+use Rattle.yp_script.specs.Faults.{LineFault}
 use Rattle.yp_script.specs.Forms.{seen_form, line_form}
 use Rattle.yp_script.specs.Lines.{Line}
 use Rattle.yp_script.specs.Order.{next_stage}
-use Rattle.yp_script.specs.Readings.{Gives, IsFault, beside, at_part}
+use Rattle.yp_script.specs.Readings.{Gives, IsFault, at_part}
 use Rattle.yp_script.specs.Readers.{progress_with, schema_in, progress_in, progress_by, Added, Lacking, Adds, IsEarly, Took, Takes, Goes}
 use Rattle.yp_script.specs.Script.{Progress, with_part, schema_said, taken, at_stage, form_taken, line_taken, at_line, script_from}
 use Rattle.yp_script.proofs.PartLaws.{part_grows, bound_twice, bound_where}

@@ -1,9 +1,9 @@
 -- A place between two lines of a text.
 use Rattle.std.specs.Prelude.{◌≡◌, ℕ, ◌+◌, List, [], ◌∷◌, length, Option, Some, None}
 use Rattle.serde_json.specs.View.{view}
+use Rattle.yp_command.specs.Faults.{said_map}
 use Rattle.yp_script.specs.declared.cursor.Lines.{Lines}
 use Rattle.yp_script.specs.declared.cursor.Line.{Line as FoundLine}
-use Rattle.yp_script.specs.Faults.{said_map}
 use Rattle.yp_script.specs.Lines.{Line, pieces_of, lines_from}
 
 -- the lines behind the place

@@ -6,27 +6,10 @@ use Rattle.serde_json.specs.View.{view}
 use Rattle.serde_json.specs.declared.value.Value.{Value}
 use Rattle.yp_base.specs.Json.{member_of}
 use Rattle.yp_base.specs.Types.{same_text}
-use Rattle.yp_script.specs.declared.form.Request.{Request}
-use Rattle.yp_script.specs.declared.form.Request.TheVariants.{Tick, Patch, Policy, Establish, Take}
+use Rattle.yp_command.specs.Requests.{request_named, request_in, seen_request}
+use Rattle.yp_command.specs.Words.{has_count, sole_member}
 use Rattle.yp_script.specs.declared.form.Form.{Form}
 use Rattle.yp_script.specs.declared.form.Form.TheVariants.{Start, Schema, Receiver, Command, Lanes, Lane, Join}
-use Rattle.yp_script.specs.Words.{has_count, sole_member}
-
--- ---- commands
-
--- the command that a member of this name and this value asks for
-abbrev pub request_named : List ℕ → Data → Option (Request Data)
-request_named name value =
-    if same_text name (codes "tick") then Some (Tick value)
-    else (if same_text name (codes "patch") then Some (Patch value)
-    else (if same_text name (codes "policy") then Some (Policy value)
-    else (if same_text name (codes "establish") then Some (Establish value)
-    else (if same_text name (codes "take") then Some (Take value)
-    else None))))
-
--- the command that an object of one member asks for
-abbrev pub request_in : Data → Option (Request Data)
-request_in json = option_and_then (λ member. request_named member.0 member.1) (sole_member json)
 
 -- ---- lines
 
@@ -55,15 +38,7 @@ form_by (Some member) json = form_named member.0 member.1
 abbrev pub line_form : Data → Option (Form Data)
 line_form json = form_by (sole_member json) json
 
--- ---- as a contract sees them
-
-abbrev pub seen_request : Request (Bor Value) → Request Data
-seen_request (Tick value) = Tick (view value.now)
-seen_request (Patch value) = Patch (view value.now)
-seen_request (Policy value) = Policy (view value.now)
-seen_request (Establish value) = Establish (view value.now)
-seen_request (Take value) = Take (view value.now)
-
+-- the same as a contract sees it
 abbrev pub seen_form : Form (Bor Value) → Form Data
 seen_form (Start value) = Start (view value.now)
 seen_form (Schema value) = Schema (view value.now)

@@ -1,16 +1,12 @@
-pub mod Asks
 pub mod Commands
 pub mod Cursor
 pub mod Faults
 pub mod Forms
 pub mod LimitLaws
 pub mod Lines
-pub mod Names
 pub mod Order
 pub mod Readers
 pub mod Readings
 pub mod SaidLaws
 pub mod Script
-pub mod Takes
 pub mod Values
-pub mod Words

@@ -5,11 +5,13 @@ use Rattle.std.specs.List.{AllByRecursion}
 use Rattle.std.proofs.lemmas.Bool.{and_parts, leb-true}
 use Rattle.serde_json.specs.Data.{Data}
 use Rattle.yp_base.specs.Cuts.{onto_first}
+use Rattle.yp_command.specs.Faults.{Said}
+use Rattle.yp_command.specs.SaidLaws.{then_is}
 use Rattle.yp_script.specs.declared.script.Script.{Script}
-use Rattle.yp_script.specs.Faults.{LineFault, Said}
+use Rattle.yp_script.specs.Faults.{LineFault}
 use Rattle.yp_script.specs.Lines.{Line, pieces_of, without_feed, is_blank, is_in_script, json_in, lines_from}
 use Rattle.yp_script.specs.Script.{Progress, no_progress, line_taken, at_line, script_from, script_of, script_in}
-use Rattle.yp_script.specs.SaidLaws.{then_is, line_is}
+use Rattle.yp_script.specs.SaidLaws.{line_is}
 
 -- ---- each line of a script has its JSON
 

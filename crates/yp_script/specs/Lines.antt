@@ -5,8 +5,8 @@ use Rattle.serde_json.specs.Data.{Data}
 use Rattle.serde_json.specs.Read.{read as read_text}
 use Rattle.yp_base.specs.Cuts.{cut_after}
 use Rattle.yp_base.specs.Results.{or_fault}
-use Rattle.yp_script.specs.declared.fault.ScriptKind.TheVariants.{TooLong, NotJson, Limit}
-use Rattle.yp_script.specs.Faults.{Said}
+use Rattle.yp_command.specs.declared.fault.ScriptKind.TheVariants.{TooLong, NotJson, Limit}
+use Rattle.yp_command.specs.Faults.{Said}
 
 -- a text cut after each line feed; the last piece may lack one
 abbrev pub pieces_of : List ℕ → List (List ℕ)

@@ -1,9 +1,9 @@
 -- The order of a script's lines: a start; schema lines, one at least; receivers; commands; lanes and their end, which may be left out; commands.
 use Rattle.std.specs.Prelude.{◌≡◌, ◌∷◌, [], ◌++◌, List, map, Bool, true, false, Option, Some, None}
 use Rattle.serde_json.specs.Data.{Data}
+use Rattle.yp_command.specs.declared.command.Request.{Request}
 use Rattle.yp_script.specs.declared.form.Form.{Form}
 use Rattle.yp_script.specs.declared.form.Form.TheVariants.{Start, Schema, Receiver, Command, Lanes, Lane, Join}
-use Rattle.yp_script.specs.declared.form.Request.{Request}
 use Rattle.yp_script.specs.declared.stage.Stage.{Stage}
 use Rattle.yp_script.specs.declared.stage.Stage.TheVariants.{Opening, Started, Schemas, Receivers, Before, Within, After}
 

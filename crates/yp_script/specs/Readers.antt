@@ -5,15 +5,16 @@ use Rattle.serde_json.specs.View.{view}
 use Rattle.yp_base.specs.Results.{◌>>=◌}
 use Rattle.yp_schema.specs.declared.schema.SchemaNode.{SchemaNode}
 use Rattle.yp_schema.specs.Reading.{schema_of}
+use Rattle.yp_command.specs.declared.fault.ScriptKind.{ScriptKind}
+use Rattle.yp_command.specs.declared.fault.ScriptKind.TheVariants.{Order}
+use Rattle.yp_command.specs.declared.halt.Halt.{Halt}
+use Rattle.yp_command.specs.declared.halt.Halt.TheVariants as halts
+use Rattle.yp_command.specs.Faults.{Said, least}
 use Rattle.yp_script.specs.declared.fault.ScriptFault.{ScriptFault}
-use Rattle.yp_script.specs.declared.fault.ScriptKind.{ScriptKind}
-use Rattle.yp_script.specs.declared.fault.ScriptKind.TheVariants.{Order}
 use Rattle.yp_script.specs.declared.form.Form.{Form}
-use Rattle.yp_script.specs.declared.halt.Halt.{Halt}
-use Rattle.yp_script.specs.declared.halt.Halt.TheVariants as halts
 use Rattle.yp_script.specs.declared.reader.Reader.{Reader}
 use Rattle.yp_script.specs.declared.script.Script.{Script}
-use Rattle.yp_script.specs.Faults.{LineFault, Said, least}
+use Rattle.yp_script.specs.Faults.{LineFault}
 use Rattle.yp_script.specs.Readings.{IsFault, at_part}
 use Rattle.yp_script.specs.Script.{Progress, at_line, taken, ended}
 

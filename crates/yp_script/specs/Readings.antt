@@ -1,14 +1,13 @@
--- What readers of a script's lines return: what the definition gives, but where memory ran out.
+-- What readers of a script return: what the definition gives, but where memory ran out.
 use Rattle.std.specs.Prelude.{◌≡◌, ℕ, List, get_or, Result, Ok, Err}
 use Rattle.yp_schema.specs.declared.schema.SchemaNode.{SchemaNode}
 use Rattle.yp_schema.specs.Rounds.{Fault}
+use Rattle.yp_command.specs.declared.fault.ScriptKind.TheVariants.{Schema}
+use Rattle.yp_command.specs.declared.halt.Halt.{Halt}
+use Rattle.yp_command.specs.declared.halt.Halt.TheVariants as halts
 use Rattle.yp_script.specs.declared.fault.ScriptFault.{ScriptFault}
 use Rattle.yp_script.specs.declared.fault.ScriptFault.TheVariants.{At, Memory}
-use Rattle.yp_script.specs.declared.fault.ScriptKind.{ScriptKind}
-use Rattle.yp_script.specs.declared.fault.ScriptKind.TheVariants.{Schema}
-use Rattle.yp_script.specs.declared.halt.Halt.{Halt}
-use Rattle.yp_script.specs.declared.halt.Halt.TheVariants as halts
-use Rattle.yp_script.specs.Faults.{LineFault, Said, least}
+use Rattle.yp_script.specs.Faults.{LineFault}
 
 -- a fault is that of the definition
 abbrev pub IsFault : {X : Type 0} → ScriptFault → Result X LineFault → Type 0
@@ -24,21 +23,6 @@ halt_of Memory = halts.Memory
 abbrev pub Gives : {X : Type 0} → Result X ScriptFault → Result X LineFault → Type 0
 Gives (Ok x) read = read ≡ Ok x
 Gives (Err fault) read = IsFault fault read
-
--- what stops the reading of a part of a line
-abbrev pub Halts : {X : Type 0} → Halt → Said X → Type 0
-Halts (halts.Fault own) said = said ≡ Err own
-Halts halts.Memory said = Unit {0}
-
--- what a part of a line says, or what stops it
-abbrev pub Tells : {X : Type 0} → Result X Halt → Said X → Type 0
-Tells (Ok x) said = said ≡ Ok x
-Tells (Err halt) said = Halts halt said
-
--- what stops a part of a line that has this fault too
-abbrev pub beside : ScriptKind → Halt → Halt
-beside kind (halts.Fault other) = halts.Fault (least kind other)
-beside kind halts.Memory = halts.Memory
 
 -- a fault of a part of the schema is one of its line
 abbrev pub at_part : List ℕ → Result (List SchemaNode) Fault → Result (List SchemaNode) LineFault

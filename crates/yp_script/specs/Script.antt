@@ -10,20 +10,22 @@ use Rattle.yp_schema.specs.Rounds.{Fault}
 use Rattle.yp_journal.specs.declared.command.Command.{Command}
 use Rattle.yp_journal.specs.declared.receiver.ReceiverInfo.{ReceiverInfo}
 use Rattle.yp_journal.specs.History.{MayCome}
-use Rattle.yp_script.specs.declared.command.Laned.{Laned}
-use Rattle.yp_script.specs.declared.fault.ScriptKind.TheVariants as kinds
+use Rattle.yp_command.specs.declared.fault.ScriptKind.TheVariants as kinds
+use Rattle.yp_command.specs.Faults.{Said, said_map, with_fault}
+use Rattle.yp_command.specs.Names.{names_of}
+use Rattle.yp_command.specs.Requests.{command_said}
+use Rattle.yp_command.specs.Words.{is_yes}
 use Rattle.yp_script.specs.declared.form.Form.{Form}
 use Rattle.yp_script.specs.declared.form.Form.TheVariants as forms
+use Rattle.yp_script.specs.declared.lane.Laned.{Laned}
 use Rattle.yp_script.specs.declared.script.Script.{Script}
 use Rattle.yp_script.specs.declared.stage.Stage.{Stage}
 use Rattle.yp_script.specs.declared.stage.Stage.TheVariants.{Opening, After}
-use Rattle.yp_script.specs.Faults.{LineFault, Said, said_map, with_fault}
+use Rattle.yp_script.specs.Faults.{LineFault}
 use Rattle.yp_script.specs.Forms.{line_form}
 use Rattle.yp_script.specs.Lines.{Line, pieces_of, lines_from, byte_limit}
 use Rattle.yp_script.specs.Order.{next_stage, is_complete, InOrder}
-use Rattle.yp_script.specs.Names.{names_of}
-use Rattle.yp_script.specs.Values.{is_receiver_name, is_user_name, start_said, receiver_said, command_said, lanes_said, laned_said}
-use Rattle.yp_script.specs.Words.{is_yes}
+use Rattle.yp_script.specs.Values.{is_receiver_name, is_user_name, start_said, receiver_said, lanes_said, laned_said}
 
 -- ---- what the lines so far say
 

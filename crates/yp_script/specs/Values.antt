@@ -1,26 +1,18 @@
 -- What the values of a line say, by its form, or the least of their faults.
-use Rattle.std.specs.Prelude.{ℕ, ◌==◌, ◌&&◌, ◌||◌, List, [], ◌∷◌, length, Bool, true, not, Option, is_some, Result, Ok, Err, if◌then◌else◌, nat_le, nat_lt, codes}
+use Rattle.std.specs.Prelude.{ℕ, ◌==◌, ◌&&◌, ◌||◌, List, [], ◌∷◌, length, Bool, true, not, Option, is_some, Err, if◌then◌else◌, nat_le, nat_lt, codes}
 use Rattle.serde_json.specs.Data.{Data, string}
 use Rattle.yp_base.specs.Json.{member_of}
 use Rattle.yp_base.specs.Results.{◌>>=◌, or_fault}
 use Rattle.yp_schema.specs.declared.schema.SchemaNode.{SchemaNode}
-use Rattle.yp_nacm_text.specs.Faults.{Fault}
-use Rattle.yp_nacm_text.specs.Policies.{policy_in}
-use Rattle.yp_edit.specs.Shapes.{patch_in}
-use Rattle.yp_journal.specs.declared.command.Command.{Command}
-use Rattle.yp_journal.specs.declared.command.Command.TheVariants as commands
 use Rattle.yp_journal.specs.declared.receiver.ReceiverInfo.{ReceiverInfo}
-use Rattle.yp_time.specs.Ticks.{tick_limit}
 use Rattle.yp_time.specs.Instants.{start_in}
-use Rattle.yp_script.specs.declared.command.Laned.{Laned}
-use Rattle.yp_script.specs.declared.fault.ScriptKind.TheVariants as kinds
-use Rattle.yp_script.specs.declared.form.Request.{Request}
-use Rattle.yp_script.specs.declared.form.Request.TheVariants.{Tick, Patch, Policy, Establish, Take}
-use Rattle.yp_script.specs.Asks.{establish_said}
-use Rattle.yp_script.specs.Faults.{Said, said_map, holding, together}
-use Rattle.yp_script.specs.Names.{receiver_number}
-use Rattle.yp_script.specs.Takes.{take_said}
-use Rattle.yp_script.specs.Words.{has_count, text_at, says, where_true, whole_said, whole_there}
+use Rattle.yp_command.specs.declared.command.Request.{Request}
+use Rattle.yp_command.specs.declared.fault.ScriptKind.TheVariants as kinds
+use Rattle.yp_command.specs.Faults.{Said, said_map, holding, together}
+use Rattle.yp_command.specs.Names.{receiver_number}
+use Rattle.yp_command.specs.Requests.{command_said}
+use Rattle.yp_command.specs.Words.{has_count, text_at, says, where_true, whole_said, whole_there}
+use Rattle.yp_script.specs.declared.lane.Laned.{Laned}
 
 -- ---- {"start":T}
 
@@ -75,28 +67,6 @@ receiver_said receivers json =
     if has_receiver_form json
     then name_said receivers json >>= (λ name. user_said json >>= (λ user. said_map (receiver_of name user (takes_itself json)) (places_said receivers json)))
     else Err kinds.Member
-
--- ---- {"tick":T}, {"patch":D} (RFC 8072), {"policy":D} (RFC 8341)
-
-abbrev pub patch_said : Data → Said Command
-patch_said json = said_map commands.Edit (or_fault kinds.Patch (patch_in json))
-
--- what is read of a policy; each of its faults is one and the same fault of the line
-abbrev pub sound : {X : Type 0} → Result X Fault → Said X
-sound (Ok x) = Ok x
-sound (Err fault) = Err kinds.Policy
-
--- a policy is one of the schema that these nodes are
-abbrev pub policy_said : List SchemaNode → Data → Said Command
-policy_said nodes json = said_map commands.Rules (sound (policy_in nodes json))
-
--- a command, by the nodes of the schema, the start and the receivers so far
-abbrev pub command_said : List SchemaNode → Option ℕ → List ReceiverInfo → Request Data → Said Command
-command_said nodes start receivers (Tick json) = said_map commands.Tick (whole_said 0 tick_limit json)
-command_said nodes start receivers (Patch json) = patch_said json
-command_said nodes start receivers (Policy json) = policy_said nodes json
-command_said nodes start receivers (Establish json) = establish_said start receivers json
-command_said nodes start receivers (Take json) = take_said receivers json
 
 -- ---- {"lanes":K}, {"lane":k,"do":C}
 

@@ -1,11 +1,11 @@
 //! The lines of a script, one after another.
 ghost use Rattle.std.specs.Prelude.{◌≡◌, ◌+◌, ◌-◌, ◌^◌, ◌<◌, ◌≤◌, length};
 
-use crate::fault::ScriptKind;
 use crate::lines::{first_line, is_blank_line, json_within};
 use serde_json::Value as Json;
 use std::alloc::Global;
 use yp_base::memory::NoMemory;
+use yp_command::fault::ScriptKind;
 
 /// The most lines of a script.
 const LINE_LIMIT: u32 = 100_000;

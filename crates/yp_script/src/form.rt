@@ -1,26 +1,13 @@
 //! The forms of a script's lines.
 ghost use Rattle.std.specs.Prelude.{◌≡◌, option_map};
 ghost use Rattle.serde_json.specs.View.{view};
-ghost use Rattle.yp_script.specs.Forms.{seen_request, seen_form, request_named, request_in, form_named, lane_form, line_form};
+ghost use Rattle.yp_command.specs.Requests.{seen_request};
+ghost use Rattle.yp_script.specs.Forms.{seen_form, form_named, lane_form, line_form};
 
-use crate::words::{has_count, sole_member};
 use serde_json::Value as Json;
 use yp_base::json::member;
-
-/// A command that a line asks for, with the value of its member.
-#[derive(Clone, Copy)]
-pub enum Request<V> {
-    /// Time goes on.
-    Tick(V),
-    /// A patch of the datastore (RFC 8072).
-    Patch(V),
-    /// A policy of access control (RFC 8341).
-    Policy(V),
-    /// A subscription is asked for (RFC 8639 section 2.4.2).
-    Establish(V),
-    /// A receiver takes packets from its queue.
-    Take(V),
-}
+use yp_command::command::{Request, request_in, request_named};
+use yp_command::words::{has_count, sole_member};
 
 /// The form of a line, with the values that stand in it.
 #[derive(Clone, Copy)]
@@ -39,35 +26,6 @@ pub enum Form<V> {
     Lane(V, Request<V>),
     /// The end of the lanes.
     Join(V),
-}
-
-/// The command that a member of this name asks for.
-fn request_named<'a>(name: &str, value: &'a Json) -> Option<Request<&'a Json>>
-    ensures { option_map seen_request result ≡ request_named name.now (view value.now) }
-{
-    if name == "tick" {
-        Some(Request::Tick(value))
-    } else if name == "patch" {
-        Some(Request::Patch(value))
-    } else if name == "policy" {
-        Some(Request::Policy(value))
-    } else if name == "establish" {
-        Some(Request::Establish(value))
-    } else if name == "take" {
-        Some(Request::Take(value))
-    } else {
-        None
-    }
-}
-
-/// The command that an object of one member asks for.
-fn request_in(json: &Json) -> Option<Request<&Json>>
-    ensures { option_map seen_request result ≡ request_in (view json.now) }
-{
-    match sole_member(json) {
-        Some((name, value)) => request_named(name, value),
-        None => None,
-    }
 }
 
 /// The form of a line whose only member has this name.

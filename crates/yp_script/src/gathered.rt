@@ -1,9 +1,10 @@
 //! Commands that a reader gathers.
 ghost use Rattle.std.specs.Prelude.{◌≡◌, ◌<◌, ◌≤◌, ◌++◌, ◌∷◌, [], All, IfOk, OnOk, OnErr, map, replicate, vec_len};
-ghost use Rattle.yp_script.specs.Commands.{IsBounded, AreBounded};
+ghost use Rattle.yp_command.specs.Commands.{IsBounded};
+ghost use Rattle.yp_script.specs.Commands.{AreBounded};
 ghost use Rattle.yp_script.specs.Script.{in_lane};
 
-use crate::command::Laned;
+use crate::lane::Laned;
 use crate::script::Lanes;
 use std::alloc::Global;
 use yp_base::memory::NoMemory;

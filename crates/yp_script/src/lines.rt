@@ -1,14 +1,14 @@
 //! Lines of a text and their JSON.
 ghost use Rattle.std.specs.Prelude.{◌≡◌, ◌≢◌, ◌-◌, ℕ, ◌<◌, ◌≤◌, ◌∷◌, length, take, slice_index, IfOk, option_map};
 ghost use Rattle.serde_json.specs.View.{view};
-ghost use Rattle.yp_script.specs.Faults.{said_map};
+ghost use Rattle.yp_command.specs.Faults.{said_map};
 ghost use Rattle.yp_script.specs.Lines.{pieces_of, without_feed, is_blank, json_of, json_in};
 
-use crate::fault::ScriptKind;
 use memchr::memchr;
 use serde_json::Value as Json;
 use std::alloc::{AllocError, Global};
 use yp_base::memory::NoMemory;
+use yp_command::fault::ScriptKind;
 
 /// The most bytes of a line of a script, its line feed aside.
 const MOST_LINE_BYTES: usize = 65_536;

@@ -5,10 +5,11 @@ ghost use Rattle.serde_json.specs.View.{view};
 ghost use Rattle.yp_schema.specs.Reading.{schema_of};
 ghost use Rattle.yp_script.specs.Readings.{Gives, IsFault, at_part};
 
-use crate::fault::{ScriptFault, ScriptKind};
+use crate::fault::ScriptFault;
 use serde_json::Value as Json;
 use std::alloc::Global;
 use yp_base::memory::NoMemory;
+use yp_command::fault::ScriptKind;
 use yp_schema::fault::SchemaFault;
 use yp_schema::schema::Schema;
 

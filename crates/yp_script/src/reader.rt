@@ -4,22 +4,24 @@ ghost use Rattle.std.specs.Option.{ForSome};
 ghost use Rattle.yp_time.specs.Instants.{IsStart};
 ghost use Rattle.yp_script.specs.Script.{complete_start};
 
-use crate::command::{lane_command, read_command};
 use crate::cursor::Line;
-use crate::fault::{ScriptFault, ScriptKind};
-use crate::form::{Form, Request, line_form};
+use crate::fault::ScriptFault;
+use crate::form::{Form, line_form};
 use crate::gathered::{Gathered, empty_lanes, lanes_of, push_in};
-use crate::halt::{Halt, beside};
+use crate::lane::lane_command;
 use crate::parts::Parts;
 use crate::receiver::read_receiver;
-use crate::receivers::Receivers;
 use crate::script::Script;
 use crate::stage::{Stage, is_complete, next_stage};
 use crate::start::read_start;
-use crate::words::{is_yes, whole};
 use serde_json::Value as Json;
 use std::alloc::Global;
 use yp_base::memory::NoMemory;
+use yp_command::command::{Request, read_command};
+use yp_command::fault::ScriptKind;
+use yp_command::halt::{Halt, beside};
+use yp_command::receivers::Receivers;
+use yp_command::words::{is_yes, whole};
 use yp_journal::command::Command;
 use yp_time::start::Start;
 
@@ -46,15 +48,17 @@ impl Reader {
     ghost use Rattle.yp_schema.specs.WellFormed.{IsSchema};
     ghost use Rattle.yp_schema.specs.declared.schema.SchemaNode.{SchemaNode};
     ghost use Rattle.yp_time.specs.Instants.{IsStart};
-    ghost use Rattle.yp_script.specs.Commands.{IsBounded, HasBounds};
+    ghost use Rattle.yp_command.specs.Commands.{IsBounded};
+    ghost use Rattle.yp_command.specs.Faults.{said_map};
+    ghost use Rattle.yp_command.specs.Readings.{Tells};
+    ghost use Rattle.yp_command.specs.Requests.{seen_request, command_said};
+    ghost use Rattle.yp_script.specs.Commands.{HasBounds};
     ghost use Rattle.yp_script.specs.Cursor.{seen_line};
-    ghost use Rattle.yp_script.specs.Faults.{said_map};
-    ghost use Rattle.yp_script.specs.Forms.{seen_form, seen_request};
+    ghost use Rattle.yp_script.specs.Forms.{seen_form};
     ghost use Rattle.yp_script.specs.Order.{next_stage};
     ghost use Rattle.yp_script.specs.Readers.{progress_with, schema_in, progress_in, progress_by, script_by, Adds, Takes, Goes, Steps};
-    ghost use Rattle.yp_script.specs.Readings.{Gives, IsFault, Tells};
+    ghost use Rattle.yp_script.specs.Readings.{Gives, IsFault};
     ghost use Rattle.yp_script.specs.Script.{Progress, no_progress, with_command, with_laned, taken, at_stage, form_taken, line_taken};
-    ghost use Rattle.yp_script.specs.Values.{command_said};
     ghost use Rattle.yp_script.specs.declared.form.Form.TheVariants as forms;
 
     /// Before the first line.

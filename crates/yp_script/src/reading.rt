@@ -13,7 +13,7 @@ use crate::fault::ScriptFault;
 use crate::reader::Reader;
 use crate::script::Script;
 use std::alloc::Global;
-use yp_nacm_text::laws::a_read_policy_is_of_its_schema;
+use yp_command::laws::a_read_command_may_come;
 
 /// Reads the script of a text.
 fn read_text(alloc: Global, text: &[u8]) -> Result<Script, ScriptFault>
@@ -47,8 +47,8 @@ pub fn read_script(alloc: Global, bytes: &[u8]) -> Result<Script, ScriptFault>
     ensures lanes { IfOk result (λ script. length script.lanes ≤ 64) }
     ensures count { IfOk result (λ script. count_commands script ≤ line_limit) }
 {
-    // The paths of a policy are of the schema by which it is read.
-    a_read_policy_is_of_its_schema();
+    // Each command may come in a journal of the schema and the receivers by which it is read.
+    a_read_command_may_come();
     let (text, _) = bytes.split_at(bytes.len().min(BYTE_LIMIT + 1));
     read_text(alloc, text)
 }

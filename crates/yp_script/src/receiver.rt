@@ -1,18 +1,18 @@
 //! Receiver lines.
 ghost use Rattle.std.specs.Prelude.{◌≡◌, ◌<◌, ◌≤◌, None, IfOk, OnOk, IfSome, length, option_map, codes};
 ghost use Rattle.serde_json.specs.View.{view};
-ghost use Rattle.yp_script.specs.Readings.{Tells};
-ghost use Rattle.yp_script.specs.Names.{receiver_number};
+ghost use Rattle.yp_command.specs.Names.{receiver_number};
+ghost use Rattle.yp_command.specs.Readings.{Tells};
+ghost use Rattle.yp_command.specs.Words.{where_true, text_at};
 ghost use Rattle.yp_script.specs.Values.{is_receiver_name, is_user_name, is_new_name, places_said, receiver_said};
-ghost use Rattle.yp_script.specs.Words.{where_true, text_at};
 
-use crate::fault::ScriptKind;
-use crate::halt::{Halt, least};
-use crate::receivers::Receivers;
-use crate::words::{has_count, says, text_in, text_of, whole_there};
 use serde_json::Value as Json;
 use std::alloc::Global;
 use yp_base::json::member;
+use yp_command::fault::ScriptKind;
+use yp_command::halt::{Halt, least};
+use yp_command::receivers::Receivers;
+use yp_command::words::{has_count, says, text_in, text_of, whole_there};
 use yp_journal::receiver::ReceiverInfo;
 
 /// The most receivers of a script.

@@ -1,7 +1,7 @@
 //! Scripts.
 
-use crate::receivers::Receivers;
 use yp_base::series::Series;
+use yp_command::receivers::Receivers;
 use yp_journal::command::Commands;
 use yp_schema::schema::Schema;
 use yp_time::start::Start;

@@ -2,12 +2,12 @@
 ghost use Rattle.std.specs.Prelude.{◌≡◌, IfOk};
 ghost use Rattle.serde_json.specs.View.{view};
 ghost use Rattle.yp_time.specs.Instants.{IsStart};
-ghost use Rattle.yp_script.specs.Readings.{Tells};
+ghost use Rattle.yp_command.specs.Readings.{Tells};
 ghost use Rattle.yp_script.specs.Values.{start_said};
 
-use crate::fault::ScriptKind;
-use crate::halt::Halt;
 use serde_json::Value as Json;
+use yp_command::fault::ScriptKind;
+use yp_command::halt::Halt;
 use yp_time::instant::InstantFault;
 use yp_time::start::Start;
 

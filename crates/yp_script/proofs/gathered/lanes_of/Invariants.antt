@@ -1,7 +1,7 @@
 use Rattle.std.proofs.Common.{◌≡◌, map}
 use Rattle.std.specs.Prelude.{All}
-use Rattle.yp_script.specs.Commands.{AreBounded}
 use Rattle.yp_script.specs.declared.gathered.Gathered.{Gathered}
+use Rattle.yp_script.specs.Commands.{AreBounded}
 use Rattle.yp_script.proofs.gathered.lanes_of.Given as goal
 
 abbrev pub invariant-loop-lane : goal.invariant-loop-lane

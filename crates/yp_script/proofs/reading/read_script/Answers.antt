@@ -23,7 +23,7 @@ pub returns-clause-lanes : goal.returns-clause-lanes
 returns-clause-lanes c = read_lanes c.read_text.result (read_keeps c.read_text.result c.split_at.result.0.now c.read_text.ensures.read)
 
 pub returns-clause-commands : goal.returns-clause-commands
-returns-clause-commands c = read_commands c.a_read_policy_is_of_its_schema.ensures c.read_text.result (read_keeps c.read_text.result c.split_at.result.0.now c.read_text.ensures.read) c.read_text.ensures.bounds
+returns-clause-commands c = read_commands c.a_read_command_may_come.ensures c.read_text.result (read_keeps c.read_text.result c.split_at.result.0.now c.read_text.ensures.read) c.read_text.ensures.bounds
 
 pub returns-clause-count : goal.returns-clause-count
 returns-clause-count c = read_count c.read_text.result c.split_at.result.0.now c.read_text.ensures.read

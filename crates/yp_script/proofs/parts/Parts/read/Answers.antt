@@ -4,8 +4,8 @@ use Rattle.serde_json.specs.declared.value.Value.{Value}
 use Rattle.serde_json.specs.View.{view}
 use Rattle.yp_schema.specs.Reading.{schema_of}
 use Rattle.yp_schema.specs.Rounds.{fault_at}
+use Rattle.yp_command.specs.declared.fault.ScriptKind.TheVariants.{Schema}
 use Rattle.yp_script.specs.Readings.{at_part}
-use Rattle.yp_script.specs.declared.fault.ScriptKind.TheVariants.{Schema}
 use Rattle.yp_script.proofs.PartLaws.{fault_within, line_there}
 use Rattle.yp_script.proofs.parts.Parts.read.Goals as goal
 

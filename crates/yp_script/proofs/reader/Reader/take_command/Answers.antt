@@ -1,8 +1,8 @@
 use Rattle.std.proofs.Common.{map, ap}
 use Rattle.serde_json.specs.View.{view}
 use Rattle.yp_schema.specs.Reading.{schema_of}
+use Rattle.yp_command.specs.Requests.{seen_request}
 use Rattle.yp_script.specs.declared.parts.Parts.{Parts}
-use Rattle.yp_script.specs.Forms.{seen_request}
 use Rattle.yp_script.specs.Readings.{at_part}
 use Rattle.yp_script.proofs.CommandLaws.{added_command}
 use Rattle.yp_script.proofs.reader.Reader.take_command.Goals as goal

@@ -2,12 +2,11 @@ use Rattle.std.proofs.Common.{◌≡◌, List, refl, sym, subst, ◌∙◌, leng
 use Rattle.std.proofs.lemmas.Result.{err_from_is_err_and}
 use Rattle.serde_json.specs.View.{view}
 use Rattle.yp_schema.specs.declared.schema.SchemaNode.{SchemaNode}
-use Rattle.yp_script.specs.declared.command.Laned.{Laned}
-use Rattle.yp_script.specs.Faults.{Said}
-use Rattle.yp_script.specs.Forms.{seen_request}
+use Rattle.yp_command.specs.Faults.{Said}
+use Rattle.yp_command.specs.Requests.{seen_request, command_said}
+use Rattle.yp_command.specs.Readings.{Halts}
+use Rattle.yp_script.specs.declared.lane.Laned.{Laned}
 use Rattle.yp_script.specs.Readers.{progress_with}
-use Rattle.yp_script.specs.Readings.{Halts}
-use Rattle.yp_script.specs.Values.{command_said}
 use Rattle.yp_script.proofs.CommandLaws.{Same, laned_read, added_laned, stops_laned}
 use Rattle.yp_script.proofs.reader.Reader.take_laned.Goals as goal
 

@@ -1,0 +1,4 @@
+pub mod Coming
+pub mod KeyLaws
+pub mod ListLaws
+pub mod MemberLaws

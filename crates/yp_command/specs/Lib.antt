@@ -1,0 +1,11 @@
+pub mod Asks
+pub mod CommandLaws
+pub mod Commands
+pub mod Faults
+pub mod NameLaws
+pub mod Names
+pub mod Readings
+pub mod Requests
+pub mod SaidLaws
+pub mod Takes
+pub mod Words

@@ -1,0 +1,113 @@
+//! Commands: which one a member of a line asks for, and what it says.
+ghost use Rattle.std.specs.Prelude.{◌≡◌, IfOk, option_map};
+ghost use Rattle.serde_json.specs.View.{view};
+ghost use Rattle.yp_command.specs.Commands.{IsBounded};
+ghost use Rattle.yp_command.specs.Readings.{Tells};
+ghost use Rattle.yp_command.specs.Requests.{request_named, request_in, seen_request, patch_said, policy_said, command_said};
+
+use crate::ask::read_establish;
+use crate::fault::ScriptKind;
+use crate::halt::Halt;
+use crate::receivers::Receivers;
+use crate::take::read_take;
+use crate::words::{sole_member, whole};
+use serde_json::Value as Json;
+use std::alloc::Global;
+use yp_edit::fault::PatchFault;
+use yp_edit::reading::read_patch;
+use yp_journal::command::Command;
+use yp_nacm_text::fault::PolicyFault;
+use yp_nacm_text::policy::read_policy;
+use yp_schema::schema::Schema;
+use yp_time::start::Start;
+
+/// The last tick.
+const LAST_TICK: u64 = 1_000_000_000_000;
+
+/// A command that a line asks for, with the value of its member.
+#[derive(Clone, Copy)]
+pub enum Request<V> {
+    /// Time goes on.
+    Tick(V),
+    /// A patch of the datastore (RFC 8072).
+    Patch(V),
+    /// A policy of access control (RFC 8341).
+    Policy(V),
+    /// A subscription is asked for (RFC 8639 section 2.4.2).
+    Establish(V),
+    /// A receiver takes packets from its queue.
+    Take(V),
+}
+
+/// The command that a member of this name asks for.
+pub fn request_named<'a>(name: &str, value: &'a Json) -> Option<Request<&'a Json>>
+    ensures { option_map seen_request result ≡ request_named name.now (view value.now) }
+{
+    if name == "tick" {
+        Some(Request::Tick(value))
+    } else if name == "patch" {
+        Some(Request::Patch(value))
+    } else if name == "policy" {
+        Some(Request::Policy(value))
+    } else if name == "establish" {
+        Some(Request::Establish(value))
+    } else if name == "take" {
+        Some(Request::Take(value))
+    } else {
+        None
+    }
+}
+
+/// The command that an object of one member asks for.
+pub fn request_in(json: &Json) -> Option<Request<&Json>>
+    ensures { option_map seen_request result ≡ request_in (view json.now) }
+{
+    match sole_member(json) {
+        Some((name, value)) => request_named(name, value),
+        None => None,
+    }
+}
+
+/// The patch that a line asks for (RFC 8072).
+fn read_edit(alloc: Global, json: &Json) -> Result<Command, Halt>
+    ensures read { Tells result (patch_said (view json.now)) }
+    ensures bounds { IfOk result IsBounded }
+{
+    match read_patch(alloc, json) {
+        Ok(patch) => Ok(Command::Edit(patch)),
+        Err(PatchFault::Shape) => Err(Halt::Fault(ScriptKind::Patch)),
+        Err(PatchFault::Memory) => Err(Halt::Memory),
+    }
+}
+
+/// The policy that a line asks for (RFC 8341 section 3.5).
+fn read_rules(alloc: Global, schema: &Schema, json: &Json) -> Result<Command, Halt>
+    ensures read { Tells result (policy_said schema.now (view json.now)) }
+    ensures bounds { IfOk result IsBounded }
+{
+    match read_policy(alloc, schema, json) {
+        Ok(policy) => Ok(Command::Rules(policy)),
+        Err(PolicyFault::At { .. }) => Err(Halt::Fault(ScriptKind::Policy)),
+        Err(PolicyFault::Memory) => Err(Halt::Memory),
+    }
+}
+
+/// The command that a line asks for, by the schema, the start and the receivers so far.
+pub fn read_command(
+    alloc: Global,
+    schema: &Schema,
+    start: Option<Start>,
+    receivers: &Receivers,
+    request: Request<&Json>,
+) -> Result<Command, Halt>
+    ensures read { Tells result (command_said schema.now start receivers.now (seen_request request.entry)) }
+    ensures bounds { IfOk result IsBounded }
+{
+    match request {
+        Request::Tick(json) => Ok(Command::Tick(whole(json, 0, LAST_TICK)?)),
+        Request::Patch(json) => read_edit(alloc, json),
+        Request::Policy(json) => read_rules(alloc, schema, json),
+        Request::Establish(json) => read_establish(alloc, start, receivers, json),
+        Request::Take(json) => read_take(receivers, json),
+    }
+}

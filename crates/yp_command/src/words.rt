@@ -1,0 +1,141 @@
+//! The members of a line's JSON.
+ghost use Rattle.std.specs.Prelude.{◌≡◌, ◌≤◌, option_map, is_some, IfOk};
+ghost use Rattle.serde_json.specs.Find.{as_str};
+ghost use Rattle.serde_json.specs.View.{view, members_view};
+ghost use Rattle.serde_json.specs.Events.{members_len};
+ghost use Rattle.yp_command.specs.Words.{seen_member, first_member, sole_member, has_count, text_at, says, is_text, whole_said, whole_there, is_yes};
+
+use crate::fault::ScriptKind;
+use serde_json::{Map, Value as Json};
+use std::alloc::Global;
+use yp_base::json::member;
+use yp_base::memory::NoMemory;
+use yp_base::txt::Txt;
+
+/// How many members an object has.
+fn count(members: &Map<String, Json>) -> usize
+    ensures { result ≡ members_len (members_view members.now.entries) }
+{
+    members.len()
+}
+
+/// Whether it is an object of so many members.
+pub fn has_count(json: &Json, many: usize) -> bool
+    ensures { result ≡ has_count many (view json.now) }
+{
+    match json {
+        Json::Object(members) => count(members) == many,
+        _ => false,
+    }
+}
+
+/// The first member of an object: its name and its value.
+fn first_member(members: &Map<String, Json>) -> Option<(&str, &Json)>
+    ensures { option_map seen_member result ≡ first_member (members_view members.now.entries) }
+{
+    match members.first_key_value() {
+        Some((name, value)) => Some((name.as_str(), value)),
+        None => None,
+    }
+}
+
+/// The only member of an object that has just one: its name and its value.
+pub fn sole_member(json: &Json) -> Option<(&str, &Json)>
+    ensures { option_map seen_member result ≡ sole_member (view json.now) }
+{
+    match json {
+        Json::Object(members) => {
+            if count(members) == 1 {
+                first_member(members)
+            } else {
+                None
+            }
+        }
+        _ => None,
+    }
+}
+
+/// The text that a member of this name is.
+pub fn text_in<'a>(json: &'a Json, name: &str) -> Option<&'a str>
+    ensures { option_map (λ text. text.now) result ≡ text_at name.now (view json.now) }
+{
+    match member(json, name) {
+        Some(value) => value.as_str(),
+        None => None,
+    }
+}
+
+/// Whether it is this text.
+pub fn is_text(json: &Json, word: &str) -> bool
+    ensures { result ≡ is_text (as_str (view json.now)) word.now }
+{
+    match json.as_str() {
+        Some(text) => text == word,
+        None => false,
+    }
+}
+
+/// A text of its own.
+pub fn text_of(alloc: Global, text: &str) -> Result<Txt, NoMemory>
+    ensures { IfOk result (λ made. made ≡ text.now) }
+{
+    Ok(Txt::from_string(String::from_str(alloc, text)?))
+}
+
+/// Whether a member is this text.
+pub fn says(json: &Json, name: &str, word: &str) -> bool
+    ensures { result ≡ says name.now word.now (view json.now) }
+{
+    match text_in(json, name) {
+        Some(text) => text == word,
+        None => false,
+    }
+}
+
+/// A whole number within bounds: `Limit` where it lies outside, `Member` where it is none.
+pub fn whole(json: &Json, low: u64, high: u64) -> Result<u64, ScriptKind>
+    ensures read { result ≡ whole_said low high (view json.now) }
+    ensures low { IfOk result (λ number. low ≤ number) }
+    ensures high { IfOk result (λ number. number ≤ high) }
+{
+    match json {
+        Json::Number(number) => match number.as_u64() {
+            Some(whole) => {
+                if low <= whole && whole <= high {
+                    Ok(whole)
+                } else {
+                    Err(ScriptKind::Limit)
+                }
+            }
+            None => {
+                if number.is_i64() {
+                    Err(ScriptKind::Limit)
+                } else {
+                    Err(ScriptKind::Member)
+                }
+            }
+        },
+        _ => Err(ScriptKind::Member),
+    }
+}
+
+/// A whole number within bounds that may not be left out.
+pub fn whole_there(json: Option<&Json>, low: u64, high: u64) -> Result<u64, ScriptKind>
+    ensures read { result ≡ whole_there low high (option_map (λ json. view json.now) json.entry) }
+    ensures high { IfOk result (λ number. number ≤ high) }
+{
+    match json {
+        Some(json) => whole(json, low, high),
+        None => Err(ScriptKind::Member),
+    }
+}
+
+/// Whether it is the word `true`.
+pub fn is_yes(json: &Json) -> bool
+    ensures { result ≡ is_yes (view json.now) }
+{
+    match json {
+        Json::Bool(yes) => *yes,
+        _ => false,
+    }
+}
