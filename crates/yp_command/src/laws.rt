@@ -3,7 +3,7 @@ ghost use Rattle.yp_command.specs.Commands.{CommandsMayCome};
 
 use yp_nacm_text::laws::a_read_policy_is_of_its_schema;
 
-/// A command within its bounds may come in a journal of the schema and the receivers by which it was read.
+/// A command of a schema and of receivers that is within its bounds may come in a journal of them.
 pub fn a_read_command_may_come()
     ensures { CommandsMayCome }
 {
