@@ -1,0 +1,5 @@
+pub mod Bodies
+pub mod Envelope
+pub mod Grammar
+pub mod Readings
+pub mod Sound
