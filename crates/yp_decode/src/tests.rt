@@ -121,15 +121,15 @@ fn a_change_update_has_its_edits_in_order(rt: HostRuntime) -> Result<(), Fail> {
     let line = line_of(alloc, "ietf-yang-push:push-change-update", CHANGES)?;
     let heard = read_line(alloc, &schema, line.as_bytes())?;
     assert_eq!(rt; heard.time.as_str(), "2026-01-01T00:00:00Z");
-    match heard.notice {
+    match &heard.notice {
         Notice::Changes {
             patch_id,
             changes,
             incomplete,
             ..
         } => {
-            assert_eq!(rt; patch_id, 18446744073709551615);
-            assert!(rt; incomplete);
+            assert_eq!(rt; *patch_id, 18446744073709551615);
+            assert!(rt; *incomplete);
             assert_eq!(rt; changes.len(), 3);
             for (change, (kind, segments, rows)) in changes.items().iter().zip(&[
                 (ChangeKind::Delete, 1, 0),
