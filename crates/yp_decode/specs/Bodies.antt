@@ -1,6 +1,6 @@
 -- The bodies of notices in JSON, each of its members and nothing else (RFC 8641 section 3.7, RFC 8639 section 2.7, RFC 8072 section 2).
 -- Targets are texts yet and data is JSON yet: `Grammar.antt` reads them.
-use Rattle.std.specs.Prelude.{ℕ, ◌+◌, ◌-◌, ◌^◌, ◌==◌, ◌&&◌, List, [], ◌∷◌, Bool, true, false, Option, Some, None, option_map, option_and_then, map, if◌then◌else◌, unsigned_abs, codes, decimal}
+use Rattle.std.specs.Prelude.{ℕ, ◌-◌, ◌^◌, ◌==◌, ◌&&◌, List, [], ◌∷◌, Bool, true, false, Option, Some, None, option_map, option_and_then, map, if◌then◌else◌, unsigned_abs, codes, decimal}
 use Rattle.serde_json.specs.Data.{Data, Items, no_items, item, Members}
 use Rattle.serde_json.specs.Events.{members_len}
 use Rattle.serde_json.specs.Find.{get_member, as_number, as_u64, as_object, as_array}

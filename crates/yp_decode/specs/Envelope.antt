@@ -8,7 +8,6 @@ use Rattle.serde_json.specs.Read.{read as read_text}
 use Rattle.yp_base.specs.Json.{text_member}
 use Rattle.yp_base.specs.Types.{same_text}
 use Rattle.yp_time.specs.Instants.{event_in}
-use Rattle.yp_decode.specs.declared.envelope.StateChange.{StateChange}
 use Rattle.yp_decode.specs.declared.envelope.StateChange.TheVariants.{Started, Modified, Suspended, Resumed, Terminated}
 use Rattle.yp_decode.specs.declared.envelope.NoticeKind.{NoticeKind}
 use Rattle.yp_decode.specs.declared.envelope.NoticeKind.TheVariants.{Full, Changes, State}

@@ -1,5 +1,5 @@
 -- What a line tells, or its fault. Faults are looked for over the whole line in the order of their kinds, so the least kind of fault that it has is told.
-use Rattle.std.specs.Prelude.{ℕ, List, [], ◌∷◌, Option, Some, None, Result, Ok, Err, option_and_then, if◌then◌else◌}
+use Rattle.std.specs.Prelude.{ℕ, List, [], ◌∷◌, None, Result, Ok, Err, if◌then◌else◌}
 use Rattle.serde_json.specs.Data.{Data, Members}
 use Rattle.serde_json.specs.Find.{as_object}
 use Rattle.yp_base.specs.declared.notice.Change.{Change}
@@ -27,7 +27,7 @@ use Rattle.yp_decode.specs.declared.fault.StreamFault.TheVariants.{NotJson, Enve
 use Rattle.yp_decode.specs.declared.fault.TargetFault.TheVariants.{Path as BadPath, KeyLeaf}
 use Rattle.yp_decode.specs.declared.line.Heard.{Heard}
 use Rattle.yp_decode.specs.Envelope.{Envelope, json_of, envelope_in, kind_named}
-use Rattle.yp_decode.specs.Bodies.{EditBody, ChangesBody, full_in, changes_in, state_in}
+use Rattle.yp_decode.specs.Bodies.{EditBody, full_in, changes_in, state_in}
 
 -- ---- targets
 
