@@ -8,6 +8,15 @@ use Rattle.yp_live.proofs.Results.{when_ok}
 use Rattle.yp_live.proofs.Turning.{none_took, number_below, one_took}
 use Rattle.yp_live.proofs.run.take_by.Goals as goal
 
+pub index_mut-requires : goal.index_mut-requires
+index_mut-requires c =
+    let receivers = c.requires.1.0 in
+    let receiver = c.in-Take.receiver in
+    let may : IsTakeOf receivers receiver c.in-Take.count = subst (λ (k : Command). MayCome c.requires.0 receivers k) c.in-Take.is c.requires.1.1.0 in
+    let below : receiver < length receivers = number_below receivers receiver may.info may.there in
+    let same : length receivers ≡ length c.args.desks.now.items = c.requires.1.1.1 in
+    omega (arith, below, same)
+
 pub returns-in-Take : goal.returns-in-Take
 returns-in-Take c =
     let desks = c.args.desks.now.items in
