@@ -19,13 +19,14 @@ class Parsing:
     and parses and writes again the lines of its report, by the same JSON reader and writer.
 
     The script may take `most_over_floor` times the floor's time, and as much memory as six times script and report
-    together.
+    together. Where `takes_all` is false, its receivers take nothing.
     """
 
     name: str
     maker: str
     words: list[str] = field(default_factory=list)
     most_over_floor: float = MOST_OVER_FLOOR
+    takes_all: bool = True
 
     def measure(self, program: pathlib.Path) -> tuple[int, Cost, Cost | None]:
         """The bytes of script and report, and what the program and the floor took, in turns."""
@@ -34,7 +35,7 @@ class Parsing:
         runs, floors = [], []
         for _ in range(RUNS):
             runs.append(run_once([str(program), "run"], script, output))
-            look(script, output)
+            look(script, output, self.takes_all)
             if FLOOR.is_file():
                 floors.append(run_floor(script, output))
         size = script.stat().st_size + output.stat().st_size
