@@ -1,0 +1,77 @@
+-- Rows of a subscription that are written where they are held.
+use Rattle.std.proofs.Common.{◌≡◌, ℕ, ◌+◌, ◌<◌, ◌++◌, length, take, get_or, Bool, true, false, List, [], ◌∷◌, Option, Some, None, refl, sym, ap, ◌∙◌, cond, inl}
+use Rattle.std.specs.BTreeMap.{insert_entry, is_at}
+use Rattle.std.specs.List.Sorted.{IsStrictlySortedBy}
+use Rattle.std.specs.Map.{keys_of, lookup, set_value}
+use Rattle.std.specs.Ordering.{nat_cmp, is_eq, match_ordering}
+use Rattle.std.specs.Prelude.{Result, Ok, Err, OnOk, OnErr}
+use Rattle.std.specs.declared.cmp.Ordering.{Ordering}
+use Rattle.std.specs.declared.cmp.Ordering.TheVariants.{Less, Equal, Greater}
+use Rattle.std.proofs.lemmas.Cmp.{nat_cmp_total}
+use Rattle.std.proofs.lemmas.List.{take_more}
+use Rattle.std.proofs.lemmas.Map.{NonePasses}
+use Rattle.std.proofs.lemmas.Map.Entries.{none_below_head}
+use Rattle.std.proofs.lemmas.Map.Keys.{sorted_tail}
+use Rattle.yp_base.specs.declared.notice.Change.{Change}
+use Rattle.yp_base.specs.declared.notice.Notice.{Notice}
+use Rattle.yp_base.specs.declared.notice.Notice.TheVariants.{Full, Changes, Started, Modified, Suspended, Resumed, Terminated}
+use Rattle.yp_base.specs.declared.row.Row.{Row}
+use Rattle.yp_base.specs.Rows.{changed_by, put_rows, rows_without}
+use Rattle.yp_decode.specs.declared.fault.StreamFault.{StreamFault}
+use Rattle.yp_decode.specs.declared.line.Heard.{Heard}
+use Rattle.yp_receiver.specs.Held.{HearsPart, TakesPart}
+
+pub when_ok : {X E : Type 0} {A C : Type 0} (r : Result X E) → OnOk r A → (A → C) → OnOk r C
+when_ok (Ok x) a f = f a
+when_ok (Err e) a f = tt
+
+module _ {X : Type 0} where
+  none_found : (test : ℕ → Bool) (es : List (ℕ × X)) → NonePasses test es → lookup test es ≡ None
+  none_found test [] none = refl
+  none_found test (e ∷ es) none = ap (λ b. cond b (Some e.1) (lookup test es)) none.0 ∙ none_found test es none.1
+
+  found_at : (o : Ordering) (id : ℕ) (old rows : X) (e : ℕ × X) (es : List (ℕ × X)) → nat_cmp id e.0 ≡ o → IsStrictlySortedBy nat_cmp (keys_of (e ∷ es))
+      → cond (is_eq o) (Some e.1) (lookup (is_at (nat_cmp id)) es) ≡ Some old
+      → (lookup (is_at (nat_cmp id)) es ≡ Some old → set_value (is_at (nat_cmp id)) es rows ≡ insert_entry nat_cmp es id rows)
+      → cond (is_eq o) ((e.0, rows) ∷ es) (e ∷ set_value (is_at (nat_cmp id)) es rows) ≡ match_ordering o ((id, rows) ∷ e ∷ es) ((e.0, rows) ∷ es) (e ∷ insert_entry nat_cmp es id rows)
+  found_at Less id old rows e es is sorted found later =
+      let none = none_below_head nat_cmp_total id e es sorted is in
+      let wrong : None ≡ Some old = sym (none_found (is_at (nat_cmp id)) es none.1) ∙ found in
+      cc
+  found_at Equal id old rows e es is sorted found later = refl
+  found_at Greater id old rows e es is sorted found later = ap (λ (rest : List (ℕ × X)). e ∷ rest) (later found)
+
+  -- to write where an id is found is to set it
+  pub set_there : (id : ℕ) (old rows : X) (es : List (ℕ × X)) → IsStrictlySortedBy nat_cmp (keys_of es) → lookup (is_at (nat_cmp id)) es ≡ Some old
+      → set_value (is_at (nat_cmp id)) es rows ≡ insert_entry nat_cmp es id rows
+  set_there id old rows [] sorted found = let wrong : None ≡ Some old = found in cc
+  set_there id old rows (e ∷ es) sorted found =
+      found_at (nat_cmp id e.0) id old rows e es refl sorted found (set_there id old rows es (sorted_tail nat_cmp e.0 (keys_of es) sorted))
+
+-- ---- edits one after another
+
+changed_on : (some more : List Change) (rows : List Row) → changed_by (some ++ more) rows ≡ changed_by more (changed_by some rows)
+changed_on [] more rows = refl
+changed_on (change ∷ some) more rows = changed_on some more (put_rows change.rows (rows_without change.target rows))
+
+-- one more edit
+pub one_more : (changes : List Change) (i : ℕ) (change : Change) (before rows after : List Row) → i < length changes → change ≡ get_or changes i change → rows ≡ changed_by (take i changes) before
+    → after ≡ put_rows change.rows (rows_without change.target rows) → after ≡ changed_by (take (i + 1) changes) before
+one_more changes i change before rows after here at so_far is =
+    is ∙ ap (λ (rs : List Row). put_rows change.rows (rows_without change.target rs)) so_far
+    ∙ sym (ap (λ (cs : List Change). changed_by cs before) (take_more changes i change here ∙ ap (λ (c : Change). take i changes ++ c ∷ []) (sym at)) ∙ changed_on (take i changes) (change ∷ []) before)
+
+-- ---- where nothing was heard
+
+pub unheard : (notice : Notice) (before after : List (ℕ × List Row)) → after ≡ before → HearsPart notice before after
+unheard (Full id rows) before after same = same
+unheard (Changes id patch_id changes incomplete) before after same = inl same
+unheard (Started id) before after same = same
+unheard (Modified id) before after same = same
+unheard (Suspended id) before after same = same
+unheard (Resumed id) before after same = same
+unheard (Terminated id) before after same = same
+
+pub untaken : (line : Result Heard StreamFault) (before after : List (ℕ × List Row)) → after ≡ before → TakesPart line before after
+untaken (Ok heard) before after same = unheard heard.notice before after same
+untaken (Err fault) before after same = same

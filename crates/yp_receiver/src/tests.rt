@@ -1,0 +1,82 @@
+//! What a receiver holds after lines of each kind, a faulty one among them.
+use crate::receiver::Receiver;
+use serde_json::Value as Json;
+use std::alloc::{AllocError, Global};
+use std::test::Fail;
+use yp_schema::schema::Schema;
+
+// Ports with a name and an mtu.
+const PORTS: &str =
+    r#"[{"path":"/acme:port","kind":"list","keys":["name"]},{"path":"/acme:port/name","kind":"leaf","type":"string"},{"path":"/acme:port/mtu","kind":"leaf","type":"uint16"}]"#;
+
+const FULL: &str =
+    r#"{"id":9,"datastore-contents":{"acme:port":[{"name":"lo","mtu":65535},{"name":"eth0"}]}}"#;
+
+const CHANGES: &str =
+    r#"{"id":9,"datastore-changes":{"yang-patch":{"patch-id":"1","edit":[{"edit-id":"1","operation":"replace","target":"/acme:port=lo","value":{"acme:port":[{"name":"lo"}]}},{"edit-id":"2","operation":"delete","target":"/acme:port=eth0"},{"edit-id":"3","operation":"create","target":"/acme:port=eth1/mtu","value":{"acme:mtu":9000}}]}}}"#;
+
+const FIRST: &str =
+    r#"{"id":7,"datastore-changes":{"yang-patch":{"patch-id":"2","edit":[{"edit-id":"1","operation":"create","target":"/acme:port=eth2","value":{"acme:port":[{"name":"eth2","mtu":1500}]}}]}}}"#;
+
+const SMALL: &str = r#"{"id":9,"datastore-contents":{}}"#;
+
+fn ports(alloc: Global) -> Result<Schema, Fail> {
+    let mut parts = Vec::new(alloc);
+    parts.push(Json::from_str(alloc, PORTS)?)?;
+    Ok(Schema::read(alloc, parts.as_slice())?)
+}
+
+// The line of a notice of this name and body.
+fn line_of(alloc: Global, name: &str, body: &str) -> Result<String, AllocError> {
+    format!(in alloc;
+        "{{\"ietf-restconf:notification\":{{\"eventTime\":\"2026-01-01T00:00:00Z\",\"{name}\":{body}}}}}"
+    )
+}
+
+// How many rows are held of a subscription, where it had an update.
+fn count(receiver: &Receiver, id: u32) -> Option<usize> {
+    match receiver.tree(id) {
+        Some(rows) => Some(rows.len()),
+        None => None,
+    }
+}
+
+#[test]
+fn lines_make_the_rows_of_each_subscription(rt: HostRuntime) -> Result<(), Fail> {
+    let alloc = rt.alloc();
+    let schema = ports(alloc)?;
+    let mut receiver = Receiver::new(alloc);
+    for (name, body, is_taken, of_nine, of_seven) in [
+        (
+            "ietf-subscribed-notifications:subscription-started",
+            r#"{"id":9}"#,
+            true,
+            None,
+            None,
+        ),
+        ("ietf-yang-push:push-update", FULL, true, Some(3), None),
+        ("ietf-yang-push:push-change-update", CHANGES, true, Some(2), None),
+        ("ietf-yang-push:push-change-update", FIRST, true, Some(2), Some(2)),
+        ("acme:started", r#"{"id":9}"#, false, Some(2), Some(2)),
+        ("ietf-yang-push:push-update", SMALL, true, Some(0), Some(2)),
+        (
+            "ietf-subscribed-notifications:subscription-resumed",
+            r#"{"id":7}"#,
+            true,
+            Some(0),
+            Some(2),
+        ),
+    ] {
+        let line = line_of(alloc, name, body)?;
+        let taken = receiver.take_line(alloc, &schema, line.as_bytes());
+        assert_eq!(rt; taken.is_ok(), is_taken, "{line}");
+        assert_eq!(rt; count(&receiver, 9), of_nine, "{line}");
+        assert_eq!(rt; count(&receiver, 7), of_seven, "{line}");
+    }
+    let ids = receiver.ids(alloc)?;
+    assert_eq!(rt; ids.len(), 2);
+    for (id, want) in ids.as_slice().iter().zip(&[7, 9]) {
+        assert_eq!(rt; *id, *want);
+    }
+    Ok(())
+}
