@@ -14,6 +14,7 @@ use Rattle.yp_base.specs.declared.path.Seg.{Seg}
 use Rattle.yp_base.specs.declared.row.Row.{Row}
 use Rattle.yp_base.specs.Results.{◌>>=◌, or_fault}
 use Rattle.yp_schema.specs.declared.schema.SchemaNode.{SchemaNode}
+use Rattle.yp_schema.specs.WellFormed.{IsSchema}
 use Rattle.yp_schema.specs.Datastore.{AreWhole, is_path_of}
 use Rattle.yp_path.specs.Targets.{target_in, target_text, has_texts}
 use Rattle.yp_data_json.specs.AtPath.{rows_read}
@@ -27,8 +28,9 @@ use Rattle.yp_decode.specs.declared.fault.StreamFault.TheVariants.{NotJson}
 use Rattle.yp_decode.specs.declared.line.Heard.{Heard}
 use Rattle.yp_decode.specs.Grammar.{heard_in, line_heard}
 use Rattle.yp_receiver.specs.Held.{hears, notices_heard, told, lines_heard}
-use Rattle.yp_receiver.specs.Hearable.{subscription_of, IsHearable, tells_state, HasReadableBody, IsTold}
+use Rattle.yp_receiver.specs.Hearable.{subscription_of, IsHearable, tells_state, HasReadableText, IsTold}
 use Rattle.yp_receiver.specs.Readable.{IsReadable}
+use Rattle.yp_receiver.proofs.Bodies.{body_readable}
 use Rattle.yp_receiver.proofs.Again.{enveloped, json_again}
 use Rattle.yp_receiver.proofs.Texts.{written_text_again}
 
@@ -110,20 +112,20 @@ envelope_readable time notice body timed readable =
 two_more : (n : ℕ) → n ≤ 125 → suc (max (suc (max 0 (max n 0))) 0) ≤ 127
 two_more n h = omega arith
 
-module _ (nodes : List SchemaNode)
+module _ (nodes : List SchemaNode) (schema : IsSchema nodes)
     (targets : (path : List Seg) → is_path_of nodes path ≡ true → has_texts path ≡ true → target_in nodes (target_text nodes path) ≡ Ok path)
     (data_read : (at : List Seg) (rows : List Row) → AreWhole nodes at rows → rows_read nodes at (rows_json nodes at rows) ≡ Ok rows) where
   abbrev heard_of : Option Data → Result Heard StreamFault
   heard_of found = or_fault NotJson found >>= heard_in nodes
 
   -- the line of a notice is heard as the notice
-  pub line_again : (start tick : ℕ) (notice : Notice) → is_some (event_in (event_text start tick)) ≡ true → IsHearable nodes notice → HasReadableBody nodes notice
+  pub line_again : (start tick : ℕ) (notice : Notice) → is_some (event_in (event_text start tick)) ≡ true → IsHearable nodes notice → HasReadableText nodes notice
       → line_heard nodes (line_of nodes start tick notice) ≡ Ok (record { time = event_text start tick; notice = notice })
-  line_again start tick notice timed hearable body =
+  line_again start tick notice timed hearable text =
       let time = event_text start tick in
       let told_body : Data = object (body_of nodes notice) in
       let json : Data = enveloped time (name_of notice) told_body in
-      ap heard_of (written_text_again json (envelope_readable time notice told_body (event_utf8 start tick timed) body.readable) (two_more (depth told_body) body.shallow))
+      ap heard_of (written_text_again json (envelope_readable time notice told_body (event_utf8 start tick timed) (body_readable nodes schema notice hearable text.texts)) (two_more (depth told_body) text.shallow))
       ∙ json_again nodes time notice targets data_read timed hearable
 
   -- and so for lines in order
@@ -132,7 +134,7 @@ module _ (nodes : List SchemaNode)
   lines_again start [] held timed each = refl
   lines_again start (first ∷ rest) held timed each =
       ap (λ (heard : Result Heard StreamFault). lines_heard nodes (told heard held) (map (λ (each : ℕ × Notice). line_of nodes start each.0 each.1) rest))
-      (line_again start first.0 first.1 (timed first.0 each.0.tick) each.0.hearable each.0.body)
+      (line_again start first.0 first.1 (timed first.0 each.0.tick) each.0.hearable each.0.text)
       ∙ lines_again start rest (hears first.1 held) timed each.1
 
 -- ---- changes of state
@@ -140,20 +142,14 @@ module _ (nodes : List SchemaNode)
 one_deep : 1 ≤ 125
 one_deep = omega arith
 
-state_body : (nodes : List SchemaNode) (notice : Notice) → tells_state notice ≡ true → subscription_of notice < 2 ^ 32 → HasReadableBody nodes notice
-state_body nodes (Full id rows) state low = absurd (true≢false (sym state))
-state_body nodes (Changes id patch_id changes incomplete) state low = absurd (true≢false (sym state))
-state_body nodes (Started id) state low = record { readable = (ascii (codes "id") refl, (tt, (omega arith, tt))); shallow = one_deep }
-state_body nodes (Modified id) state low = record { readable = (ascii (codes "id") refl, (tt, (omega arith, tt))); shallow = one_deep }
-state_body nodes (Suspended id) state low = record {
-  readable = (ascii (codes "id") refl, (refl, (omega arith, (ascii (codes "reason") refl, (tt, (ascii (codes "ietf-subscribed-notifications:unsupportable-volume") refl, tt))))));
-  shallow = one_deep;
-}
-state_body nodes (Resumed id) state low = record { readable = (ascii (codes "id") refl, (tt, (omega arith, tt))); shallow = one_deep }
-state_body nodes (Terminated id) state low = record {
-  readable = (ascii (codes "id") refl, (refl, (omega arith, (ascii (codes "reason") refl, (tt, (ascii (codes "ietf-subscribed-notifications:no-such-subscription") refl, tt))))));
-  shallow = one_deep;
-}
+state_text : (nodes : List SchemaNode) (notice : Notice) → tells_state notice ≡ true → HasReadableText nodes notice
+state_text nodes (Full id rows) state = absurd (true≢false (sym state))
+state_text nodes (Changes id patch_id changes incomplete) state = absurd (true≢false (sym state))
+state_text nodes (Started id) state = record { texts = tt; shallow = one_deep }
+state_text nodes (Modified id) state = record { texts = tt; shallow = one_deep }
+state_text nodes (Suspended id) state = record { texts = tt; shallow = one_deep }
+state_text nodes (Resumed id) state = record { texts = tt; shallow = one_deep }
+state_text nodes (Terminated id) state = record { texts = tt; shallow = one_deep }
 
 state_hearable : (nodes : List SchemaNode) (notice : Notice) → tells_state notice ≡ true → subscription_of notice < 2 ^ 32 → IsHearable nodes notice
 state_hearable nodes (Full id rows) state low = absurd (true≢false (sym state))
@@ -166,4 +162,4 @@ state_hearable nodes (Terminated id) state low = record { id = low; body = tt }
 
 -- a change of state that is told is one of them
 pub told_state : (nodes : List SchemaNode) (tick : ℕ) (notice : Notice) → tick ≤ tick_limit → tells_state notice ≡ true → subscription_of notice < 2 ^ 32 → IsTold nodes (tick, notice)
-told_state nodes tick notice early state low = record { tick = early; hearable = state_hearable nodes notice state low; body = state_body nodes notice state low }
+told_state nodes tick notice early state low = record { tick = early; hearable = state_hearable nodes notice state low; text = state_text nodes notice state }

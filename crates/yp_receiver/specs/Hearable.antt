@@ -13,7 +13,7 @@ use Rattle.yp_path.specs.Targets.{has_texts}
 use Rattle.yp_time.specs.Ticks.{tick_limit}
 use Rattle.yp_encode.specs.Lines.{carries_value, body_of}
 use Rattle.yp_encode.specs.Sendable.{IsSendableChange}
-use Rattle.yp_receiver.specs.Readable.{IsReadable}
+use Rattle.yp_receiver.specs.Readable.{HaveTexts}
 
 -- ---- change updates
 
@@ -81,10 +81,20 @@ tells_state (Suspended id) = true
 tells_state (Resumed id) = true
 tells_state (Terminated id) = true
 
--- a notice of which the text of this JSON is read as this JSON
-pub record HasReadableBody (nodes : List SchemaNode) (notice : Notice) : Type 0 where
-  -- a JSON text is UTF-8, and the reader has each object's members in the order of their names
-  pub readable : IsReadable (object (body_of nodes notice))
+-- the texts of a notice's rows are UTF-8
+abbrev pub HasTexts : Notice → Type 0
+HasTexts (Full id rows) = HaveTexts rows
+HasTexts (Changes id patch_id changes incomplete) = AllByRecursion (λ (change : Change). HaveTexts change.rows) changes
+HasTexts (Started id) = Unit {0}
+HasTexts (Modified id) = Unit {0}
+HasTexts (Suspended id) = Unit {0}
+HasTexts (Resumed id) = Unit {0}
+HasTexts (Terminated id) = Unit {0}
+
+-- a notice whose line is read as its JSON
+pub record HasReadableText (nodes : List SchemaNode) (notice : Notice) : Type 0 where
+  -- a JSON text is UTF-8, and so the texts in it are
+  pub texts : HasTexts notice
   -- the reader takes arrays and objects that nest 127 deep, of which the envelope is two
   pub shallow : depth (object (body_of nodes notice)) ≤ 125
 
@@ -92,4 +102,4 @@ pub record HasReadableBody (nodes : List SchemaNode) (notice : Notice) : Type 0 
 pub record IsTold (nodes : List SchemaNode) (told : ℕ × Notice) : Type 0 where
   pub tick : told.0 ≤ tick_limit
   pub hearable : IsHearable nodes told.1
-  pub body : HasReadableBody nodes told.1
+  pub text : HasReadableText nodes told.1

@@ -5,17 +5,21 @@ ghost use Rattle.serde_json.specs.Data.{Data, depth};
 ghost use Rattle.serde_json.specs.Read.{max_depth};
 ghost use Rattle.serde_json.specs.Written.{compact_text};
 ghost use Rattle.yp_base.specs.declared.notice.Notice.{Notice};
+ghost use Rattle.yp_base.specs.declared.path.Seg.{Seg};
 ghost use Rattle.yp_base.specs.declared.row.Row.{Row};
 ghost use Rattle.yp_schema.specs.declared.schema.SchemaNode.{SchemaNode};
 ghost use Rattle.yp_schema.specs.WellFormed.{IsSchema};
+ghost use Rattle.yp_schema.specs.Datastore.{AreWritable};
+ghost use Rattle.yp_path.specs.Targets.{has_texts};
+ghost use Rattle.yp_data_json.specs.Writing.{rows_json};
 ghost use Rattle.yp_time.specs.Instants.{event_text, IsStart};
 ghost use Rattle.yp_time.specs.Ticks.{tick_limit};
 ghost use Rattle.yp_encode.specs.Lines.{notification_data, line_of};
 ghost use Rattle.yp_decode.specs.Envelope.{json_of};
 ghost use Rattle.yp_decode.specs.Grammar.{heard_in, line_heard};
-ghost use Rattle.yp_receiver.specs.Hearable.{subscription_of, tells_state, IsHearable, HasReadableBody, IsTold};
+ghost use Rattle.yp_receiver.specs.Hearable.{subscription_of, tells_state, IsHearable, HasReadableText, IsTold};
 ghost use Rattle.yp_receiver.specs.Held.{lines_heard, notices_heard};
-ghost use Rattle.yp_receiver.specs.Readable.{IsReadable};
+ghost use Rattle.yp_receiver.specs.Readable.{HaveTexts, IsReadable};
 
 use yp_data_json::writing::written_is_read;
 use yp_path::laws::written_target_is_read;
@@ -24,6 +28,12 @@ use yp_time::writing::what_is_written_is_an_event_time;
 /// The text of readable JSON without white space is read as this JSON (RFC 8259).
 pub fn a_written_text_is_read()
     ensures { (json : Data) → IsReadable json → depth json ≤ max_depth → json_of (compact_text json) ≡ Some json }
+{}
+
+/// What is written of rows is readable, where their keys and values have texts that are UTF-8.
+pub fn the_json_of_rows_is_readable()
+    ensures { (nodes : List SchemaNode) (at : List Seg) (rows : List Row) → IsSchema nodes → AreWritable nodes at rows → has_texts at ≡ true → HaveTexts rows
+        → IsReadable (rows_json nodes at rows) }
 {}
 
 /// The JSON of a notice is heard as this notice, with the event time of its tick.
@@ -38,7 +48,7 @@ pub fn the_json_of_a_notice_is_heard()
 
 /// What was written as the line of a notice is heard as this notice, with the event time of its tick.
 pub fn a_written_line_is_heard()
-    ensures { (nodes : List SchemaNode) (start tick : ℕ) (notice : Notice) → IsSchema nodes → IsStart start → tick ≤ tick_limit → IsHearable nodes notice → HasReadableBody nodes notice
+    ensures { (nodes : List SchemaNode) (start tick : ℕ) (notice : Notice) → IsSchema nodes → IsStart start → tick ≤ tick_limit → IsHearable nodes notice → HasReadableText nodes notice
         → line_heard nodes (line_of nodes start tick notice) ≡ Ok (record { time = event_text start tick; notice = notice }) }
 {
     what_is_written_is_an_event_time();
