@@ -25,7 +25,7 @@ use Rattle.yp_data_json.specs.declared.fault.DataFault.{DataFault}
 use Rattle.yp_data_json.specs.AtPath.{rows_read}
 use Rattle.yp_data_json.specs.Writing.{rows_json}
 use Rattle.yp_time.specs.Instants.{event_in}
-use Rattle.yp_encode.specs.Lines.{operation_word, carries_value, value_member, edits_from, mark, patch_data, id_member, name_of, body_of}
+use Rattle.yp_encode.specs.Lines.{operation_word, carries_value, value_member, edits_from, name_of, body_of}
 use Rattle.yp_encode.specs.Sendable.{is_served}
 use Rattle.yp_decode.specs.declared.edits.Operation.{Operation}
 use Rattle.yp_decode.specs.declared.edits.Operation.TheVariants.{Create, Delete, Replace}
@@ -37,8 +37,8 @@ use Rattle.yp_decode.specs.declared.fault.TargetFault.TheVariants.{KeyLeaf}
 use Rattle.yp_decode.specs.declared.line.Heard.{Heard}
 use Rattle.yp_decode.specs.Envelope.{Envelope, envelope_in, other_member}
 use Rattle.yp_decode.specs.Bodies.{FullBody, EditBody, PatchBody, ChangesBody, full_in, edit_in, edits_in, ids_of, canonical_in, patch_in, changes_of, changes_in}
-use Rattle.yp_decode.specs.Grammar.{of_target, unkeyed, place_in, PlacedEdit, edits_placed, of_data, rows_in, heard_change, edit_heard, edits_heard, state_notice, notice_heard, heard_in}
-use Rattle.yp_receiver.specs.Hearable.{HasOpenTarget, HasWholeRows, IsHearableChange, AreHearable, subscription_of, HasHearableBody, IsHearable}
+use Rattle.yp_decode.specs.Grammar.{of_target, unkeyed, place_in, PlacedEdit, edits_placed, of_data, heard_change, edit_heard, edits_heard, state_notice, notice_heard, heard_in}
+use Rattle.yp_receiver.specs.Hearable.{HasOpenTarget, HasWholeRows, IsHearableChange, AreHearable, IsHearable}
 
 -- ---- ids
 

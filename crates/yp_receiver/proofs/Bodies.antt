@@ -1,12 +1,12 @@
 -- The bodies of notices are readable JSON.
-use Rattle.std.proofs.Common.{◌≡◌, ℕ, ◌+◌, ◌/◌, ◌%◌, ◌<◌, ◌≤◌, ◌^◌, ◌==◌, ◌&&◌, ◌||◌, ◌⊎◌, inl, inr, ⊎_elim, List, [], ◌∷◌, ◌++◌, length, Bool, true, false, true≢false, cond, All, IsUtf8, nat_le, nat_lt, codes, decimal, refl, sym, ap, ◌∙◌, arith}
+use Rattle.std.proofs.Common.{◌≡◌, ℕ, ◌+◌, ◌/◌, ◌%◌, ◌<◌, ◌≤◌, ◌^◌, ◌==◌, ◌&&◌, ◌||◌, List, [], ◌∷◌, ◌++◌, length, Bool, true, false, cond, All, IsUtf8, nat_le, nat_lt, codes, decimal, refl, arith}
 use Rattle.std.specs.List.{AllByRecursion}
-use Rattle.std.proofs.lemmas.Bool.{and_parts, and_from, eqb-true, leb-true, ltb-true, lt-ltb}
+use Rattle.std.proofs.lemmas.Bool.{and_parts, and_from, eqb-true, leb-true, lt-ltb}
 use Rattle.std.proofs.lemmas.Fmt.{IsAscii-decimal}
 use Rattle.std.proofs.lemmas.List.Elements.{All-head, All-tail}
 use Rattle.std.proofs.lemmas.Str.{IsUtf8-append, IsUtf8-nil, IsUtf8-from_ascii}
 use Rattle.json.proofs.Printed.Utf8.{are_ascii, IsUtf8-are_ascii}
-use Rattle.serde_json.specs.Data.{Data, Members, object, depth}
+use Rattle.serde_json.specs.Data.{Data, Members, object}
 use Rattle.yp_base.specs.declared.atom.Atom.{Atom}
 use Rattle.yp_base.specs.declared.notice.Change.{Change}
 use Rattle.yp_base.specs.declared.notice.ChangeKind.{ChangeKind}
@@ -25,7 +25,7 @@ use Rattle.yp_path.specs.Escapes.{is_plain, capital_digit, byte_text, escaped}
 use Rattle.yp_path.specs.Targets.{has_texts, keys_text, segment_text, target_text}
 use Rattle.yp_data_json.specs.Runs.{StandsBefore}
 use Rattle.yp_data_json.specs.Writing.{rows_json}
-use Rattle.yp_encode.specs.Lines.{operation_word, carries_value, value_member, edit_data, edits_from, mark, patch_data, id_member, body_of}
+use Rattle.yp_encode.specs.Lines.{operation_word, carries_value, value_member, edit_data, edits_from, mark, patch_data, body_of}
 use Rattle.yp_receiver.specs.Hearable.{HasWholeRows, IsHearableChange, AreHearable, IsHearable, HasTexts}
 use Rattle.yp_receiver.specs.Readable.{HaveTexts, IsReadable, ItemsAreReadable, MembersAreReadable}
 use Rattle.yp_receiver.proofs.Rows.{name_utf8, rows_readable}
@@ -118,11 +118,34 @@ module _ (nodes : List SchemaNode) (schema : IsSchema nodes) where
   target_stands false value = tt
 
   edit_readable : (n : ℕ) (change : Change) → n < 2 ^ 64 → IsHearableChange nodes change → HaveTexts change.rows → IsReadable (edit_data nodes n change)
-  edit_readable n change low h texts =
-      (ascii (codes "edit-id") refl, (refl, (number_utf8 n low,
-      (ascii (codes "operation") refl, (refl, (word_utf8 change.kind,
-      (ascii (codes "target") refl, (target_stands (carries_value change.kind) (rows_json nodes change.target change.rows), (targets_utf8 change.target (path_within nodes change.target h.sendable.target),
-      value_readable (carries_value change.kind) change.target change.rows h.whole h.keys texts)))))))))
+  edit_readable n change low h texts = (
+    ascii (codes "edit-id") refl,
+    (
+      refl,
+      (
+        number_utf8 n low,
+        (
+          ascii (codes "operation") refl,
+          (
+            refl,
+            (
+              word_utf8 change.kind,
+              (
+                ascii (codes "target") refl,
+                (
+                  target_stands (carries_value change.kind) (rows_json nodes change.target change.rows),
+                  (
+                    targets_utf8 change.target (path_within nodes change.target h.sendable.target),
+                    value_readable (carries_value change.kind) change.target change.rows h.whole h.keys texts,
+                  ),
+                ),
+              ),
+            ),
+          ),
+        ),
+      ),
+    ),
+  )
 
   edits_readable : (n : ℕ) (changes : List Change) → n + length changes ≤ 2 ^ 64 → AllByRecursion (IsHearableChange nodes) changes → AllByRecursion (λ (change : Change). HaveTexts change.rows) changes → ItemsAreReadable (edits_from nodes n changes)
   edits_readable n [] few each texts = tt
@@ -130,11 +153,25 @@ module _ (nodes : List SchemaNode) (schema : IsSchema nodes) where
 
   patch_readable : (patch_id : ℕ) (changes : List Change) → AreHearable nodes patch_id changes → AllByRecursion (λ (change : Change). HaveTexts change.rows) changes → IsReadable (patch_data nodes patch_id changes)
   patch_readable patch_id changes h texts =
-      let few = h.few in
-      (ascii (codes "yang-patch") refl, (tt, (
-      (ascii (codes "edit") refl, (refl, (edits_readable 1 changes (omega arith) h.each texts,
-      (ascii (codes "patch-id") refl, (tt, (number_utf8 patch_id h.patch, tt))))))
-      , tt)))
+      let few = h.few in (
+        ascii (codes "yang-patch") refl,
+        (
+          tt,
+          (
+            (
+              ascii (codes "edit") refl,
+              (
+                refl,
+                (
+                  edits_readable 1 changes (omega arith) h.each texts,
+                  (ascii (codes "patch-id") refl, (tt, (number_utf8 patch_id h.patch, tt))),
+                ),
+              ),
+            ),
+            tt,
+          ),
+        ),
+      )
 
   mark_readable : (incomplete : Bool) → MembersAreReadable (mark incomplete)
   mark_readable true = (ascii (codes "incomplete-update") refl, (tt, ((tt, tt), tt)))

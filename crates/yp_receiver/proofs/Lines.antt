@@ -1,5 +1,5 @@
 -- The line of a notice is heard as that notice.
-use Rattle.std.proofs.Common.{◌≡◌, ℕ, ◌+◌, ◌*◌, ◌/◌, ◌%◌, ◌<◌, ◌≤◌, ◌==◌, ◌^◌, ◌&&◌, suc, max, List, [], ◌∷◌, ◌++◌, map, drop, length, Bool, true, false, true≢false, cond, Option, Some, None, is_some, option_and_then, Result, Ok, Err, Less, nat_cmp, nat_le, nat_lt, ℤ, IsUtf8, codes, refl, sym, ap, ◌∙◌, arith}
+use Rattle.std.proofs.Common.{◌≡◌, ℕ, ◌+◌, ◌*◌, ◌/◌, ◌%◌, ◌<◌, ◌≤◌, ◌==◌, ◌^◌, ◌&&◌, suc, max, List, [], ◌∷◌, map, drop, length, Bool, true, false, true≢false, cond, Option, Some, None, is_some, option_and_then, Result, Ok, Less, nat_cmp, nat_le, nat_lt, ℤ, IsUtf8, codes, refl, sym, ap, ◌∙◌, arith}
 use Rattle.std.specs.Char.{is_ascii_digit}
 use Rattle.std.specs.Cmp.Lexicographic.{slice_cmp}
 use Rattle.std.specs.List.{AllByRecursion}
@@ -7,7 +7,6 @@ use Rattle.std.proofs.lemmas.Bool.{and_parts, and_from, eqb-true, leb-true, ltb-
 use Rattle.std.proofs.lemmas.Str.{IsUtf8-append}
 use Rattle.json.proofs.Printed.Utf8.{are_ascii, IsUtf8-are_ascii}
 use Rattle.serde_json.specs.Data.{Data, object, depth}
-use Rattle.serde_json.specs.Read.{max_depth}
 use Rattle.yp_base.specs.declared.notice.Notice.{Notice}
 use Rattle.yp_base.specs.declared.notice.Notice.TheVariants.{Full, Changes, Started, Modified, Suspended, Resumed, Terminated}
 use Rattle.yp_base.specs.declared.path.Seg.{Seg}
@@ -104,10 +103,16 @@ abbrev ascii : (text : List ℕ) → are_ascii text ≡ true → IsUtf8 text
 ascii text is = IsUtf8-are_ascii text is
 
 envelope_readable : (time : List ℕ) (notice : Notice) (body : Data) → IsUtf8 time → IsReadable body → IsReadable (enveloped time (name_of notice) body)
-envelope_readable time notice body timed readable =
-    (ascii (codes "ietf-restconf:notification") refl, (tt, (
-    (ascii (codes "eventTime") refl, (name_later notice, (timed, (name_utf8 notice, (tt, (readable, tt))))))
-    , tt)))
+envelope_readable time notice body timed readable = (
+  ascii (codes "ietf-restconf:notification") refl,
+  (
+    tt,
+    (
+      (ascii (codes "eventTime") refl, (name_later notice, (timed, (name_utf8 notice, (tt, (readable, tt)))))),
+      tt,
+    ),
+  ),
+)
 
 two_more : (n : ℕ) → n ≤ 125 → suc (max (suc (max 0 (max n 0))) 0) ≤ 127
 two_more n h = omega arith

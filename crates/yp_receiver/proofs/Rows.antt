@@ -1,17 +1,16 @@
 -- The JSON of rows is readable: members stand in the order of their names, and texts are UTF-8.
-use Rattle.std.proofs.Common.{◌≡◌, ℕ, suc, ◌<◌, ◌≤◌, ◌-◌, ◌^◌, ◌==◌, ◌&&◌, ◌||◌, ◌⊎◌, inl, inr, ⊎_elim, not, pos, negsuc, ℤ, List, [], ◌∷◌, ◌++◌, length, map, drop, Bool, true, false, true≢false, cond, Option, Some, None, Ordering, Less, Equal, Greater, nat_cmp, nat_eq, nat_le, nat_lt, All, IsUtf8, refl, sym, ap, ap₂, subst, ◌∙◌, arith}
+use Rattle.std.proofs.Common.{◌≡◌, ℕ, suc, ◌<◌, ◌≤◌, ◌-◌, ◌^◌, ◌==◌, ◌&&◌, ◌||◌, ◌⊎◌, inl, inr, ⊎_elim, not, pos, negsuc, ℤ, List, [], ◌∷◌, ◌++◌, length, drop, Bool, true, false, true≢false, cond, Option, Some, None, Less, Equal, Greater, nat_cmp, nat_eq, nat_le, nat_lt, All, IsUtf8, refl, sym, ap, ap₂, subst, ◌∙◌, arith}
 use Rattle.std.specs.List.{AllByRecursion}
 use Rattle.std.specs.Str.{is_utf8}
 use Rattle.std.specs.Cmp.Lexicographic.{slice_cmp, nat_list_cmp_total}
 use Rattle.std.specs.Ordering.{eq_by_cmp, is_eq, ordering_reverse, ordering_then, match_ordering}
-use Rattle.std.proofs.lemmas.Bool.{and_parts, and_from, eq-eqb, eqb-true, leb-true, lt-ltb, ltb-true}
+use Rattle.std.proofs.lemmas.Bool.{and_parts, and_from, eq-eqb, eqb-true, leb-true, lt-ltb}
 use Rattle.std.proofs.lemmas.Cmp.{ranked, tied_itself}
 use Rattle.std.proofs.lemmas.List.Elements.{All-head, All-tail}
 use Rattle.std.proofs.lemmas.Str.{IsUtf8-append, IsUtf8-from_is_utf8}
 use Rattle.json.proofs.Printed.Utf8.{are_ascii, IsUtf8-are_ascii}
-use Rattle.serde_json.specs.Data.{unsigned, Data, null, number, string, array, object, Items, no_items, item, Members, no_members, member, put}
+use Rattle.serde_json.specs.Data.{unsigned, Data, number, string, Members, no_members, member, put}
 use Rattle.serde_json.specs.Find.{of_integer}
-use Rattle.serde_json.specs.View.{items_of}
 use Rattle.yp_base.specs.declared.atom.Atom.{Atom}
 use Rattle.yp_base.specs.declared.atom.Atom.TheVariants.{Bool as Truth, Int, Uint, Dec, Text}
 use Rattle.yp_base.specs.declared.leaf_type.LeafType.{LeafType}
@@ -42,7 +41,7 @@ use Rattle.yp_path.specs.Targets.{are_texts, has_texts}
 use Rattle.yp_data_json.specs.Runs.{StandsBefore, has_items, GoesOn}
 use Rattle.yp_data_json.specs.Forest.{Forest, bare, branch, own_of, laid, forest_at}
 use Rattle.yp_data_json.specs.Writing.{leaf_data, key_data, one_key_data, with_keys, item_data, Entry, Gathered, no_nodes, single, entries, entry_in_front, branch_in_front, members_of, gathered, members_in, place_data, rows_json}
-use Rattle.yp_receiver.specs.Readable.{has_value_text, HaveTexts, IsWhole, IsReadable, ItemsAreReadable, MembersAreReadable}
+use Rattle.yp_receiver.specs.Readable.{has_value_text, HaveTexts, IsWhole, IsReadable, MembersAreReadable}
 
 -- ---- values
 
@@ -458,11 +457,16 @@ module _ (nodes : List SchemaNode) (schema : IsSchema nodes) where
       → Grows (Some seg.node) (laid rest value bare) → (Grows (Some seg.node) kids → Before rest kids → Grows (Some seg.node) (laid rest value kids))
       → Grows parent (cond t (branch first (own_of rest value own) (laid rest value kids) next) (branch seg (own_of rest value None) (laid rest value bare) (branch first own kids next)))
   lay_at true seg rest parent value first own kids next is goes texts u grows before new more =
-      let same : seg ≡ first = (segments_decide seg first).0 is in
-      (grows.0, (
-      subst (λ (s : Seg). OwnFits (node_at s.node nodes) own → OwnFits (node_at s.node nodes) (own_of rest value own)) same (own_more parent seg rest value own goes u) grows.1.0,
-      (subst (λ (s : Seg). Grows (Some s.node) kids → Before rest kids → Grows (Some s.node) (laid rest value kids)) same more grows.1.1.0 (rest_before seg first rest kids is before),
-      (grows.1.1.1.0, grows.1.1.1.1))))
+      let same : seg ≡ first = (segments_decide seg first).0 is in (
+        grows.0,
+        (
+          subst (λ (s : Seg). OwnFits (node_at s.node nodes) own → OwnFits (node_at s.node nodes) (own_of rest value own)) same (own_more parent seg rest value own goes u) grows.1.0,
+          (
+            subst (λ (s : Seg). Grows (Some s.node) kids → Before rest kids → Grows (Some s.node) (laid rest value kids)) same more grows.1.1.0 (rest_before seg first rest kids is before),
+            (grows.1.1.1.0, grows.1.1.1.1),
+          ),
+        ),
+      )
   lay_at false seg rest parent value first own kids next is goes texts u grows before new more =
       lay_new seg rest parent value (branch first own kids next) goes texts u (first_less seg first rest kids is before) grows new
 
@@ -570,16 +574,22 @@ module _ (nodes : List SchemaNode) (schema : IsSchema nodes) where
       let stands = schema.each last.node low in
       let home = identifier_utf8 node.home (and_parts (is_identifier node.home) (nat_le (length node.home) 64) stands.module_name).0 in
       let name = identifier_utf8 node.name (and_parts (is_identifier node.name) (nat_le (length node.name) 64) stands.node_name).0 in
-      let item_at = item_readable last (members_in nodes (forest_at (length (seg ∷ rest)) rows)) is (last_texts seg rest keys) below in
-      (qualified_utf8 node home name, (tt, (
-      (elim node.kind as (λ (k : Kind). node.kind ≡ k → IsReadable (place_data nodes k node last (value_at (seg ∷ rest) rows) (members_in nodes (forest_at (length (seg ∷ rest)) rows)))) [
-        | Container ↦ λ e. below
-        | Presence ↦ λ e. below
-        | Listing ↦ λ e. (item_at Listing e, tt)
-        | Leaf ↦ λ e. own_readable node (value_at (seg ∷ rest) rows) (has_type last.node low) e (value_fits_at seg rest rows writable.of_schema texts)
-        | LeafList ↦ λ e. (item_at LeafList e, tt)
-      ] refl)
-      , tt)))
+      let item_at = item_readable last (members_in nodes (forest_at (length (seg ∷ rest)) rows)) is (last_texts seg rest keys) below in (
+        qualified_utf8 node home name,
+        (
+          tt,
+          (
+            (elim node.kind as (λ (k : Kind). node.kind ≡ k → IsReadable (place_data nodes k node last (value_at (seg ∷ rest) rows) (members_in nodes (forest_at (length (seg ∷ rest)) rows)))) [
+              | Container ↦ λ e. below
+              | Presence ↦ λ e. below
+              | Listing ↦ λ e. (item_at Listing e, tt)
+              | Leaf ↦ λ e. own_readable node (value_at (seg ∷ rest) rows) (has_type last.node low) e (value_fits_at seg rest rows writable.of_schema texts)
+              | LeafList ↦ λ e. (item_at LeafList e, tt)
+            ] refl),
+            tt,
+          ),
+        ),
+      )
     where
       snoc_is : (s : Seg) (path : List Seg) → above_last s path ++ last_segment s path ∷ [] ≡ s ∷ path
       snoc_is s [] = refl

@@ -1,5 +1,5 @@
 -- What is written of readable JSON is read again.
-use Rattle.std.proofs.Common.{◌≡◌, ℕ, ◌<◌, ◌≤◌, ◌^◌, ◌==◌, pos, negsuc, List, [], ◌∷◌, ◌++◌, length, max, suc, Bool, true, false, cond, Option, Some, None, option_map, option_and_then, Ordering, Less, Greater, nat_cmp, IsUtf8, refl, sym, ap, ap₂, ◌∙◌, append-nil, eq-eqb}
+use Rattle.std.proofs.Common.{◌≡◌, ℕ, ◌≤◌, pos, negsuc, List, [], ◌∷◌, ◌++◌, max, suc, Bool, true, false, cond, Option, Some, None, option_map, option_and_then, Less, Greater, nat_cmp, IsUtf8, refl, sym, ap, ap₂, ◌∙◌, append-nil, eq-eqb}
 use Rattle.std.specs.Ordering.{ordering_reverse, match_ordering}
 use Rattle.std.specs.Cmp.Lexicographic.{slice_cmp, nat_list_cmp_total}
 use Rattle.std.proofs.lemmas.Fmt.{IsAscii-decimal, IsAscii-signed}

@@ -55,8 +55,20 @@ fn lines_make_the_rows_of_each_subscription(rt: HostRuntime) -> Result<(), Fail>
             None,
         ),
         ("ietf-yang-push:push-update", FULL, true, Some(3), None),
-        ("ietf-yang-push:push-change-update", CHANGES, true, Some(2), None),
-        ("ietf-yang-push:push-change-update", FIRST, true, Some(2), Some(2)),
+        (
+            "ietf-yang-push:push-change-update",
+            CHANGES,
+            true,
+            Some(2),
+            None,
+        ),
+        (
+            "ietf-yang-push:push-change-update",
+            FIRST,
+            true,
+            Some(2),
+            Some(2),
+        ),
         ("acme:started", r#"{"id":9}"#, false, Some(2), Some(2)),
         ("ietf-yang-push:push-update", SMALL, true, Some(0), Some(2)),
         (

@@ -5,7 +5,6 @@ use Rattle.std.specs.Option.{option_copied_mut}
 use Rattle.std.specs.Ordering.{nat_cmp}
 use Rattle.std.proofs.lemmas.Result.{on_err_weaker}
 use Rattle.yp_base.specs.declared.row.Row.{Row}
-use Rattle.yp_base.specs.declared.notice.Change.{Change}
 use Rattle.yp_base.specs.Rows.{changed_by}
 use Rattle.yp_receiver.specs.Held.{held_of}
 use Rattle.yp_receiver.proofs.Held.{set_there, when_ok}
@@ -32,8 +31,10 @@ returns-in-Some-clause-part c =
     let rows : List Row = c.in-Some.rows.now in
     let found : lookup (is_at (nat_cmp id)) before ≡ Some rows = sym c.get_mut.ensures.value ∙ ap option_copied_mut c.in-Some.is in
     let held : held_of id c.args.self.now ≡ Some rows = ap (held_of id) (sym c.self.view_is) ∙ found in
-    on_err_weaker c.hear_changes.result (λ part. inr (part.0,
-    (c.get_mut.follows.holds c.hear_changes.new.rows).0
-    ∙ set_there id rows c.hear_changes.new.rows before c.get_mut.ensures.ordered found
-    ∙ ap (λ (es : List (ℕ × List Row)). insert_entry nat_cmp es id c.hear_changes.new.rows) c.self.view_is
-    ∙ ap (λ (new : List Row). insert_entry nat_cmp c.args.self.now id new) (part.1 ∙ ap (λ (o : Option (List Row)). changed_by (take part.0 c.args.changes.now) (unwrap_or o [])) (sym held)))) c.hear_changes.ensures.part
+    on_err_weaker c.hear_changes.result (λ part. inr (
+      part.0,
+      (c.get_mut.follows.holds c.hear_changes.new.rows).0
+          ∙ set_there id rows c.hear_changes.new.rows before c.get_mut.ensures.ordered found
+          ∙ ap (λ (es : List (ℕ × List Row)). insert_entry nat_cmp es id c.hear_changes.new.rows) c.self.view_is
+          ∙ ap (λ (new : List Row). insert_entry nat_cmp c.args.self.now id new) (part.1 ∙ ap (λ (o : Option (List Row)). changed_by (take part.0 c.args.changes.now) (unwrap_or o [])) (sym held)),
+    )) c.hear_changes.ensures.part
