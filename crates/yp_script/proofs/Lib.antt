@@ -5,3 +5,4 @@ pub mod LineLaws
 pub mod OrderLaws
 pub mod PartLaws
 pub mod StepLaws
+pub mod StreamLaws

@@ -9,4 +9,6 @@ pub mod Readers
 pub mod Readings
 pub mod SaidLaws
 pub mod Script
+pub mod Stream
+pub mod Streams
 pub mod Values

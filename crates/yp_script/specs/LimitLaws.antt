@@ -1,17 +1,23 @@
--- A script has no byte past the most that it may have.
+-- A script has no byte past the most that it may have, and neither has a stream without a fault.
 use Rattle.std.proofs.Common.{◌≡◌, ℕ, zero, suc, ◌+◌, ◌≤◌, ◌==◌, ◌&&◌, Bool, true, false, true≢false, List, [], ◌∷◌, length, take, drop, Result, Ok, Err, refl, sym, subst, ◌∙◌, cond, arith, nat_le}
-use Rattle.std.specs.Prelude.{IfOk, is_ok}
+use Rattle.std.specs.Prelude.{IfOk, is_ok, option_and_then}
+use Rattle.std.specs.Result.{result_ok}
 use Rattle.std.specs.List.{AllByRecursion}
 use Rattle.std.proofs.lemmas.Bool.{and_parts, leb-true}
+use Rattle.std.proofs.lemmas.Result.{IfOk-weaker}
 use Rattle.serde_json.specs.Data.{Data}
 use Rattle.yp_base.specs.Cuts.{onto_first}
+use Rattle.yp_base.specs.Results.{◌>>=◌}
 use Rattle.yp_command.specs.Faults.{Said}
 use Rattle.yp_command.specs.SaidLaws.{then_is}
 use Rattle.yp_script.specs.declared.script.Script.{Script}
 use Rattle.yp_script.specs.Faults.{LineFault}
-use Rattle.yp_script.specs.Lines.{Line, pieces_of, without_feed, is_blank, is_in_script, json_in, lines_from}
+use Rattle.yp_script.specs.declared.stream.Stream.{Stream}
+use Rattle.yp_script.specs.Forms.{line_form}
+use Rattle.yp_script.specs.Lines.{Line, TextLine, pieces_of, without_feed, is_blank, is_in_script, json_in, json_of, lines_from, text_in, texts_from}
 use Rattle.yp_script.specs.Script.{Progress, no_progress, line_taken, at_line, script_from, script_of, script_in}
 use Rattle.yp_script.specs.SaidLaws.{line_is}
+use Rattle.yp_script.specs.Stream.{before_parts, is_part, is_part_form, json_said, parts_from, stream_at, stream_from, stream_in, stream_of}
 
 -- ---- each line of a script has its JSON
 
@@ -95,3 +101,76 @@ none_left (suc n) (b ∷ bytes) h = none_left n bytes (omega (arith, h))
 -- behind a script nothing is left
 pub nothing_behind : (bytes : List ℕ) (script : Script) → script_in bytes ≡ Ok script → drop 67108865 bytes ≡ []
 nothing_behind bytes script is = none_left 67108864 bytes (script_fits (take 67108865 bytes) script is)
+
+-- ---- the same of streams
+
+-- a line that doesn't pass the limit of bytes
+abbrev pub IsWithin : TextLine → Type 0
+IsWithin line = is_ok line.text ≡ true
+
+abbrev pub AreWithin : List TextLine → Type 0
+AreWithin lines = AllByRecursion IsWithin lines
+
+-- a part of the schema
+part_within : (line : TextLine) → is_part line ≡ true → IsWithin line
+part_within line is = by line.text is
+  where
+    by : (text : Said (List ℕ)) → is_part_form (option_and_then line_form (option_and_then json_of (result_ok text))) ≡ true → is_ok text ≡ true
+    by (Ok text) is = refl
+    by (Err kind) is = absurd (true≢false (sym is))
+
+-- a line whose JSON is said
+said_within : (line : TextLine) → is_ok (json_said line) ≡ true → IsWithin line
+said_within line is = by line.text is
+  where
+    by : (text : Said (List ℕ)) → is_ok (text >>= json_in (nat_le line.number 100000)) ≡ true → is_ok text ≡ true
+    by (Ok text) is = refl
+    by (Err kind) is = absurd (true≢false (sym is))
+
+any_within : (r : Result Progress LineFault) → IfOk r (λ progress. Unit {0})
+any_within (Ok progress) = tt
+any_within (Err fault) = tt
+
+-- where the notification lines are, the lines of the schema are
+first_part : (progress : Progress) (line : TextLine) (lines : List TextLine) (part : Bool) → is_part line ≡ part
+    → ((next : Progress) → IfOk (parts_from next lines) (λ stream. AreWithin stream.lines → AreWithin lines))
+    → IfOk (cond part (at_line line.number (line_taken progress (json_said line)) >>= λ next. parts_from next lines) (Ok (stream_at progress (line ∷ lines)))) (λ stream. AreWithin stream.lines → AreWithin (line ∷ lines))
+first_part progress line lines true is later =
+    then_is (at_line line.number (line_taken progress (json_said line))) (λ next. parts_from next lines) (λ next. Unit {0}) (λ stream. AreWithin stream.lines → AreWithin (line ∷ lines))
+    (any_within (at_line line.number (line_taken progress (json_said line))))
+    (λ next any. IfOk-weaker (parts_from next lines) (λ stream. AreWithin stream.lines → AreWithin lines) (λ stream. AreWithin stream.lines → AreWithin (line ∷ lines)) (λ stream more. λ all. (part_within line is, more all)) (later next))
+first_part progress line lines false is later = λ all. all
+
+parts_within : (progress : Progress) (lines : List TextLine) → IfOk (parts_from progress lines) (λ stream. AreWithin stream.lines → AreWithin lines)
+parts_within progress [] = λ all. tt
+parts_within progress (line ∷ lines) = first_part progress line lines (is_part line) refl (λ next. parts_within next lines)
+
+stream_within : (end : ℕ) (lines : List TextLine) → IfOk (stream_from end lines) (λ stream. AreWithin stream.lines → AreWithin lines)
+stream_within end [] = tt
+stream_within end (first ∷ lines) =
+    then_is (at_line first.number (line_taken before_parts (json_said first))) (λ progress. parts_from progress lines) (λ progress. is_ok (json_said first) ≡ true) (λ stream. AreWithin stream.lines → AreWithin (first ∷ lines))
+    (line_is first.number (line_taken before_parts (json_said first)) (λ progress. is_ok (json_said first) ≡ true) (line_said before_parts (json_said first)))
+    (λ progress said. IfOk-weaker (parts_from progress lines) (λ stream. AreWithin stream.lines → AreWithin lines) (λ stream. AreWithin stream.lines → AreWithin (first ∷ lines)) (λ stream more. λ all. (said_within first said, more all)) (parts_within progress lines))
+
+text_within : (a b : Bool) (number : ℕ) (text : List ℕ) (rest : List TextLine) → AreWithin (cond (a && b) rest (record { number = number; text = text_in a text } ∷ rest)) → (a ≡ true) × AreWithin rest
+text_within true true number text rest all = (refl, all)
+text_within true false number text rest all = (refl, all.1)
+text_within false b number text rest all = absurd (true≢false (sym all.0))
+
+texts_end : (number at : ℕ) (pieces : List (List ℕ)) → AreWithin (texts_from number at pieces) → at ≤ 67108864 → at + total pieces ≤ 67108864
+texts_end number at [] all here = omega (arith, here)
+texts_end number at (piece ∷ pieces) all here =
+    let h = text_within (nat_le (at + length piece) 67108864) (is_blank (without_feed piece)) (number + 1) (without_feed piece) (texts_from (number + 1) (at + length piece) pieces) all in
+    let rest = texts_end (number + 1) (at + length piece) pieces h.1 (leb-true (at + length piece) 67108864 h.0) in
+    omega (arith, rest)
+
+stream_fits : (text : List ℕ) (stream : Stream) → stream_of text ≡ Ok stream → AreWithin stream.lines → length text ≤ 67108864
+stream_fits text stream is within =
+    let lines : List TextLine = texts_from 0 0 (pieces_of text) in
+    let all = subst (λ (r : Result Stream LineFault). IfOk r (λ s. AreWithin s.lines → AreWithin lines)) is (stream_within (length (pieces_of text) + 1) lines) in
+    let end = texts_end 0 0 (pieces_of text) (all within) (omega arith) in
+    omega (arith, end, total_pieces text)
+
+-- behind a stream none of whose lines passes the limit nothing is left
+pub nothing_behind_stream : (bytes : List ℕ) (stream : Stream) → stream_in bytes ≡ Ok stream → AreWithin stream.lines → drop 67108865 bytes ≡ []
+nothing_behind_stream bytes stream is within = none_left 67108864 bytes (stream_fits (take 67108865 bytes) stream is within)

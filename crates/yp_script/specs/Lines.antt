@@ -1,5 +1,5 @@
 -- The lines of a script: text between line feeds, numbered from 1, each one JSON text (RFC 8259).
-use Rattle.std.specs.Prelude.{ℕ, ◌+◌, ◌==◌, ◌&&◌, ◌||◌, List, [], ◌∷◌, length, Bool, true, Option, None, Err, if◌then◌else◌, nat_le}
+use Rattle.std.specs.Prelude.{ℕ, ◌+◌, ◌==◌, ◌&&◌, ◌||◌, List, [], ◌∷◌, length, Bool, true, Option, None, Ok, Err, if◌then◌else◌, nat_le}
 use Rattle.std.specs.Str.Lossy.{utf8_valid_len}
 use Rattle.serde_json.specs.Data.{Data}
 use Rattle.serde_json.specs.Read.{read as read_text}
@@ -55,3 +55,22 @@ lines_from number at (piece ∷ pieces) =
     if is_in_script (number + 1) (at + length piece) && is_blank (without_feed piece)
     then lines_from (number + 1) (at + length piece) pieces
     else record { number = number + 1; json = json_in (is_in_script (number + 1) (at + length piece)) (without_feed piece) } ∷ lines_from (number + 1) (at + length piece) pieces
+
+-- ---- lines as they stand
+
+-- a line with its text, or with the fault of the line in which the first byte past the limit lies
+pub record TextLine : Type 0 where
+  pub number : ℕ
+  pub text : Said (List ℕ)
+
+-- the text of a line, where it lies within the limit of bytes
+abbrev pub text_in : Bool → List ℕ → Said (List ℕ)
+text_in within text = if within then Ok text else Err Limit
+
+-- the same lines with their texts, without a limit on their length or their number: blank lines within the limit of bytes are skipped, and counted
+abbrev pub texts_from : ℕ → ℕ → List (List ℕ) → List TextLine
+texts_from number at [] = []
+texts_from number at (piece ∷ pieces) =
+    if nat_le (at + length piece) byte_limit && is_blank (without_feed piece)
+    then texts_from (number + 1) (at + length piece) pieces
+    else record { number = number + 1; text = text_in (nat_le (at + length piece) byte_limit) (without_feed piece) } ∷ texts_from (number + 1) (at + length piece) pieces

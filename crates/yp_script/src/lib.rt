@@ -6,6 +6,9 @@
 //! stands in `specs/Script.antt`, as a fold of its lines; the forms of lines in `specs/Forms.antt`, what
 //! each says in `specs/Values.antt`, and the order of lines in `specs/Order.antt`. What a command in a line
 //! says is told by `yp_command`. Lines are JSON texts (RFC 8259).
+//!
+//! `stream::read_stream` reads the schema that a saved stream begins with, and gives the notification lines
+//! behind it as they stand, one after another (`specs/Stream.antt`).
 #![tactic(auto)]
 
 mod cursor;
@@ -21,3 +24,4 @@ mod receiver;
 pub mod script;
 mod stage;
 mod start;
+pub mod stream;

@@ -1,8 +1,8 @@
 //! Lines of a text and their JSON.
-ghost use Rattle.std.specs.Prelude.{◌≡◌, ◌≢◌, ◌-◌, ℕ, ◌<◌, ◌≤◌, ◌∷◌, length, take, slice_index, IfOk, option_map};
+ghost use Rattle.std.specs.Prelude.{◌≡◌, ◌≢◌, ◌-◌, ℕ, ◌<◌, ◌≤◌, ◌∷◌, length, take, slice_index, IfOk, Some, option_map};
 ghost use Rattle.serde_json.specs.View.{view};
 ghost use Rattle.yp_command.specs.Faults.{said_map};
-ghost use Rattle.yp_script.specs.Lines.{pieces_of, without_feed, is_blank, json_of, json_in};
+ghost use Rattle.yp_script.specs.Lines.{pieces_of, without_feed, is_blank, json_of, json_in, text_in};
 
 use memchr::memchr;
 use serde_json::Value as Json;
@@ -86,5 +86,30 @@ pub fn json_within(
     match read_json(alloc, text)? {
         Some(json) => Ok(Ok(json)),
         None => Ok(Err(ScriptKind::NotJson)),
+    }
+}
+
+/// The JSON that the text of a line is, with the same limits.
+pub fn json_limited(within: bool, text: &[u8], json: Json) -> Result<Json, ScriptKind>
+    requires { json_of text.now ≡ Some (view json) }
+    ensures { said_map view result ≡ json_in within text.now }
+{
+    if !within {
+        return Err(ScriptKind::Limit);
+    }
+    if text.len() > MOST_LINE_BYTES {
+        return Err(ScriptKind::TooLong);
+    }
+    Ok(json)
+}
+
+/// The text of a line: `Limit` where it isn't within the limit of bytes.
+pub fn text_within(within: bool, text: &[u8]) -> Result<&[u8], ScriptKind>
+    ensures { said_map (λ text. text.now) result ≡ text_in within text.now }
+{
+    if within {
+        Ok(text)
+    } else {
+        Err(ScriptKind::Limit)
     }
 }

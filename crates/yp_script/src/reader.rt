@@ -23,6 +23,7 @@ use yp_command::halt::{Halt, beside};
 use yp_command::receivers::Receivers;
 use yp_command::words::{is_yes, whole};
 use yp_journal::command::Command;
+use yp_schema::schema::Schema;
 use yp_time::start::Start;
 
 /// The most lanes.
@@ -61,12 +62,12 @@ impl Reader {
     ghost use Rattle.yp_script.specs.Script.{Progress, no_progress, with_command, with_laned, taken, at_stage, form_taken, line_taken};
     ghost use Rattle.yp_script.specs.declared.form.Form.TheVariants as forms;
 
-    /// Before the first line.
-    pub fn new(alloc: Global) -> Reader
-        ensures { progress_in result ≡ Ok no_progress }
+    /// At a stage, where nothing is said.
+    pub fn at_stage(alloc: Global, stage: Stage) -> Reader
+        ensures { progress_in result ≡ Ok (record no_progress { stage = stage }) }
     {
         Reader {
-            stage: Stage::Opening,
+            stage,
             parts: Parts::new(alloc),
             start: None,
             receivers: Receivers::new(alloc),
@@ -74,6 +75,13 @@ impl Reader {
             lanes: Vec::new(alloc),
             after: Gathered::new(alloc),
         }
+    }
+
+    /// Before the first line.
+    pub fn new(alloc: Global) -> Reader
+        ensures { progress_in result ≡ Ok no_progress }
+    {
+        Reader::at_stage(alloc, Stage::Opening)
     }
 
     /// Takes the start.
@@ -242,6 +250,14 @@ impl Reader {
             Err(Halt::Fault(kind)) => Err(self.stop(alloc, line.number, kind)),
             Err(Halt::Memory) => Err(ScriptFault::Memory),
         }
+    }
+
+    /// The schema of the lines so far, given on.
+    pub fn into_schema(self, alloc: Global) -> Result<Schema, ScriptFault>
+        ensures { Gives result (schema_in self) }
+    {
+        let Reader { parts, .. } = self;
+        parts.into_schema(alloc)
     }
 
     /// The script that ends here; `end` is the number of the line after the last.

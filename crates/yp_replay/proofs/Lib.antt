@@ -1,0 +1,4 @@
+mod FirstFaults
+mod Heard
+mod Held
+mod Lines

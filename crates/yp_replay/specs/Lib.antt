@@ -1,0 +1,4 @@
+pub mod Faults
+pub mod LimitLaws
+pub mod Readings
+pub mod Replay
