@@ -21,7 +21,8 @@ use Rattle.yp_mirror.specs.Stories.{Story, story_of}
 use Rattle.yp_moment.specs.Entries.{moments_of, selected_at}
 use Rattle.yp_moment.specs.Windows.{recorded}
 use Rattle.yp_promise.specs.Promise.{BeginsFull, Gives, Mirrors, NeverFalls, is_update_of}
-use Rattle.yp_promise.specs.Received.{held_of, received}
+use Rattle.yp_receiver.specs.Held.{held_of}
+use Rattle.yp_promise.specs.Received.{received}
 use Rattle.yp_promise.specs.Serving.{run_of}
 use Rattle.yp_promise.specs.Shown.{offered_to}
 use Rattle.yp_promise.proofs.Bodies.{SaysRows, rows_in_order, wanted}

@@ -22,7 +22,8 @@ use Rattle.yp_mirror.specs.Heard.{Told, after_attempt, after_body, after_full, h
 use Rattle.yp_moment.specs.Notices.{notice_by, notice_of, state_notice}
 use Rattle.yp_moment.specs.Windows.{recorded}
 use Rattle.yp_promise.specs.Promise.{is_update_of}
-use Rattle.yp_promise.specs.Received.{held_of, hears, received}
+use Rattle.yp_receiver.specs.Held.{hears, held_of}
+use Rattle.yp_promise.specs.Received.{received}
 
 -- ---- rows that are set
 

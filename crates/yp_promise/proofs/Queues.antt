@@ -1,7 +1,6 @@
 -- Posts throughout a serial run: kept by each entry and by each offer.
 use Rattle.std.proofs.Common.{◌≡◌, ℕ, zero, suc, ◌+◌, ◌<◌, ◌≤◌, refl, sym, ap, subst, ◌∙◌, Bool, true, false, List, [], ◌∷◌, ◌++◌, length, Option, Some, None, arith, length-append}
 use Rattle.std.specs.Prelude.{if◌then◌else◌, nat_lt, ◌==◌}
-use Rattle.std.specs.List.{slice_get}
 use Rattle.std.proofs.lemmas.Bool.{ltb-true, eqb-true, false≢true}
 use Rattle.std.proofs.lemmas.List.Elements.{filter-append}
 use Rattle.yp_schema.specs.declared.schema.SchemaNode.{SchemaNode}

@@ -19,7 +19,8 @@ use Rattle.yp_attempt.specs.Attempts.{Notification, taken_of}
 use Rattle.yp_attempt.specs.ListLaws.{all_before, all_filter}
 use Rattle.yp_attempt.specs.Tracks.{Attempt, Body, All, Edits, Marked, Notice}
 use Rattle.yp_moment.specs.Notices.{notice_by, notice_of, state_notice}
-use Rattle.yp_promise.specs.Received.{CanBeShown, held_of, hears, received}
+use Rattle.yp_receiver.specs.Held.{hears, held_of}
+use Rattle.yp_promise.specs.Received.{CanBeShown, received}
 use Rattle.yp_promise.proofs.Bodies.{AreRows, CarriesRows, SaysRows}
 use Rattle.yp_promise.proofs.Parts.{all_taken}
 

@@ -17,7 +17,8 @@ use Rattle.yp_mirror.specs.Heard.{is_full_update, is_incomplete_update, is_updat
 use Rattle.yp_moment.specs.Concealed.{NamesReadable}
 use Rattle.yp_moment.specs.Entries.{moments_of, selected_at}
 use Rattle.yp_moment.specs.Windows.{recorded}
-use Rattle.yp_promise.specs.Received.{held_of, received}
+use Rattle.yp_receiver.specs.Held.{held_of}
+use Rattle.yp_promise.specs.Received.{received}
 
 -- ---- subscriptions
 

@@ -1,0 +1,6 @@
+pub mod Depth
+pub mod Heard
+pub mod States
+pub mod Told
+pub mod Tracks
+pub mod Windows
