@@ -1,12 +1,12 @@
 """Runs the built program on each case and compares what it wrote, byte for byte.
 
-In cases/ each NAME.jsonl is a script. Beside it stands NAME.txt, the report that the program writes, or
-NAME.fault, which has the line on standard error and then the exit status. Where NAME.lines stands beside
+In cases/ each NAME.jsonl is a script, and a stream to replay in cases/streams/. Beside it stands NAME.txt, the
+text that the program writes, or NAME.fault, which has the line on standard error and then the exit status. Where NAME.lines stands beside
 them, the script is run once for each line of that file, with that line after it, and each run ends so.
 The scripts that are too large to be kept are made by large_cases.py, random ones with policies by
 access_cases.py, with filters and periods by subscription_cases.py, and with queues that fill by queue_cases.py;
-feed_cases.py has a short one for each rule of feeds and queues. Nothing here comes of a run: each expected text is
-worked out from the rules of the guides in docs/.
+feed_cases.py has a short one for each rule of feeds and queues. Streams to replay are made by stream_cases.py.
+Nothing here comes of a run: each expected text is worked out from the rules of the guides in docs/.
 """
 
 from __future__ import annotations
@@ -22,22 +22,26 @@ from access_cases import access_cases
 from feed_cases import feed_cases
 from large_cases import large_cases
 from queue_cases import queue_cases
+from stream_cases import endings, stream_cases
 from subscription_cases import subscription_cases
 
 BAD_ARGUMENTS: list[list[str]] = [
-    [], [""], ["Run"], ["RUN"], [" run"], ["run "], ["runs"], ["ru"], ["start"], ["--run"], ["--help"], ["run", ""],
-    ["run", "run"], ["run", "--workers", "9"]]
+    [], [""], ["Run"], ["RUN"], [" run"], ["run "], ["runs"], ["ru"], ["start"], ["--run"], ["live"], ["help"], ["run", ""],
+    ["run", "run"], ["run", "--workers", "9"], ["run", "--workers"], ["gen", "--seed", "4294967296"], ["gen", "--seed=-1"],
+    ["trial", "--size", "0"], ["trial", "--size", "10001"], ["trial", "--size", "7", "--size", "7"], ["x" * 100_000]]
+REQUESTS: list[list[str]] = [["--help"], ["-h"], ["--version"], ["run", "--help"]]
 
 
 @dataclass
 class Case:
-    """A script, and what the program writes and how it ends."""
+    """A script or a stream, and what the program writes and how it ends."""
 
     name: str
     script: bytes
     out: bytes = b""
     error: bytes = b""
     status: int = 0
+    words: tuple[str, ...] = ("run",)
 
 
 def kept_cases(folder: pathlib.Path) -> Iterator[Case | str]:
@@ -45,6 +49,7 @@ def kept_cases(folder: pathlib.Path) -> Iterator[Case | str]:
     for file in sorted(folder.rglob("*.jsonl")):
         name = f"{folder.name}/{file.relative_to(folder).with_suffix('')}"
         report, fault = file.with_suffix(".txt"), file.with_suffix(".fault")
+        words = ("replay",) if file.parent.name == "streams" else ("run",)
         if report.is_file() == fault.is_file():
             yield f"{name}: either NAME.txt or NAME.fault stands beside it"
             continue
@@ -55,18 +60,21 @@ def kept_cases(folder: pathlib.Path) -> Iterator[Case | str]:
                 (f"{name}, line {number}", before + line + b"\n")
                 for number, line in enumerate(lines.read_bytes().split(b"\n")[:-1], 1)]
         for each, script in scripts:
-            yield Case(each, script, report.read_bytes()) if report.is_file() else faulty(each, script, fault.read_text())
+            if report.is_file():
+                yield Case(each, script, report.read_bytes(), words=words)
+            else:
+                yield faulty(each, script, fault.read_text(), words)
 
 
-def faulty(name: str, script: bytes, fault: str) -> Case | str:
+def faulty(name: str, script: bytes, fault: str, words: tuple[str, ...]) -> Case | str:
     match fault.splitlines():
         case [error, ending] if ending.startswith("status "):
-            return Case(name, script, b"", error.encode() + b"\n", int(ending.removeprefix("status ")))
+            return Case(name, script, b"", error.encode() + b"\n", int(ending.removeprefix("status ")), words)
     return f"{name}: NAME.fault has two lines, the line on standard error and 'status N'"
 
 
 def made_cases() -> Iterator[Case]:
-    """The large scripts, and those with policies."""
+    """The large scripts, those with policies, filters and queues, and streams."""
     for name, script, report in access_cases():
         yield Case(name, script, report)
     for name, script, wanted in itertools.chain(large_cases(), subscription_cases(), feed_cases(), queue_cases()):
@@ -75,6 +83,8 @@ def made_cases() -> Iterator[Case]:
             yield Case(f"made: {name}", script, b"", f"push: line {line}: fault {fault}\n".encode(), 3)
         else:
             yield Case(f"made: {name}", script, wanted)
+    for name, stream, wanted in stream_cases():
+        yield Case(f"made: {name}", stream, *endings(wanted), words=("replay",))
 
 
 def wrong_cases(program: pathlib.Path, folder: pathlib.Path) -> Iterator[str]:
@@ -85,12 +95,12 @@ def wrong_cases(program: pathlib.Path, folder: pathlib.Path) -> Iterator[str]:
             yield case
             continue
         count += 1
-        ran = subprocess.run([str(program), "run"], input=case.script, capture_output=True, check=False)
+        ran = subprocess.run([str(program), *case.words], input=case.script, capture_output=True, check=False)
         if ran.returncode != case.status or ran.stderr != case.error:
             yield f"{case.name}: status {ran.returncode} and '{ran.stderr.decode(errors='replace').strip()}'"
         elif ran.stdout != case.out:
             yield f"{case.name}: {first_difference(ran.stdout, case.out)}"
-    print(f"check_repository: {count} scripts were run, of cases/, large ones and random ones")
+    print(f"check_repository: {count} scripts and streams were run, of cases/, large ones and random ones")
 
 
 def wrong_endings(program: pathlib.Path) -> Iterator[str]:
@@ -102,6 +112,11 @@ def wrong_endings(program: pathlib.Path) -> Iterator[str]:
             yield from wrong_ending(program, words, source, subprocess.PIPE, 2, b"push: bad words\n")
             if source.tell() != 0:
                 yield f"arguments {words}: standard input was read"
+    for words in REQUESTS:
+        ran = subprocess.run([str(program), *words], stdin=subprocess.DEVNULL, capture_output=True, check=False)
+        shown = b"push 0.1.0\n" if words == ["--version"] else b"Usage: push"
+        if ran.returncode != 0 or ran.stderr or shown not in ran.stdout:
+            yield f"arguments {words}: status {ran.returncode}, and not what was asked for"
     yield from wrong_ending(program, [b"run", b"\xff"], subprocess.DEVNULL, subprocess.PIPE, 2, b"push: bad words\n")
     with tempfile.TemporaryFile("w+b") as source, open("/dev/full", "wb") as full:
         source.write(b'{"start":"2026-01-01T00:00:00Z"}\n{"schema":[]}\n')

@@ -13,11 +13,11 @@ from typing import Any
 
 from access_cases import COMMANDS, USERS, Path, Rows, data, schema_line, target, value_at
 from large_cases import FIRST_ID, START, compact, given, reply, tree
-from subscription_cases import SHORTEST_PERIOD, Subscribing, Wanted, at_tick, kept_by, least
+from subscription_cases import MOST_FEEDS, SHORTEST_PERIOD, Subscribing, Wanted, at_tick, kept_by, least
 from window_cases import KINDS, changed, topmost
 
 SCRIPTS = 80
-MOST_TRIES, MOST_ROOTS, MOST_TAKEN = 8, 256, 32
+MOST_TRIES, MOST_ROOTS, MOST_TAKEN, MOST_LINES = 8, 256, 32, 100_000
 ORDER = ["started", "modified", "incomplete", "suspended", "resumed", "sync", "terminated"]
 BARRED = {"incomplete", "suspended", "resumed", "sync", "terminated"}
 UNSUPPORTABLE = "ietf-subscribed-notifications:unsupportable-volume"
@@ -426,6 +426,63 @@ def never_taken(ticks: int, subscriptions: int) -> tuple[bytes, bytes]:
     return run.script(), run.report()
 
 
+class Long(Written):
+    """A script of many commands without a policy: what is selected stays while no row changes, and replies are put together at the end."""
+
+    def __init__(self, places: int) -> None:
+        super().__init__(places)
+        self.answers: list[str] = []
+        self.seen: tuple[Rows, Rows] | None = None
+
+    def selection(self, receiver: int, wanted: dict[str, Any] | None) -> Rows:
+        if self.seen is None or self.seen[0] is not self.rows:
+            self.seen = self.rows, super().selection(receiver, wanted)
+        return self.seen[1]
+
+    def say(self, command: str, answer: str = '{"ok":true}') -> None:
+        self.position += 1
+        self.lines.append(command)
+        self.answers.append(reply(self.position, answer))
+
+    def report(self) -> bytes:
+        return "".join(self.answers).encode() + super().report()
+
+
+def most_lines(said: dict[str, Any], trigger: Trigger) -> tuple[bytes, bytes]:
+    """A script of 100,000 lines, patches and ticks in turn, whose receiver never takes."""
+    run = Long(1)
+    run.subscribed(trigger, said)
+    before = run.script().count(b"\n")
+    for number in range(MOST_LINES - before):
+        if number % 2:
+            run.to_tick(number)
+        else:
+            run.edited([f"eth{number % 3}"], number % 5)
+    return run.script(), run.report()
+
+
+def most_subscriptions() -> tuple[bytes, bytes]:
+    """As many subscriptions as there may be of one receiver, whose queue has one place: it takes nothing for a while, and then one by one."""
+    run = Long(1)
+    for number in range(MOST_FEEDS):
+        match number % 4:
+            case 0:
+                run.subscribed(Trigger(10), {"periodic": {"period": 10}})
+            case 1:
+                run.subscribed(Trigger(sync=False), {"on-change": {"sync-on-start": False}})
+            case 2:
+                run.subscribed(Trigger(dampening=25), {"on-change": {"dampening-period": 25}})
+            case _:
+                run.subscribed(Trigger(), {"on-change": {}})
+    for number in range(12):
+        run.edited([f"eth{number % 3}"], number)
+        run.to_tick(number * 7 + 1)
+    for number in range(MOST_FEEDS):
+        run.takes(1)
+        run.to_tick(100 + number)
+    return run.script(), run.report()
+
+
 def longest_dampening() -> tuple[bytes, bytes]:
     """The longest dampening period, and ticks up to the last one."""
     run = Written(4, True)
@@ -468,3 +525,5 @@ def queue_cases() -> Iterator[tuple[str, bytes, Wanted]]:
     yield "nothing is taken for 2,000 ticks", *never_taken(2_000, 2)
     yield "eight subscriptions share a queue of one place", *never_taken(40, 8)
     yield "the longest dampening period", *longest_dampening()
+    yield "100,000 lines of which nothing is taken, on change", *most_lines({"on-change": {}}, plain)
+    yield "256 subscriptions share a queue of one place", *most_subscriptions()

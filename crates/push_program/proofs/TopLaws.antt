@@ -1,47 +1,146 @@
--- What was read and written, in the words of a script and its report.
-use Rattle.std.proofs.Common.{◌≡◌, ℕ, ◌+◌, zero, suc, List, [], ◌∷◌, take, drop, Bool, Option, Some, None, Result, refl, sym, ap, ◌∙◌}
+-- What a job makes of what was read, in the words of all that the source had.
+use Rattle.std.proofs.Common.{◌≡◌, ℕ, ◌+◌, zero, suc, List, [], ◌∷◌, ◌++◌, take, drop, Bool, true, false, true≢false, Option, Some, None, Err, refl, sym, ap, ◌∙◌}
 use Rattle.std.specs.Prelude.{IfSome}
-use Rattle.yp_io.specs.Whole.{ReadsWhole, Appends, AppendsPrefix}
-use Rattle.yp_script.specs.declared.script.Script.{Script}
-use Rattle.yp_script.specs.Faults.{LineFault}
+use Rattle.yp_io.specs.Whole.{ReadsWhole}
+use Rattle.yp_command.specs.declared.fault.ScriptKind.{ScriptKind}
+use Rattle.yp_replay.specs.declared.fault.ReplayFault.{ReplayFault}
+use Rattle.yp_replay.specs.declared.fault.ReplayFault.TheVariants as replays
+use Rattle.yp_replay.specs.declared.fault.StreamKind.{StreamKind}
+use Rattle.yp_replay.specs.Replay.{replayed, stream_found, stream_replayed}
+use Rattle.yp_base.specs.Results.{◌>>=◌}
 use Rattle.yp_script.specs.Lines.{byte_limit}
-use Rattle.yp_script.specs.Script.{script_of, script_in}
+use Rattle.yp_script.specs.Script.{script_in, script_of}
+use Rattle.yp_script.specs.Stream.{stream_of}
 use Rattle.yp_live.specs.Promise.{Tells}
-use Rattle.push_program.specs.Answers.{WritesTold, WritesPrefix}
+use Rattle.push_program.specs.declared.job.Job.{Job}
+use Rattle.push_program.specs.declared.job.Job.TheVariants.{Run, Replay, Gen, Trial}
+use Rattle.push_program.specs.declared.top.Status.{Status}
+use Rattle.push_program.specs.declared.top.Status.TheVariants.{Done, BadWords, BadScript, BadStream, ReadFault, WriteFault, NoMemory}
+use Rattle.push_program.specs.Answers.{Answers, AnswersJob, ReadsNothing, Streams, WritesNothing}
+use Rattle.push_program.specs.Jobs.{HasScriptFault, HasStreamFault, IsText, IsTextOf, reads}
+use Rattle.push_program.specs.Making.{AnswersBytes, LeavesSink, Makes, Writing, status_of}
 
 take_twice : (n : ℕ) (xs : List ℕ) → take n (take n xs) ≡ take n xs
 take_twice zero xs = refl
 take_twice (suc n) [] = refl
 take_twice (suc n) (x ∷ xs) = ap (λ t. x ∷ t) (take_twice n xs)
 
+-- the streams of a call, by those of its sink
+abbrev pub writing_of : Streams → Writing
+writing_of s = record { before = s.written_before; after = s.written_after; faults_before = s.write_faults_before; faults_after = s.write_faults_after }
+
+-- ---- what was read
+
 -- the source was read to its end, or one byte past the most
-pub reads_all : (o after : Option (List ℕ)) (bytes : List ℕ) (over : Bool) → IfSome o (λ before. ReadsWhole byte_limit before after bytes over) → IfSome o (λ before. after ≡ Some (drop (byte_limit + 1) before))
+pub reads_all : (left after : Option (List ℕ)) (bytes : List ℕ) (over : Bool) → IfSome left (λ before. ReadsWhole byte_limit before after bytes over) → IfSome left (λ before. after ≡ Some (drop (byte_limit + 1) before))
 reads_all None after bytes over read = read
 reads_all (Some before) after bytes over read = read.rest
 
--- the script of what was read
-pub script_read : (o after : Option (List ℕ)) (bytes : List ℕ) (over : Bool) (script : Result Script LineFault) → IfSome o (λ before. ReadsWhole byte_limit before after bytes over) → script_in bytes ≡ script
-    → IfSome o (λ before. script_in before ≡ script)
-script_read None after bytes over script read is = read
-script_read (Some before) after bytes over script read is = sym (ap script_in read.front ∙ ap script_of (take_twice (byte_limit + 1) before)) ∙ is
+module _ (before bytes : List ℕ) (after : Option (List ℕ)) (over : Bool) (read : ReadsWhole byte_limit before after bytes over) where
+  -- the script of what was read is that of all
+  same_script : script_in bytes ≡ script_in before
+  same_script = ap script_in read.front ∙ ap script_of (take_twice (byte_limit + 1) before)
 
--- the text that was written tells of what was read, if what was taken of it does
-told_of : (before bytes text : List ℕ) (after : Option (List ℕ)) (over : Bool) → ReadsWhole byte_limit before after bytes over → Tells bytes text → Tells before text
-told_of before bytes text after over read told = record {
-  script = told.script;
-  entries = told.entries;
-  read = sym (ap script_in read.front ∙ ap script_of (take_twice (byte_limit + 1) before)) ∙ told.read;
-  journal = told.journal;
-  serial = told.serial;
-  legal = told.legal;
-  serves = told.serves;
-  report = told.report;
-}
+  -- and so is the stream
+  same_stream : replayed bytes ≡ replayed before
+  same_stream = ap replayed read.front ∙ ap (λ (text : List ℕ). stream_found (stream_of text) >>= stream_replayed) (take_twice (byte_limit + 1) before)
 
-pub told_written : (o w after rest : Option (List ℕ)) (bytes text : List ℕ) (over : Bool) → IfSome o (λ before. ReadsWhole byte_limit before rest bytes over) → Tells bytes text → IfSome w (λ before. Appends before after text) → WritesTold o w after
-told_written None w after rest bytes text over read told written = read
-told_written (Some before) w after rest bytes text over read told written = (text, told_of before bytes text rest over read told, written)
+  -- the text that tells of what was read tells of all
+  told_of : (text : List ℕ) → Tells bytes text → Tells before text
+  told_of text told = record {
+    script = told.script;
+    entries = told.entries;
+    read = sym same_script ∙ told.read;
+    served = told.served;
+    report = told.report;
+  }
 
-pub prefix_written : (o w after rest : Option (List ℕ)) (bytes text : List ℕ) (over : Bool) → IfSome o (λ before. ReadsWhole byte_limit before rest bytes over) → Tells bytes text → IfSome w (λ before. AppendsPrefix before after text) → WritesPrefix o w after
-prefix_written None w after rest bytes text over read told written = read
-prefix_written (Some before) w after rest bytes text over read told written = (text, told_of before bytes text rest over read told, written)
+text_read : (job : Job) (left after : Option (List ℕ)) (bytes text : List ℕ) (over : Bool) → IfSome left (λ before. ReadsWhole byte_limit before after bytes over) → IsText job bytes text → IsTextOf job left text
+text_read Run None after bytes text over read is = read
+text_read Run (Some before) after bytes text over read is = told_of before bytes after over read text is
+text_read Replay None after bytes text over read is = read
+text_read Replay (Some before) after bytes text over read is = sym (same_stream before bytes after over read) ∙ is
+text_read (Gen seed size) left after bytes text over read is = is
+text_read (Trial seed size) left after bytes text over read is = is
+
+script_fault_read : (job : Job) (left after : Option (List ℕ)) (bytes : List ℕ) (over : Bool) (line : ℕ) (kind : ScriptKind) → IfSome left (λ before. ReadsWhole byte_limit before after bytes over)
+    → HasScriptFault job bytes line kind → IfSome left (λ before. HasScriptFault job before line kind)
+script_fault_read job None after bytes over line kind read is = read
+script_fault_read Run (Some before) after bytes over line kind read is = sym (same_script before bytes after over read) ∙ is
+script_fault_read Replay (Some before) after bytes over line kind read is = sym (same_stream before bytes after over read) ∙ is
+script_fault_read (Gen seed size) (Some before) after bytes over line kind read is = absurd is
+script_fault_read (Trial seed size) (Some before) after bytes over line kind read is = absurd is
+
+stream_fault_read : (job : Job) (left after : Option (List ℕ)) (bytes : List ℕ) (over : Bool) (line : ℕ) (kind : StreamKind) → IfSome left (λ before. ReadsWhole byte_limit before after bytes over)
+    → HasStreamFault job bytes line kind → IfSome left (λ before. HasStreamFault job before line kind)
+stream_fault_read job None after bytes over line kind read is = read
+stream_fault_read Run (Some before) after bytes over line kind read is = absurd is
+stream_fault_read Replay (Some before) after bytes over line kind read is = sym (same_stream before bytes after over read) ∙ is
+stream_fault_read (Gen seed size) (Some before) after bytes over line kind read is = absurd is
+stream_fault_read (Trial seed size) (Some before) after bytes over line kind read is = absurd is
+
+
+-- ---- faults and memory
+
+-- a fault of what was read, before anything was written
+pub fault_answers : (job : Job) (bytes : List ℕ) (w : Writing) (fault : ReplayFault) → Makes job bytes (Err fault) → LeavesSink w → AnswersBytes job bytes w (status_of fault)
+fault_answers job bytes w (replays.Script line kind) is stays = (is, stays)
+fault_answers job bytes w (replays.Stream line kind) is stays = (is, stays)
+fault_answers job bytes w replays.Memory is stays = stays
+
+-- memory ran out before anything was done
+pub memory_answers : (asked : Option Job) (s : Streams) → ReadsNothing s → WritesNothing s → Answers asked s NoMemory
+memory_answers None s reads writes = (reads, writes)
+memory_answers (Some Run) s reads writes = (reads.1, writes)
+memory_answers (Some Replay) s reads writes = (reads.1, writes)
+memory_answers (Some (Gen seed size)) s reads writes = (reads, writes)
+memory_answers (Some (Trial seed size)) s reads writes = (reads, writes)
+
+-- ---- jobs that read
+
+-- what is answered with what was read is what the job answers
+pub with_reading : (job : Job) (s : Streams) (bytes : List ℕ) (over : Bool) (status : Status) → reads job ≡ true → IfSome s.left_before (λ before. ReadsWhole byte_limit before s.left_after bytes over)
+    → s.read_faults_after ≡ s.read_faults_before → AnswersBytes job bytes (writing_of s) status → AnswersJob job s status
+with_reading (Gen seed size) s bytes over status reader read quiet h = absurd (true≢false (sym reader))
+with_reading (Trial seed size) s bytes over status reader read quiet h = absurd (true≢false (sym reader))
+with_reading Run s bytes over Done reader read quiet h =
+    ((reads_all s.left_before s.left_after bytes over read, quiet), (h.0, (text_read Run s.left_before s.left_after bytes h.0 over read h.1.0, h.1.1)), h.1.2)
+with_reading Replay s bytes over Done reader read quiet h =
+    ((reads_all s.left_before s.left_after bytes over read, quiet), (h.0, (text_read Replay s.left_before s.left_after bytes h.0 over read h.1.0, h.1.1)), h.1.2)
+with_reading Run s bytes over BadWords reader read quiet h = absurd h
+with_reading Replay s bytes over BadWords reader read quiet h = absurd h
+with_reading Run s bytes over (BadScript line kind) reader read quiet h =
+    (refl, (reads_all s.left_before s.left_after bytes over read, quiet), script_fault_read Run s.left_before s.left_after bytes over line kind read h.0, h.1)
+with_reading Replay s bytes over (BadScript line kind) reader read quiet h =
+    (refl, (reads_all s.left_before s.left_after bytes over read, quiet), script_fault_read Replay s.left_before s.left_after bytes over line kind read h.0, h.1)
+with_reading Run s bytes over (BadStream line kind) reader read quiet h = absurd h.0
+with_reading Replay s bytes over (BadStream line kind) reader read quiet h =
+    (refl, (reads_all s.left_before s.left_after bytes over read, quiet), stream_fault_read Replay s.left_before s.left_after bytes over line kind read h.0, h.1)
+with_reading Run s bytes over ReadFault reader read quiet h = absurd h
+with_reading Replay s bytes over ReadFault reader read quiet h = absurd h
+with_reading Run s bytes over WriteFault reader read quiet h =
+    ((reads_all s.left_before s.left_after bytes over read, quiet), (h.0, (text_read Run s.left_before s.left_after bytes h.0 over read h.1.0, h.1.1)), h.1.2)
+with_reading Replay s bytes over WriteFault reader read quiet h =
+    ((reads_all s.left_before s.left_after bytes over read, quiet), (h.0, (text_read Replay s.left_before s.left_after bytes h.0 over read h.1.0, h.1.1)), h.1.2)
+with_reading Run s bytes over NoMemory reader read quiet h = (quiet, h)
+with_reading Replay s bytes over NoMemory reader read quiet h = (quiet, h)
+
+-- ---- jobs that don't
+
+pub without_reading : (job : Job) (s : Streams) (bytes : List ℕ) (status : Status) → reads job ≡ false → ReadsNothing s → AnswersBytes job bytes (writing_of s) status → AnswersJob job s status
+without_reading Run s bytes status not read h = absurd (true≢false not)
+without_reading Replay s bytes status not read h = absurd (true≢false not)
+without_reading (Gen seed size) s bytes Done not read h = (read, (h.0, (h.1.0, h.1.1)), h.1.2)
+without_reading (Gen seed size) s bytes BadWords not read h = absurd h
+without_reading (Gen seed size) s bytes (BadScript line kind) not read h = absurd h.0
+without_reading (Gen seed size) s bytes (BadStream line kind) not read h = absurd h.0
+without_reading (Gen seed size) s bytes ReadFault not read h = absurd h
+without_reading (Gen seed size) s bytes WriteFault not read h = (read, (h.0, (h.1.0, h.1.1)), h.1.2)
+without_reading (Gen seed size) s bytes NoMemory not read h = (read, h)
+without_reading (Trial seed size) s bytes Done not read h = (read, (h.0, (h.1.0, h.1.1)), h.1.2)
+without_reading (Trial seed size) s bytes BadWords not read h = absurd h
+without_reading (Trial seed size) s bytes (BadScript line kind) not read h = absurd h.0
+without_reading (Trial seed size) s bytes (BadStream line kind) not read h = absurd h.0
+without_reading (Trial seed size) s bytes ReadFault not read h = absurd h
+without_reading (Trial seed size) s bytes WriteFault not read h = (read, (h.0, (h.1.0, h.1.1)), h.1.2)
+without_reading (Trial seed size) s bytes NoMemory not read h = (read, h)

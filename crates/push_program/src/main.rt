@@ -1,17 +1,20 @@
 //! The program: its words, standard input and standard output.
 #![tactic(auto)]
 
+pub mod job;
 #[cfg(test)]
 mod tests;
+mod texts;
 pub mod top;
 
 use crate::top::{Status, push_main};
 use std::env::{Env, FillError};
+use std::io;
 use std::process::ExitCode;
-use std::{io, str};
 use yp_base::txt::Txt;
 use yp_io::persistent::Persistent;
 use yp_io::streams::{StdSink, StdSource};
+use yp_words::help::help_text;
 
 /// Tells standard error how a run ended, and gives the exit code.
 fn tell(rt: &HostRuntime, status: Status) -> anyhow::Result<u8> {
@@ -25,6 +28,11 @@ fn tell(rt: &HostRuntime, status: Status) -> anyhow::Result<u8> {
             let kind = kind.number();
             eprintln!(rt; "push: line {line}: fault {kind}")?;
             3
+        }
+        Status::BadStream { line, kind } => {
+            let kind = kind.number();
+            eprintln!(rt; "push: stream line {line}: fault {kind}")?;
+            4
         }
         Status::ReadFault => {
             eprintln!(rt; "push: reading failed")?;
@@ -41,25 +49,48 @@ fn tell(rt: &HostRuntime, status: Status) -> anyhow::Result<u8> {
     })
 }
 
-// Longer than each word that the program knows.
+// The room for a word at first; it grows where a word is longer.
 const ROOM: usize = 64;
 
-/// The word of a number, and `None` after the last one. One that isn't UTF-8, or is longer than each
-/// word that the program knows, is a bad word.
-fn word_at(rt: &HostRuntime, number: usize) -> Result<Option<Txt>, Status> {
-    let mut room = [0u8; ROOM];
-    let length = match rt.arg(number, &mut room) {
-        Ok(length) => length,
-        Err(FillError::NotPresent) => return Ok(None),
-        Err(FillError::TooLong) => return Err(Status::BadWords),
-    };
-    let Ok(word) = str::from_utf8(&room[..length]) else {
-        return Err(Status::BadWords);
-    };
-    match String::from_str(rt.alloc(), word) {
-        Ok(word) => Ok(Some(Txt::from_string(word))),
-        Err(_) => Err(Status::NoMemory),
+/// What is read of a word into some room.
+enum Fetched {
+    Word(String),
+    /// It is longer than the room.
+    Longer,
+    /// There is none of this number.
+    Nothing,
+}
+
+/// The word of a number, if there is room enough. One that isn't UTF-8 is a bad word.
+fn word_within(rt: &HostRuntime, number: usize, room: usize) -> Result<Fetched, Status> {
+    let mut bytes = Vec::new(rt.alloc());
+    if bytes.resize(room, 0u8).is_err() {
+        return Err(Status::NoMemory);
     }
+    match rt.arg(number, bytes.as_mut_slice()) {
+        Ok(length) => {
+            bytes.truncate(length);
+            match String::from_utf8(bytes) {
+                Ok(word) => Ok(Fetched::Word(word)),
+                Err(_) => Err(Status::BadWords),
+            }
+        }
+        Err(FillError::NotPresent) => Ok(Fetched::Nothing),
+        Err(FillError::TooLong) => Ok(Fetched::Longer),
+    }
+}
+
+/// The word of a number, and `None` after the last one.
+fn word_at(rt: &HostRuntime, number: usize) -> Result<Option<Txt>, Status> {
+    let mut room = ROOM;
+    for _ in 0..usize::BITS {
+        match word_within(rt, number, room)? {
+            Fetched::Word(word) => return Ok(Some(Txt::from_string(word))),
+            Fetched::Longer => room = room.saturating_mul(2),
+            Fetched::Nothing => return Ok(None),
+        }
+    }
+    Err(Status::NoMemory)
 }
 
 /// The words after the program's name, whose own bytes are never read.
@@ -76,19 +107,31 @@ fn words_of(rt: &HostRuntime) -> Result<Vec<Txt>, Status> {
     Ok(words)
 }
 
-/// Runs the program on its words, standard input and standard output.
-fn run_program(rt: &HostRuntime) -> Status {
-    let words = match words_of(rt) {
-        Ok(words) => words,
-        Err(status) => return status,
-    };
+/// Does what the words ask for, with standard input and standard output.
+fn run_program(rt: &HostRuntime, words: &[Txt]) -> Status {
     let mut source = StdSource::new(Persistent::reader(rt.reader()));
     let mut sink = StdSink::new(Persistent::writer(io::writer(rt)));
-    push_main(rt.alloc(), words.as_slice(), &mut source, &mut sink)
+    push_main(rt.alloc(), words, &mut source, &mut sink)
+}
+
+/// Shows the help or the version, where the words ask for it, or does what they ask for; and gives the exit
+/// code.
+fn answer(rt: &HostRuntime, words: &[Txt]) -> anyhow::Result<u8> {
+    match help_text(rt.alloc(), words) {
+        Ok(Some(text)) => {
+            let text = text.as_str();
+            print!(rt; "{text}")?;
+            Ok(0)
+        }
+        Ok(None) => tell(rt, run_program(rt, words)),
+        Err(_) => tell(rt, Status::NoMemory),
+    }
 }
 
 fn main(rt: HostRuntime) -> anyhow::Result<ExitCode> {
-    let status = run_program(&rt);
-    let code = tell(&rt, status)?;
+    let code = match words_of(&rt) {
+        Ok(words) => answer(&rt, words.as_slice())?,
+        Err(status) => tell(&rt, status)?,
+    };
     Ok(ExitCode::from(code))
 }

@@ -8,6 +8,7 @@ use yp_base::txt::Txt;
 use yp_command::fault::ScriptKind;
 use yp_io::memory::{MemSink, MemSource};
 use yp_io::source::{Got, Source};
+use yp_replay::fault::StreamKind;
 
 const START: &str = r#"{"start":"2026-01-01T00:00:00Z"}
 "#;
@@ -175,11 +176,78 @@ fn other_arguments_are_refused_and_nothing_is_read(rt: HostRuntime) -> Result<()
     assert!(rt; are_bad(alloc, &[])?);
     assert!(rt; are_bad(alloc, &["run", "--workers", "9"])?);
     assert!(rt; are_bad(alloc, &["run", "run"])?);
+    assert!(rt; are_bad(alloc, &["--help"])?);
+    assert!(rt; are_bad(alloc, &["trial", "--size", "0"])?);
     assert!(rt; are_bad(alloc, &["run", ""])?);
     for word in [
         "", "Run", "RUN", " run", "run ", "runs", "ru", "start", "--run",
     ] {
         assert!(rt; are_bad(alloc, &[word])?, "{word}");
     }
+    Ok(())
+}
+
+// How a run of these words ends on this input, and what it writes.
+fn ends(
+    alloc: Global,
+    texts: &[&str],
+    input: &[&str],
+    want: Status,
+    written: &str,
+) -> Result<bool, NoMemory> {
+    let mut words = Vec::new(alloc);
+    for text in texts {
+        words.push(Txt::from_string(String::from_str(alloc, *text)?))?;
+    }
+    let bytes = joined(alloc, input)?.into_bytes();
+    let mut source = MemSource::new(bytes, 4096, Vec::new(alloc));
+    let mut sink = MemSink::with_room(alloc, 10_000, 1000, Vec::new(alloc))?;
+    let status = push_main(alloc, words.as_slice(), &mut source, &mut sink);
+    Ok(status == want && sink.bytes() == written.as_bytes())
+}
+
+const CHANGES: &str =
+    r#"{"ietf-restconf:notification":{"eventTime":"2026-01-01T00:00:00.00Z","ietf-yang-push:push-change-update":{"datastore-changes":{"yang-patch":{"edit":[{"edit-id":"1","operation":"create","target":"/acme:interfaces/interface=eth0","value":{"acme:interface":[{"mtu":1500,"name":"eth0"}]}}],"patch-id":"2"}},"id":2147483648}}}
+"#;
+
+const MERGE: &str =
+    r#"{"ietf-restconf:notification":{"eventTime":"2026-01-01T00:00:00.00Z","ietf-yang-push:push-change-update":{"datastore-changes":{"yang-patch":{"edit":[{"edit-id":"1","operation":"merge","target":"/acme:interfaces/interface=eth0","value":{"acme:interface":[{"mtu":1500,"name":"eth0"}]}}],"patch-id":"2"}},"id":2147483648}}}
+"#;
+
+const TREE: &str = r#"tree 2147483648 {"acme:interfaces":{"interface":[{"mtu":1500,"name":"eth0"}]}}
+end
+"#;
+
+#[test]
+fn streams_are_replayed_and_told_their_first_fault(rt: HostRuntime) -> Result<(), Fail> {
+    let alloc = rt.alloc();
+    let replay = ["replay"];
+    let done = Status::Done;
+    assert!(rt; ends(alloc, &replay, &[SCHEMA, CHANGES], done, TREE)?);
+    assert!(rt; ends(alloc, &replay, &[SCHEMA], done, "end\n")?);
+    let kind = StreamKind::Member;
+    let faulty = Status::BadStream { line: 3, kind };
+    assert!(rt; ends(alloc, &replay, &[SCHEMA, CHANGES, MERGE], faulty, "")?);
+    let kind = ScriptKind::Order;
+    let unread = Status::BadScript { line: 1, kind };
+    assert!(rt; ends(alloc, &replay, &[START, SCHEMA], unread, "")?);
+    Ok(())
+}
+
+const TRIAL: &str = "commands 4
+refused 0
+full-updates 2
+change-updates 0
+notices 0
+fulls 0
+tree-rows 0
+end
+";
+
+#[test]
+fn a_trial_reads_nothing_and_comes_to_what_was_worked_out(rt: HostRuntime) -> Result<(), Fail> {
+    let alloc = rt.alloc();
+    let words = ["--size=1", "trial", "--seed=1"];
+    assert!(rt; ends(alloc, &words, &["x"], Status::Done, TRIAL)?);
     Ok(())
 }

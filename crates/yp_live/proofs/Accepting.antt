@@ -25,7 +25,7 @@ newest_stays capacity waiting notice room =
 
 -- the line is kept and the notification waits; and the receiver takes the packet where it does so at once
 pub accepted : (desk : DeskState) (given packet : Packet) (notice : Notice) (at capacity : ℕ) (log : List Logged) (queue : QueueState) (waiting : List Notice) → given ≡ packet → Took ≡ offer_answer desk.queue given
-    → length desk.waiting ≡ length desk.queue.packets → capacity ≡ desk.queue.places → log ≡ desk.log ++ logs.Line packet.line ∷ [] → queue ≡ offered desk.queue given → waiting ≡ keep_last capacity (desk.waiting ++ notice ∷ [])
+    → length desk.waiting ≡ length desk.queue.packets → capacity ≡ desk.queue.places → log ≡ desk.log ++ logs.Line packet.kind packet.line ∷ [] → queue ≡ offered desk.queue given → waiting ≡ keep_last capacity (desk.waiting ++ notice ∷ [])
     → desk_served desk.automatic (record desk { log = log; queue = queue; waiting = waiting }) ≡ desk_offered packet notice at desk
 accepted desk given packet notice at capacity log queue waiting same took count places logged put kept =
     let room : has_room desk.queue ≡ true = with_room (has_room desk.queue) given took in

@@ -1,4 +1,5 @@
 pub mod Accepting
+pub mod CountLaws
 pub mod Desks
 pub mod Held
 pub mod Journals

@@ -5,25 +5,34 @@ use Rattle.std.specs.List.{AllByRecursion, flat_map}
 use Rattle.std.proofs.lemmas.List.Elements.{recursion_from_All}
 use Rattle.yp_schema.specs.declared.schema.SchemaNode.{SchemaNode}
 use Rattle.yp_schema.specs.WellFormed.{IsSchema}
+use Rattle.yp_time.specs.Instants.{IsStart}
 use Rattle.yp_journal.specs.declared.entry.Entry.{Entry}
 use Rattle.yp_journal.specs.declared.receiver.ReceiverInfo.{ReceiverInfo}
 use Rattle.yp_journal.specs.History.{first_state, IsLegal}
 use Rattle.yp_script.specs.declared.script.Script.{Script}
 use Rattle.yp_script.specs.Script.{AreReceivers, IsReceiver, script_in}
+use Rattle.yp_serial.specs.Serial.{Served}
+use Rattle.yp_receiver.specs.Held.{lines_heard}
 use Rattle.yp_promise.specs.Promise.{Serves}
 use Rattle.yp_promise.specs.Received.{CanBeShown, received}
 use Rattle.yp_promise.specs.Serving.{run_of}
 use Rattle.yp_promise.specs.Shown.{got_by, offered_to}
+use Rattle.yp_texts.specs.Commands.{CommandHasUtf8, ScriptHasUtf8}
+use Rattle.yp_hearing.specs.Hearing.{CanBeTold, LinesMirror, line_for}
 use Rattle.yp_live.specs.declared.run.Run.{Run}
-use Rattle.yp_live.specs.Journal.{turn_of, IsJournalOf}
-use Rattle.yp_live.specs.Promise.{Tells}
+use Rattle.yp_live.specs.declared.script.Ran.{Ran}
+use Rattle.yp_live.specs.declared.turns.Turn.{Turn}
+use Rattle.yp_live.specs.Counts.{summary_from}
+use Rattle.yp_live.specs.Journal.{IsJournalOf}
+use Rattle.yp_live.specs.Promise.{IsServed, Sums, Tells}
 use Rattle.yp_live.specs.Desks.{DeskState, desk_text, desks_at}
 use Rattle.yp_live.specs.Report.{reply_lines, reply_text}
-use Rattle.yp_live.specs.Runs.{IsRun, CanBeWritten, text_from}
-use Rattle.yp_live.specs.Turns.{serial_turns, entries_from, journal_of}
+use Rattle.yp_live.specs.Runs.{IsRun, IsRunOf, CanBeWritten, text_from}
+use Rattle.yp_live.specs.Turns.{entries_from, journal_of}
+use Rattle.yp_live.proofs.CountLaws.{summary_is}
 use Rattle.yp_live.proofs.Journals.{journal_is}
 use Rattle.yp_live.proofs.Told.{desks_told, desks_writable, replies_told}
-use Rattle.yp_live.proofs.TurnLaws.{of_turns}
+use Rattle.yp_live.proofs.TurnLaws.{OfCommand, of_entries, of_script, of_turns}
 
 -- what laws say of the serial run of a legal journal
 abbrev pub AreServed : Type 0
@@ -36,29 +45,87 @@ AreShown = (nodes : List SchemaNode) (receivers : List ReceiverInfo) (entries : 
     → IsSchema nodes → IsLegal nodes (first_state receivers) entries → receiver < length receivers
     → CanBeShown nodes (received [] (got_by receiver (run_of nodes receivers entries)))
 
--- the text of the report of a script's run tells of it
-pub tells : AreServed → (script : Script) (bytes text : List ℕ) (entries : List Entry) (run : Run) → script_in bytes ≡ Ok script → IsRun script.schema script.start script.receivers entries run → map turn_of entries ≡ serial_turns script.before script.lanes script.after
-    → text ≡ text_from script.schema run.replies.items run.desks.items → Tells bytes text
-tells serves script bytes text entries run read is turns told =
-    let nodes = script.schema in
-    let receivers = script.receivers in
-    let followed = is.worker.followed in
-    let served = run_of nodes receivers entries in
-    let journal : entries ≡ journal_of script = of_turns nodes (first_state receivers) entries followed.legal ∙ ap (entries_from nodes (first_state receivers)) turns in
-    record {
-      script = script;
-      entries = entries;
-      read = read;
-      journal = subst (λ (those : List Entry). IsJournalOf script those) (sym journal) (journal_is script);
-      serial = journal;
-      legal = followed.legal;
-      serves = λ receiver less. serves nodes receivers entries receiver followed.schema followed.legal less;
-      report =
-          told
-          ∙ ((λ i. text_from nodes (is.replies i) (is.desks i))
-          ∙ ((λ i. flat_map reply_text (replies_told 1 entries i) ++ (flat_map (desk_text nodes) (desks_at nodes script.start served 0 receivers) ++ codes "end\n"))
-          ∙ ap (λ (lines : List ℕ). flat_map reply_text (reply_lines 1 entries) ++ (lines ++ codes "end\n")) (sym (desks_told nodes script.start served 0 receivers))));
-    }
+-- the bytes of the lines that a receiver takes of the serial run of a journal that can be told make what it takes, and its copies
+abbrev pub AreHeard : Type 0
+AreHeard = (nodes : List SchemaNode) (receivers : List ReceiverInfo) (entries : List Entry) (receiver start : ℕ)
+    → CanBeTold nodes receivers entries → receiver < length receivers → IsStart start
+    → lines_heard nodes [] (map (line_for nodes start) (got_by receiver (run_of nodes receivers entries))) ≡ received [] (got_by receiver (run_of nodes receivers entries))
+
+abbrev pub AreCopies : Type 0
+AreCopies = (nodes : List SchemaNode) (receivers : List ReceiverInfo) (entries : List Entry) (receiver start : ℕ)
+    → CanBeTold nodes receivers entries → receiver < length receivers → IsStart start
+    → LinesMirror nodes receivers entries receiver start (got_by receiver (run_of nodes receivers entries))
+
+-- the texts of a script's commands are UTF-8
+abbrev pub HaveUtf8 : Type 0
+HaveUtf8 = (bytes : List ℕ) (script : Script) → script_in bytes ≡ Ok script → ScriptHasUtf8 script
+
+-- the run of a script that was read
+module _ (serves : AreServed) (hears : AreHeard) (copies : AreCopies) (utf8 : HaveUtf8) (script : Script) (bytes : List ℕ) (ran : Ran) (read : script_in bytes ≡ Ok script) (is : IsRunOf script ran) where
+  abbrev served : Served
+  served = run_of script.schema script.receivers is.entries
+
+  -- all of its journal can be told in lines
+  can_be_told : CanBeTold script.schema script.receivers is.entries
+  can_be_told =
+      let u = utf8 bytes script read in
+      let followed = is.is.worker.followed in
+      record {
+        schema = followed.schema;
+        legal = followed.legal;
+        texts =
+            of_entries CommandHasUtf8 is.entries
+            (subst (λ (turns : List Turn). AllByRecursion (OfCommand CommandHasUtf8) turns) (sym is.turns) (of_script CommandHasUtf8 script.before script.lanes script.after u.before u.lanes u.after));
+        few = is.few;
+      }
+
+  all_heard : (receiver : ℕ) → receiver < length script.receivers → lines_heard script.schema [] (map (line_for script.schema script.start) (got_by receiver served)) ≡ received [] (got_by receiver served)
+  all_heard receiver less = hears script.schema script.receivers is.entries receiver script.start can_be_told less is.start
+
+  -- its entries are the journal of the script
+  is_served : IsServed script is.entries
+  is_served =
+      let followed = is.is.worker.followed in
+      let state = first_state script.receivers in
+      let journal : is.entries ≡ journal_of script = of_turns script.schema state is.entries followed.legal ∙ ap (entries_from script.schema state) is.turns in
+      record {
+        journal = subst (λ (those : List Entry). IsJournalOf script those) (sym journal) (journal_is script);
+        serial = journal;
+        legal = followed.legal;
+        serves = λ receiver less. serves script.schema script.receivers is.entries receiver followed.schema followed.legal less;
+        mirrored = λ receiver less. copies script.schema script.receivers is.entries receiver script.start can_be_told less is.start;
+      }
+
+  -- the text of the report tells of it
+  pub tells : (text : List ℕ) → text ≡ text_from script.schema ran.run.replies.items ran.run.desks.items → Tells bytes text
+  tells text told =
+      let nodes = script.schema in
+      let receivers = script.receivers in
+      record {
+        script = script;
+        entries = is.entries;
+        read = read;
+        served = is_served;
+        report =
+            told
+            ∙ ((λ i. text_from nodes (is.is.replies i) (is.is.desks i))
+            ∙ ((λ i. flat_map reply_text (replies_told 1 is.entries i) ++ (flat_map (desk_text nodes) (desks_at nodes script.start served 0 receivers) ++ codes "end\n"))
+            ∙ ap (λ (lines : List ℕ). flat_map reply_text (reply_lines 1 is.entries) ++ (lines ++ codes "end\n")) (sym (desks_told nodes script.start served (length receivers) 0 receivers (omega arith) all_heard))));
+      }
+
+  -- and the text of what it comes to is that of the report
+  pub sums : (text : List ℕ) → text ≡ summary_from ran.run.replies.items ran.run.desks.items → Sums bytes text
+  sums text told =
+      record {
+        script = script;
+        entries = is.entries;
+        read = read;
+        served = is_served;
+        summary =
+            told
+            ∙ ((λ i. summary_from (is.is.replies i) (is.is.desks i))
+            ∙ summary_is script.schema script.start script.receivers is.entries served all_heard);
+      }
 
 -- what the desks of a run hold can be written
 pub run_writable : AreShown → (nodes : List SchemaNode) (start : ℕ) (receivers : List ReceiverInfo) (entries : List Entry) (run : Run) → IsRun nodes start receivers entries run → CanBeWritten nodes run.desks.items

@@ -5,7 +5,8 @@ use Rattle.yp_base.specs.declared.notice.Notice.{Notice}
 use Rattle.yp_base.specs.declared.row.Row.{Row}
 use Rattle.yp_attempt.specs.Attempts.{Notification}
 use Rattle.yp_moment.specs.Notices.{notice_of}
-use Rattle.yp_promise.specs.Received.{hears, received}
+use Rattle.yp_receiver.specs.Held.{hears}
+use Rattle.yp_promise.specs.Received.{received}
 use Rattle.yp_live.specs.Desks.{DeskState, desk_took, hears_all}
 
 -- ---- lists

@@ -6,6 +6,8 @@ use Rattle.yp_journal.specs.declared.entry.Entry.{Entry}
 use Rattle.yp_journal.specs.declared.receiver.ReceiverInfo.{ReceiverInfo}
 use Rattle.yp_attempt.specs.Tracks.{Answer, Took, Full, Attempt}
 use Rattle.yp_serial.specs.Serial.{Served}
+use Rattle.yp_hearing.specs.Hearing.{line_for}
+use Rattle.yp_receiver.specs.Held.{lines_heard}
 use Rattle.yp_promise.specs.Received.{CanBeShown, received}
 use Rattle.yp_promise.specs.Shown.{Shown, count_taken, got_by, offered_to, shown_before, shown_of}
 use Rattle.yp_live.specs.Desks.{DeskState, desk_text, desks_at, left_after, log_text, logged, logged_by, logged_text}
@@ -27,12 +29,12 @@ module _ (nodes : List SchemaNode) (start : ℕ) (name : List ℕ) where
       told_before a.answer taken a (λ left. shown_of left attempts) (λ left. log_text name left (map (logged nodes start) attempts)) (λ left. log_told attempts left)
 
 module _ (nodes : List SchemaNode) (start : ℕ) (served : Served) where
-  -- the lines of each desk
-  pub desks_told : (number : ℕ) (receivers : List ReceiverInfo)
-      → flat_map (receiver_text nodes start) (receiver_reports served number receivers) ≡ flat_map (desk_text nodes) (desks_at nodes start served number receivers)
-  desks_told number [] = refl
-  desks_told number (receiver ∷ receivers) =
-      λ i. (log_told nodes start receiver.name (offered_to number served) (count_taken number served) i ++ flat_map (tree_text nodes receiver.name) (received [] (got_by number served))) ++ desks_told (number + 1) receivers i
+  -- the lines of each desk, where what each receiver holds is what the bytes of its lines make
+  pub desks_told : (count number : ℕ) (receivers : List ReceiverInfo) → number + length receivers ≡ count → ((n : ℕ) → n < count → lines_heard nodes [] (map (line_for nodes start) (got_by n served)) ≡ received [] (got_by n served))
+      → flat_map (receiver_text nodes start) (receiver_reports nodes start served number receivers) ≡ flat_map (desk_text nodes) (desks_at nodes start served number receivers)
+  desks_told count number [] is heard = refl
+  desks_told count number (receiver ∷ receivers) is heard =
+      λ i. (log_told nodes start receiver.name (offered_to number served) (count_taken number served) i ++ flat_map (tree_text nodes receiver.name) (heard number (omega (arith, is)) i)) ++ desks_told count (number + 1) receivers (omega (arith, is)) heard i
 
   -- what they hold can be written, where what each receiver holds can be shown
   pub desks_writable : (count number : ℕ) (receivers : List ReceiverInfo) → number + length receivers ≡ count → ((n : ℕ) → n < count → CanBeShown nodes (received [] (got_by n served)))

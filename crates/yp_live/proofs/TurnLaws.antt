@@ -1,15 +1,16 @@
 -- Turns of lanes, one after another, and the journal of turns.
-use Rattle.std.proofs.Common.{◌≡◌, ℕ, suc, ◌+◌, List, [], ◌∷◌, ◌++◌, length, map, refl, arith}
+use Rattle.std.proofs.Common.{◌≡◌, ℕ, suc, ◌+◌, List, [], ◌∷◌, ◌++◌, length, map, sum_by, refl, sym, ap, ap₂, ◌∙◌, arith, length-append}
 use Rattle.std.specs.Prelude.{All}
 use Rattle.std.specs.List.{AllByRecursion}
 use Rattle.std.proofs.lemmas.List.Elements.{recursion_from_All}
+use Rattle.std.proofs.lemmas.List.Sums.{sum_by-cons}
 use Rattle.yp_schema.specs.declared.schema.SchemaNode.{SchemaNode}
 use Rattle.yp_journal.specs.declared.command.Command.{Command}
 use Rattle.yp_journal.specs.declared.entry.Entry.{Entry}
 use Rattle.yp_journal.specs.declared.receiver.ReceiverInfo.{ReceiverInfo}
 use Rattle.yp_journal.specs.History.{JournalState, next_state, MayCome, IsLegal}
 use Rattle.yp_script.specs.declared.script.Script.{Script}
-use Rattle.yp_script.specs.Script.{MayRun}
+use Rattle.yp_script.specs.Script.{MayRun, count_commands}
 use Rattle.yp_live.specs.declared.turns.Turn.{Turn}
 use Rattle.yp_live.specs.Journal.{turn_of}
 use Rattle.yp_live.specs.Turns.{turns_of, lane_turns, serial_turns, MayTake, entries_from}
@@ -23,13 +24,29 @@ module _ {X : Type 0} (P : X → Type 0) where
 abbrev pub TurnsMayCome : List SchemaNode → List ReceiverInfo → List Turn → Type 0
 TurnsMayCome nodes receivers turns = AllByRecursion (MayTake nodes receivers) turns
 
-of_lane : (nodes : List SchemaNode) (receivers : List ReceiverInfo) (lane index : ℕ) (commands : List Command) → AllByRecursion (MayCome nodes receivers) commands → TurnsMayCome nodes receivers (turns_of lane index commands)
-of_lane nodes receivers lane index [] all = tt
-of_lane nodes receivers lane index (command ∷ commands) all = (all.0, of_lane nodes receivers lane (index + 1) commands all.1)
+-- what holds of each command of a script holds of the commands of its turns
+module _ (P : Command → Type 0) where
+  abbrev pub OfCommand : Turn → Type 0
+  OfCommand turn = P turn.command
 
-of_lanes : (nodes : List SchemaNode) (receivers : List ReceiverInfo) (lane : ℕ) (lanes : List (List Command)) → AllByRecursion (AllByRecursion (MayCome nodes receivers)) lanes → TurnsMayCome nodes receivers (lane_turns lane lanes)
-of_lanes nodes receivers lane [] all = tt
-of_lanes nodes receivers lane (commands ∷ lanes) all = all_joined (MayTake nodes receivers) (turns_of lane 1 commands) (lane_turns (lane + 1) lanes) (of_lane nodes receivers lane 1 commands all.0) (of_lanes nodes receivers (lane + 1) lanes all.1)
+  of_lane : (lane index : ℕ) (commands : List Command) → AllByRecursion P commands → AllByRecursion OfCommand (turns_of lane index commands)
+  of_lane lane index [] all = tt
+  of_lane lane index (command ∷ commands) all = (all.0, of_lane lane (index + 1) commands all.1)
+
+  of_lanes : (lane : ℕ) (lanes : List (List Command)) → AllByRecursion (AllByRecursion P) lanes → AllByRecursion OfCommand (lane_turns lane lanes)
+  of_lanes lane [] all = tt
+  of_lanes lane (commands ∷ lanes) all = all_joined OfCommand (turns_of lane 1 commands) (lane_turns (lane + 1) lanes) (of_lane lane 1 commands all.0) (of_lanes (lane + 1) lanes all.1)
+
+  pub of_script : (before : List Command) (lanes : List (List Command)) (after : List Command) → AllByRecursion P before → AllByRecursion (AllByRecursion P) lanes → AllByRecursion P after
+      → AllByRecursion OfCommand (serial_turns before lanes after)
+  of_script before lanes after first middle last =
+      all_joined OfCommand (turns_of 0 1 before) (lane_turns 1 lanes ++ turns_of 0 (length before + 1) after) (of_lane 0 1 before first)
+      (all_joined OfCommand (lane_turns 1 lanes) (turns_of 0 (length before + 1) after) (of_lanes 1 lanes middle) (of_lane 0 (length before + 1) after last))
+
+  -- and of the entries of these turns
+  pub of_entries : (entries : List Entry) → AllByRecursion OfCommand (map turn_of entries) → AllByRecursion (λ entry. P entry.command) entries
+  of_entries [] all = tt
+  of_entries (entry ∷ entries) all = (all.0, of_entries entries all.1)
 
 each_listed : {X : Type 0} (P : X → Type 0) (lists : List (List X)) → All (All P) lists → AllByRecursion (AllByRecursion P) lists
 each_listed P [] all = tt
@@ -39,9 +56,28 @@ each_listed P (xs ∷ lists) all = (recursion_from_All P xs (all 0 xs (omega ari
 pub may_take : (script : Script) → MayRun script → TurnsMayCome script.schema script.receivers (serial_turns script.before script.lanes script.after)
 may_take script may =
     let P = MayCome script.schema script.receivers in
-    all_joined (MayTake script.schema script.receivers) (turns_of 0 1 script.before) _ (of_lane script.schema script.receivers 0 1 script.before (recursion_from_All P script.before may.before))
-    (all_joined (MayTake script.schema script.receivers) (lane_turns 1 script.lanes) _ (of_lanes script.schema script.receivers 1 script.lanes (each_listed P script.lanes may.lanes))
-    (of_lane script.schema script.receivers 0 (length script.before + 1) script.after (recursion_from_All P script.after may.after)))
+    of_script P script.before script.lanes script.after (recursion_from_All P script.before may.before) (each_listed P script.lanes may.lanes) (recursion_from_All P script.after may.after)
+
+-- ---- how many there are
+
+lane_length : (lane index : ℕ) (commands : List Command) → length (turns_of lane index commands) ≡ length commands
+lane_length lane index [] = refl
+lane_length lane index (command ∷ commands) = ap suc (lane_length lane (index + 1) commands)
+
+lanes_length : (lane : ℕ) (lanes : List (List Command)) → length (lane_turns lane lanes) ≡ sum_by (λ commands. length commands) lanes
+lanes_length lane [] = refl
+lanes_length lane (commands ∷ lanes) =
+    length-append (turns_of lane 1 commands) (lane_turns (lane + 1) lanes)
+    ∙ (ap₂ (λ (n m : ℕ). n + m) (lane_length lane 1 commands) (lanes_length (lane + 1) lanes)
+    ∙ sym (sum_by-cons (λ (those : List Command). length those) commands lanes))
+
+-- as many turns as commands
+pub turns_length : (script : Script) → length (serial_turns script.before script.lanes script.after) ≡ count_commands script
+turns_length script =
+    let after : List Turn = turns_of 0 (length script.before + 1) script.after in
+    let first = length-append (turns_of 0 1 script.before) (lane_turns 1 script.lanes ++ after) in
+    let second = length-append (lane_turns 1 script.lanes) after in
+    omega (arith, first, second, lane_length 0 1 script.before, lanes_length 1 script.lanes, lane_length 0 (length script.before + 1) script.after)
 
 -- ---- the journal of turns
 

@@ -12,15 +12,16 @@ use Rattle.yp_roster.specs.declared.settling.Settled.{Settled}
 use Rattle.yp_roster.specs.declared.settling.Settled.TheVariants as answers
 use Rattle.yp_attempt.specs.Tracks.{Answer, Took, Full, Attempt}
 use Rattle.yp_serial.specs.Serial.{Served}
-use Rattle.yp_worker.specs.Packets.{packet_of}
+use Rattle.yp_worker.specs.Packets.{kind_of, packet_of}
 use Rattle.yp_moment.specs.Notices.{notice_of}
-use Rattle.yp_promise.specs.Received.{hears, received}
+use Rattle.yp_receiver.specs.Held.{hears}
+use Rattle.yp_promise.specs.Received.{received}
 use Rattle.yp_promise.specs.Shown.{count_taken, got_by, kept_for, offered_to}
 use Rattle.yp_live.specs.declared.desk.Logged.{Logged}
 use Rattle.yp_live.specs.declared.desk.Logged.TheVariants as logs
 use Rattle.yp_live.specs.Report.{tree_text}
 
--- what a desk has: the receiver's name and whether it takes each packet at once; of each offer the line that was accepted, or that the queue was full; how many packets it took; its queue, with the notifications of the packets there; and what it holds of each subscription
+-- what a desk has: the receiver's name and whether it takes each packet at once; of each offer the kind and the line that were accepted, or that the queue was full; how many packets it took; its queue, with the notifications of the packets there; and what it holds of each subscription
 pub record DeskState : Type 0 where
   pub name : List ℕ
   pub automatic : Bool
@@ -34,7 +35,7 @@ pub record DeskState : Type 0 where
 
 -- what is logged of an attempt
 abbrev pub logged_by : Answer → List SchemaNode → ℕ → Attempt → Logged
-logged_by Took nodes start a = logs.Line (line_of nodes start a.made.tick (notice_of a.sub a.made))
+logged_by Took nodes start a = logs.Line (kind_of a.made.body) (line_of nodes start a.made.tick (notice_of a.sub a.made))
 logged_by Full nodes start a = logs.FullAt a.sub a.at
 
 abbrev pub logged : List SchemaNode → ℕ → Attempt → Logged
@@ -83,7 +84,7 @@ desk_served false desk = desk
 -- an offer that is accepted: its line is kept, and its packet and its notification are the newest
 abbrev pub desk_accepted : Packet → Notice → DeskState → DeskState
 desk_accepted packet notice desk = record desk {
-  log = desk.log ++ logs.Line packet.line ∷ [];
+  log = desk.log ++ logs.Line packet.kind packet.line ∷ [];
   queue = with_packets desk.queue (desk.queue.packets ++ packet ∷ []);
   waiting = desk.waiting ++ notice ∷ [];
 }
@@ -104,14 +105,14 @@ desk_answer desk = if has_room desk.queue then answers.Took else answers.Full
 
 -- what is told of an offer, where so many packets that were accepted are taken and not told yet: a packet that is taken, or that the queue was full
 abbrev pub logged_text : List ℕ → Logged → ℕ → List ℕ
-logged_text name (logs.Line line) zero = []
-logged_text name (logs.Line line) (suc taken) = codes "to " ++ name ++ codes " " ++ line ++ codes "\n"
+logged_text name (logs.Line kind line) zero = []
+logged_text name (logs.Line kind line) (suc taken) = codes "to " ++ name ++ codes " " ++ line ++ codes "\n"
 logged_text name (logs.FullAt sub position) taken = codes "full " ++ name ++ codes " " ++ decimal sub ++ codes " " ++ decimal position ++ codes "\n"
 
 -- how many are taken and not told after it
 abbrev pub left_after : Logged → ℕ → ℕ
-left_after (logs.Line line) zero = zero
-left_after (logs.Line line) (suc taken) = taken
+left_after (logs.Line kind line) zero = zero
+left_after (logs.Line kind line) (suc taken) = taken
 left_after (logs.FullAt sub position) taken = taken
 
 -- what is told of a log

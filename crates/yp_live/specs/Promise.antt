@@ -1,4 +1,4 @@
--- The promise of a script's report: what its text tells of the bytes that the script was read from.
+-- The promise of a script's report: what its text tells of the bytes that the script was read from, and what it comes to.
 use Rattle.std.specs.Prelude.{◌≡◌, ℕ, ◌<◌, List, length, Ok}
 use Rattle.yp_journal.specs.declared.entry.Entry.{Entry}
 use Rattle.yp_journal.specs.History.{first_state, IsLegal}
@@ -7,16 +7,14 @@ use Rattle.yp_script.specs.Script.{script_in}
 use Rattle.yp_promise.specs.Promise.{Serves}
 use Rattle.yp_promise.specs.Serving.{run_of}
 use Rattle.yp_promise.specs.Shown.{got_by, offered_to}
+use Rattle.yp_hearing.specs.Hearing.{LinesMirror}
 use Rattle.yp_live.specs.Journal.{IsJournalOf}
 use Rattle.yp_live.specs.Report.{report_of, report_text}
+use Rattle.yp_live.specs.Summary.{summary_text}
 use Rattle.yp_live.specs.Turns.{journal_of}
 
--- a text that tells of a script's run: there are the script and the journal of its run, such that ..
-pub record Tells (bytes text : List ℕ) : Type 0 where
-  pub script : Script
-  pub entries : List Entry
-  -- the bytes are the script
-  pub read : script_in bytes ≡ Ok script
+-- the entries are the journal of a script's serial run
+pub record IsServed (script : Script) (entries : List Entry) : Type 0 where
   -- the journal has the script's commands, each once, in the order of the script
   pub journal : IsJournalOf script entries
   -- the lanes are taken one after the other
@@ -26,5 +24,24 @@ pub record Tells (bytes text : List ℕ) : Type 0 where
   -- each receiver is served by the serial run of the journal
   pub serves : (receiver : ℕ) → receiver < length script.receivers
       → Serves script.schema script.receivers entries receiver (offered_to receiver (run_of script.schema script.receivers entries)) (got_by receiver (run_of script.schema script.receivers entries))
+  -- and after the line of each update of a mirrored subscription the tree that it made of the bytes of its lines so far is what is selected at the update's position
+  pub mirrored : (receiver : ℕ) → receiver < length script.receivers
+      → LinesMirror script.schema script.receivers entries receiver script.start (got_by receiver (run_of script.schema script.receivers entries))
+
+-- a text that tells of a script's run: there are the script and the journal of its run, such that ..
+pub record Tells (bytes text : List ℕ) : Type 0 where
+  pub script : Script
+  pub entries : List Entry
+  -- the bytes are the script
+  pub read : script_in bytes ≡ Ok script
+  pub served : IsServed script entries
   -- the text is the report of just this run
-  pub report : text ≡ report_text script.schema script.start (report_of script.receivers entries (run_of script.schema script.receivers entries))
+  pub report : text ≡ report_text script.schema script.start (report_of script.schema script.start script.receivers entries (run_of script.schema script.receivers entries))
+
+-- the same of a text that says what the report of a script's run comes to
+pub record Sums (bytes text : List ℕ) : Type 0 where
+  pub script : Script
+  pub entries : List Entry
+  pub read : script_in bytes ≡ Ok script
+  pub served : IsServed script entries
+  pub summary : text ≡ summary_text (report_of script.schema script.start script.receivers entries (run_of script.schema script.receivers entries))

@@ -1,5 +1,5 @@
 -- The report of a run, as a value and as a text: the replies by position, then for each receiver what it took, where its queue was full and what it holds, and `end`.
-use Rattle.std.specs.Prelude.{ℕ, ◌+◌, List, [], ◌∷◌, ◌++◌, true, Option, Some, None, codes, decimal}
+use Rattle.std.specs.Prelude.{ℕ, ◌+◌, List, [], ◌∷◌, ◌++◌, map, true, Option, Some, None, codes, decimal}
 use Rattle.std.specs.List.{flat_map}
 use Rattle.serde_json.specs.Data.{Data, boolean, number, unsigned, string, object, Members, no_members, member}
 use Rattle.serde_json.specs.Written.{compact_text}
@@ -8,16 +8,15 @@ use Rattle.yp_schema.specs.declared.schema.SchemaNode.{SchemaNode}
 use Rattle.yp_data_json.specs.Writing.{rows_json}
 use Rattle.yp_edit.specs.declared.fault.Tag.{Tag}
 use Rattle.yp_edit.specs.declared.fault.Tag.TheVariants.{UnknownElement, InvalidValue, DataMissing, DataExists, TooBig}
-use Rattle.yp_encode.specs.Lines.{line_of}
 use Rattle.yp_journal.specs.declared.entry.Entry.{Entry}
 use Rattle.yp_journal.specs.declared.receiver.ReceiverInfo.{ReceiverInfo}
 use Rattle.yp_journal.specs.declared.reply.Reply.{Reply}
 use Rattle.yp_journal.specs.declared.reply.Reply.TheVariants.{Id, Done, Registry, Edit}
 use Rattle.yp_registry.specs.declared.refused.Refused.{Refused}
 use Rattle.yp_registry.specs.declared.refused.Refused.TheVariants.{AccessDenied, EncodingUnsupported, DatastoreNotSubscribable, FilterUnsupported, PeriodUnsupported, InsufficientResources, Memory}
+use Rattle.yp_receiver.specs.Held.{lines_heard}
 use Rattle.yp_serial.specs.Serial.{Served}
-use Rattle.yp_moment.specs.Notices.{notice_of}
-use Rattle.yp_promise.specs.Received.{received}
+use Rattle.yp_hearing.specs.Hearing.{line_for}
 use Rattle.yp_promise.specs.Shown.{Shown, Got, FullAt, count_taken, got_by, offered_to, shown_of}
 
 -- ---- the value
@@ -45,22 +44,22 @@ abbrev pub reply_lines : ℕ → List Entry → List ReplyLine
 reply_lines n [] = []
 reply_lines n (entry ∷ entries) = record { position = n; lane = entry.lane; index = entry.index; reply = entry.reply } ∷ reply_lines (n + 1) entries
 
--- what is told of the receiver of a number, by a serial run
-abbrev pub receiver_report : Served → ℕ → ReceiverInfo → ReceiverReport
-receiver_report served n receiver = record {
+-- what is told of the receiver of a number, by a serial run; it makes its trees from the bytes of the lines that it took
+abbrev pub receiver_report : List SchemaNode → ℕ → Served → ℕ → ReceiverInfo → ReceiverReport
+receiver_report nodes start served n receiver = record {
   name = receiver.name;
   shown = shown_of (count_taken n served) (offered_to n served);
-  trees = received [] (got_by n served);
+  trees = lines_heard nodes [] (map (line_for nodes start) (got_by n served));
 }
 
 -- the same of receivers in order, the first of which has this number
-abbrev pub receiver_reports : Served → ℕ → List ReceiverInfo → List ReceiverReport
-receiver_reports served n [] = []
-receiver_reports served n (receiver ∷ receivers) = receiver_report served n receiver ∷ receiver_reports served (n + 1) receivers
+abbrev pub receiver_reports : List SchemaNode → ℕ → Served → ℕ → List ReceiverInfo → List ReceiverReport
+receiver_reports nodes start served n [] = []
+receiver_reports nodes start served n (receiver ∷ receivers) = receiver_report nodes start served n receiver ∷ receiver_reports nodes start served (n + 1) receivers
 
 -- the report of the entries of a journal and of its serial run
-abbrev pub report_of : List ReceiverInfo → List Entry → Served → Report
-report_of receivers entries served = record { replies = reply_lines 1 entries; receivers = receiver_reports served 0 receivers }
+abbrev pub report_of : List SchemaNode → ℕ → List ReceiverInfo → List Entry → Served → Report
+report_of nodes start receivers entries served = record { replies = reply_lines 1 entries; receivers = receiver_reports nodes start served 0 receivers }
 
 -- ---- its text
 
@@ -107,7 +106,7 @@ reply_text line = codes "reply " ++ decimal line.position ++ codes " " ++ decima
 
 -- the line of what is shown of the receiver of this name: a notification that it took, or that its queue was full when something of a subscription was offered at a position
 unfoldable pub shown_text : List SchemaNode → ℕ → List ℕ → Shown → List ℕ
-shown_text nodes start name (Got n) = codes "to " ++ name ++ codes " " ++ line_of nodes start n.made.tick (notice_of n.sub n.made) ++ codes "\n"
+shown_text nodes start name (Got n) = codes "to " ++ name ++ codes " " ++ line_for nodes start n ++ codes "\n"
 shown_text nodes start name (FullAt sub position) = codes "full " ++ name ++ codes " " ++ decimal sub ++ codes " " ++ decimal position ++ codes "\n"
 
 -- the line of what it holds of a subscription, by id

@@ -1,10 +1,12 @@
 -- How far a run has come, and what of it can be written.
-use Rattle.std.specs.Prelude.{◌≡◌, ℕ, ◌+◌, ◌≤◌, Bool, true, false, List, [], ◌∷◌, ◌++◌, map, codes}
+use Rattle.std.specs.Prelude.{◌≡◌, ℕ, ◌+◌, ◌^◌, ◌<◌, ◌≤◌, Bool, true, false, List, [], ◌∷◌, ◌++◌, length, map, codes}
 use Rattle.std.specs.List.{AllByRecursion, flat_map}
 use Rattle.yp_schema.specs.declared.schema.SchemaNode.{SchemaNode}
+use Rattle.yp_time.specs.Instants.{IsStart}
 use Rattle.yp_journal.specs.declared.command.Command.{Command}
 use Rattle.yp_journal.specs.declared.entry.Entry.{Entry}
 use Rattle.yp_journal.specs.declared.receiver.ReceiverInfo.{ReceiverInfo}
+use Rattle.yp_script.specs.declared.script.Script.{Script}
 use Rattle.yp_attempt.specs.Attempts.{answers_in}
 use Rattle.yp_moment.specs.Windows.{recorded}
 use Rattle.yp_serial.specs.Serial.{Served}
@@ -16,8 +18,11 @@ use Rattle.yp_promise.specs.Received.{CanBeShown}
 use Rattle.yp_promise.specs.Serving.{IsServing, all_numbers, run_of, taken_by}
 use Rattle.yp_live.specs.declared.run.Replied.{Replied}
 use Rattle.yp_live.specs.declared.run.Run.{Run}
+use Rattle.yp_live.specs.declared.script.Ran.{Ran}
 use Rattle.yp_live.specs.Desks.{DeskState, desk_text, desk_took, desks_at}
+use Rattle.yp_live.specs.Journal.{turn_of}
 use Rattle.yp_live.specs.Report.{ReplyLine, reply_text}
+use Rattle.yp_live.specs.Turns.{serial_turns}
 
 -- the reply of an entry, with its lane and its number there
 abbrev pub replied_of : Entry → Replied
@@ -79,6 +84,15 @@ pub record GoesOn (nodes : List SchemaNode) (start : ℕ) (receivers : List Rece
 abbrev pub GoesOnIf : Bool → List SchemaNode → ℕ → List ReceiverInfo → List Entry → Served → ℕ → Worker → List DeskState → Type 0
 GoesOnIf true nodes start receivers entries served count worker desks = GoesOn nodes start receivers entries served count worker desks
 GoesOnIf false nodes start receivers entries served count worker desks = IsThrough nodes start receivers entries worker desks
+
+-- the run of a script: all its commands were taken, in the order of a serial run
+pub record IsRunOf (script : Script) (ran : Ran) : Type 0 where
+  pub schema : ran.schema ≡ script.schema
+  pub start : IsStart script.start
+  pub entries : List Entry
+  pub few : length entries < 2 ^ 32
+  pub turns : map turn_of entries ≡ serial_turns script.before script.lanes script.after
+  pub is : IsRun script.schema script.start script.receivers entries ran.run
 
 -- ---- what is told in the end
 

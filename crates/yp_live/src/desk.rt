@@ -1,12 +1,14 @@
 //! The desk of a receiver.
-ghost use Rattle.std.specs.Prelude.{◌≡◌, ◌≤◌, ◌++◌, ℕ, List, IfOk, OnOk, string_bytes};
+ghost use Rattle.std.specs.Prelude.{◌≡◌, ◌≤◌, ◌++◌, ℕ, List, length, sum_by, IfOk, OnOk, string_bytes};
 ghost use Rattle.yp_schema.specs.declared.schema.SchemaNode.{SchemaNode};
 ghost use Rattle.yp_promise.specs.Received.{CanBeShown};
 ghost use Rattle.yp_serial.specs.Serial.{first_served};
+ghost use Rattle.yp_live.specs.Counts.{count_desk, count_log, counts_entry, desk_rows, is_told};
 ghost use Rattle.yp_live.specs.Desks.{desk_answer, desk_at, desk_offered, desk_text, desk_took, left_after, log_text, logged_text};
 
+use crate::counted::Counted;
 use crate::holdings::Holdings;
-use crate::trees::push_trees;
+use crate::trees::{count_rows, push_trees};
 use circular_buffer::HeapCircularBuffer;
 use std::alloc::{AllocError, Global};
 use std::marker::Model;
@@ -17,7 +19,7 @@ use yp_base::steps::Steps;
 use yp_base::txt::Txt;
 use yp_journal::receiver::ReceiverInfo;
 use yp_queue::local::LocalQueue;
-use yp_queue::packet::{Offered, Packet};
+use yp_queue::packet::{Offered, Packet, PacketKind};
 use yp_roster::settling::Settled;
 use yp_schema::schema::Schema;
 use yp_worker::offering::Sent;
@@ -25,8 +27,8 @@ use yp_worker::offering::Sent;
 /// What is kept of an offer.
 #[derive(Drop)]
 pub enum Logged {
-    /// The line of the packet, which the queue accepted.
-    Line(Txt),
+    /// A packet that the queue accepted: its kind and its line.
+    Line { kind: PacketKind, line: Txt },
     /// The queue was full when something of a subscription was offered at a position.
     FullAt { sub: u32, position: u64 },
 }
@@ -68,7 +70,7 @@ fn push_logged(
     ensures text { OnOk result (string_bytes text.new ≡ string_bytes text.old ++ logged_text name.now logged.now taken) }
 {
     match logged {
-        Logged::Line(line) => {
+        Logged::Line { line, .. } => {
             if taken == 0 {
                 return Ok(0);
             }
@@ -93,6 +95,51 @@ fn log_text(alloc: Global, name: &str, log: Vec<Logged>, taken: usize) -> Result
         left = push_logged(&mut text, name, &logged, left)?;
     }
     Ok(text)
+}
+
+/// Whether what is kept of an offer is told, where so many packets that were taken are not told yet.
+fn is_told(logged: &Logged, taken: usize) -> bool
+    ensures { result ≡ is_told logged.now taken }
+{
+    match logged {
+        Logged::Line { .. } => taken > 0,
+        Logged::FullAt { .. } => true,
+    }
+}
+
+/// How many packets that were taken are not told after it.
+fn left_after(logged: &Logged, taken: usize) -> usize
+    ensures { result ≡ left_after logged.now taken }
+{
+    match logged {
+        Logged::Line { .. } => taken.saturating_sub(1),
+        Logged::FullAt { .. } => taken,
+    }
+}
+
+/// Whether it is counted.
+fn is_counted(logged: &Logged, counted: Counted) -> bool
+    ensures { result ≡ counts_entry counted logged.now }
+{
+    match logged {
+        Logged::Line { kind, .. } => counted.has_kind(*kind),
+        Logged::FullAt { .. } => counted.has_full_queues(),
+    }
+}
+
+/// How many of a log are told and counted, where so many packets were taken.
+fn count_log(log: &[Logged], taken: usize, counted: Counted) -> usize
+    ensures { result ≡ count_log counted taken log.now }
+{
+    let mut left = taken;
+    let mut count = 0;
+    for logged in log {
+        if is_told(logged, left) && is_counted(logged, counted) {
+            count += 1;
+        }
+        left = left_after(logged, left);
+    }
+    count
 }
 
 impl Desk {
@@ -164,7 +211,7 @@ impl Desk {
         match self.queue.offer(packet) {
             Offered::Took => {
                 self.waiting.push_back(notice);
-                self.log.push(Logged::Line(line))?;
+                self.log.push(Logged::Line { kind, line })?;
                 if self.automatic {
                     self.take_one(alloc)?;
                 }
@@ -175,6 +222,24 @@ impl Desk {
                 Ok(Settled::Full)
             }
         }
+    }
+
+    /// How often something is told of the offers to it.
+    pub fn count(&self, counted: Counted) -> usize
+        ensures { result ≡ count_desk counted self.now }
+    {
+        count_log(self.log.as_slice(), self.taken, counted)
+    }
+
+    /// How many rows it holds.
+    pub fn count_rows<L: Ledger>(
+        &self,
+        alloc: Global,
+        steps: &mut Steps<L>,
+    ) -> Result<usize, NoMemory>
+        ensures { IfOk result (λ count. count ≡ desk_rows self.now) }
+    {
+        count_rows(alloc, &self.trees, steps)
     }
 
     /// What is told of the offers to it, and after that the lines of what it holds.

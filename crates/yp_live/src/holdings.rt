@@ -3,7 +3,7 @@ ghost use Rattle.std.specs.Prelude.{◌≡◌, [], OnOk, unwrap_or};
 ghost use Rattle.std.specs.BTreeMap.{insert_entry};
 ghost use Rattle.std.specs.Ordering.{nat_cmp};
 ghost use Rattle.yp_base.specs.Rows.{put_rows, rows_without, changed_by};
-ghost use Rattle.yp_promise.specs.Received.{held_of, hears};
+ghost use Rattle.yp_receiver.specs.Held.{hears, held_of};
 
 use crate::holding::Holding;
 use std::alloc::Global;

@@ -1,11 +1,13 @@
-//! The report of a script.
+//! The report of a script, and what it comes to.
 ghost use Rattle.std.specs.Prelude.{◌≡◌, ◌<◌, ◌≤◌, ℕ, List, length, IfOk, Ok, string_bytes};
 ghost use Rattle.yp_script.specs.Lines.{line_limit};
 ghost use Rattle.yp_script.specs.Script.{script_in, AreReceivers, MayRun, count_commands};
-ghost use Rattle.yp_live.specs.Promise.{Tells};
+ghost use Rattle.yp_live.specs.Promise.{Sums, Tells};
+ghost use Rattle.yp_live.specs.Runs.{IsRunOf};
 
 use crate::run::{Run, run_turns};
 use crate::setting::Setting;
+use crate::summary::summary_text;
 use crate::text::text_of;
 use crate::turns::serial_turns;
 use std::alloc::Global;
@@ -13,19 +15,26 @@ use std::marker::Brand;
 use std::sync::ledger::{Blank, Ledger};
 use yp_base::memory::NoMemory;
 use yp_base::steps::Steps;
+use yp_hearing::laws::{a_receiver_holds_what_its_lines_tell, the_trees_of_lines_mirror};
 use yp_promise::laws::{what_a_serial_run_makes_serves, what_receivers_hold_can_be_shown};
+use yp_schema::schema::Schema;
 use yp_script::script::Script;
+use yp_texts::laws::a_scripts_commands_have_utf8;
 
-/// The report of a script's run, of which it counts the steps of the trees that receivers hold.
-fn run_script<L: Ledger>(alloc: Global, script: Script, blank: Blank) -> Result<String, NoMemory>
-    requires name { blank.name ≡ L.name }
-    requires parts { blank.parts ≡ L.parts }
-    requires some { 0 < L.parts }
+/// A run of a script's commands, and the schema of the script.
+#[derive(Drop)]
+pub struct Ran {
+    schema: Schema,
+    run: Run,
+}
+
+/// Runs the commands of a script.
+fn run_script(alloc: Global, script: Script) -> Result<Ran, NoMemory>
     requires receivers { AreReceivers script.receivers }
     requires commands { MayRun script }
     requires lanes { length script.lanes ≤ 64 }
     requires count { count_commands script ≤ line_limit }
-    ensures { IfOk result (λ text. (bytes : List ℕ) → script_in bytes ≡ Ok script → Tells bytes (string_bytes text)) }
+    ensures { IfOk result (IsRunOf script) }
 {
     let Script {
         start,
@@ -35,7 +44,8 @@ fn run_script<L: Ledger>(alloc: Global, script: Script, blank: Blank) -> Result<
         lanes,
         after,
     } = script;
-    let mut steps = Steps::<L>::open(blank);
+    // A start lies in the years of a start.
+    let _second = start.second();
     let receivers = receivers.list(alloc)?;
     let turns = serial_turns(alloc, before, lanes, after)?;
     let setting = Setting {
@@ -43,11 +53,51 @@ fn run_script<L: Ledger>(alloc: Global, script: Script, blank: Blank) -> Result<
         start: &start,
         receivers: receivers.items(),
     };
+    let run = run_turns(alloc, &setting, turns)?;
+    Ok(Ran { schema, run })
+}
+
+/// The report of a script's run, of which it counts the steps of the trees that receivers hold.
+fn report_by<L: Ledger>(alloc: Global, script: Script, blank: Blank) -> Result<String, NoMemory>
+    requires name { blank.name ≡ L.name }
+    requires parts { blank.parts ≡ L.parts }
+    requires some { 0 < L.parts }
+    requires receivers { AreReceivers script.receivers }
+    requires commands { MayRun script }
+    requires lanes { length script.lanes ≤ 64 }
+    requires count { count_commands script ≤ line_limit }
+    ensures { IfOk result (λ text. (bytes : List ℕ) → script_in bytes ≡ Ok script → Tells bytes (string_bytes text)) }
+{
     what_a_serial_run_makes_serves();
     what_receivers_hold_can_be_shown();
-    let run = run_turns(alloc, &setting, turns)?;
+    a_scripts_commands_have_utf8();
+    a_receiver_holds_what_its_lines_tell();
+    the_trees_of_lines_mirror();
+    let mut steps = Steps::<L>::open(blank);
+    let Ran { schema, run } = run_script(alloc, script)?;
     let Run { replies, desks, .. } = run;
     text_of(alloc, &schema, replies, desks, &mut steps)
+}
+
+/// What the report of a script's run comes to, of which it counts the same steps.
+fn summary_by<L: Ledger>(alloc: Global, script: Script, blank: Blank) -> Result<String, NoMemory>
+    requires name { blank.name ≡ L.name }
+    requires parts { blank.parts ≡ L.parts }
+    requires some { 0 < L.parts }
+    requires receivers { AreReceivers script.receivers }
+    requires commands { MayRun script }
+    requires lanes { length script.lanes ≤ 64 }
+    requires count { count_commands script ≤ line_limit }
+    ensures { IfOk result (λ text. (bytes : List ℕ) → script_in bytes ≡ Ok script → Sums bytes (string_bytes text)) }
+{
+    what_a_serial_run_makes_serves();
+    a_scripts_commands_have_utf8();
+    a_receiver_holds_what_its_lines_tell();
+    the_trees_of_lines_mirror();
+    let mut steps = Steps::<L>::open(blank);
+    let Ran { run, .. } = run_script(alloc, script)?;
+    let Run { replies, desks, .. } = run;
+    summary_text(alloc, replies.as_slice(), desks.as_slice(), &mut steps)
 }
 
 /// The text of the report of a script's run: the replies by position, then for each receiver what it took,
@@ -60,5 +110,19 @@ pub fn report_of_script(alloc: Global, script: Script) -> Result<String, NoMemor
     requires count { count_commands script ≤ line_limit }
     ensures { IfOk result (λ text. (bytes : List ℕ) → script_in bytes ≡ Ok script → Tells bytes (string_bytes text)) }
 {
-    run_script::<Brand>(alloc, script, Blank::new(1))
+    report_by::<Brand>(alloc, script, Blank::new(1))
+}
+
+/// What the report of a script's run comes to, a line for each number: its commands and the refused ones,
+/// the full updates, change updates and other notifications that receivers took, the offers that met a full
+/// queue, and the rows that receivers hold; then `end`. For whatever bytes the script was read from, the text
+/// is that of its report (`Sums`). An error says that memory ran out.
+pub fn summary_of_script(alloc: Global, script: Script) -> Result<String, NoMemory>
+    requires receivers { AreReceivers script.receivers }
+    requires commands { MayRun script }
+    requires lanes { length script.lanes ≤ 64 }
+    requires count { count_commands script ≤ line_limit }
+    ensures { IfOk result (λ text. (bytes : List ℕ) → script_in bytes ≡ Ok script → Sums bytes (string_bytes text)) }
+{
+    summary_by::<Brand>(alloc, script, Blank::new(1))
 }

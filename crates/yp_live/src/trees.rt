@@ -1,11 +1,12 @@
 //! The lines of what receivers hold.
-ghost use Rattle.std.specs.Prelude.{◌≡◌, ◌++◌, [], OnOk, string_bytes};
+ghost use Rattle.std.specs.Prelude.{◌≡◌, ◌++◌, [], length, sum_by, IfOk, OnOk, string_bytes};
 ghost use Rattle.std.specs.List.{AllByRecursion, flat_map};
 ghost use Rattle.yp_schema.specs.Datastore.{AreWritable};
 ghost use Rattle.yp_live.specs.Report.{tree_text};
 
 use crate::holding::Holding;
 use crate::holdings::Holdings;
+use crate::summary::sum;
 use std::alloc::Global;
 use std::sync::ledger::Ledger;
 use yp_base::memory::NoMemory;
@@ -51,4 +52,21 @@ pub fn push_trees<L: Ledger>(
         push_tree(alloc, text, schema, name, *id, holding, steps)?;
     }
     Ok(())
+}
+
+/// How many rows it holds.
+pub fn count_rows<L: Ledger>(
+    alloc: Global,
+    trees: &Holdings,
+    steps: &mut Steps<L>,
+) -> Result<usize, NoMemory>
+    ensures { IfOk result (λ count. count ≡ sum_by (λ tree. length tree.1) trees.now) }
+{
+    let mut count = 0;
+    let mut left = trees.kept().iter();
+    while let Some((_, holding)) = left.next() {
+        let rows = holding.rows(alloc, steps)?;
+        count = sum(count, rows.len())?;
+    }
+    Ok(count)
 }

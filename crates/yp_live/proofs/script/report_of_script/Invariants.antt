@@ -1,5 +1,5 @@
 use Rattle.yp_live.proofs.script.report_of_script.Given as goal
 
 -- the ledger is that of the blank
-abbrev pub ghosts-run_script : goal.ghosts-run_script
-ghosts-run_script a = record { name = a.blank.name; parts = a.blank.parts }
+abbrev pub ghosts-report_by : goal.ghosts-report_by
+ghosts-report_by a = record { name = a.blank.name; parts = a.blank.parts }

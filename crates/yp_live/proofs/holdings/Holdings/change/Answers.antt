@@ -3,7 +3,7 @@ use Rattle.std.specs.BTreeMap.{insert_entry}
 use Rattle.std.specs.Ordering.{nat_cmp}
 use Rattle.yp_base.specs.declared.row.Row.{Row}
 use Rattle.yp_base.specs.Rows.{changed_by}
-use Rattle.yp_promise.specs.Received.{held_of}
+use Rattle.yp_receiver.specs.Held.{held_of}
 use Rattle.yp_live.proofs.Held.{set_again}
 use Rattle.yp_live.proofs.Results.{when_ok}
 use Rattle.yp_live.proofs.holdings.Holdings.change.Goals as goal

@@ -1,0 +1,95 @@
+#!/usr/bin/env python3
+"""Writes a stream to replay, of about N bytes: a schema line, and then notifications of one receiver.
+
+    make_stream.py N one       one full update of 20,000 rows, then change updates of one edit each, to one id
+    make_stream.py N fulls     full updates of 20,000 rows each, to one id
+    make_stream.py N many      one change update to each id, as many ids as there is room for, and not more than 60,000
+
+Entries have names of two families. Their leaves are a number, a truth value and a text.
+"""
+
+from __future__ import annotations
+
+import json
+import sys
+from collections.abc import Iterator
+from typing import Any
+
+from make_script import scattered
+from names import escaped, interface_name
+
+SCHEMA = [
+    {"path": "/acme:interface", "kind": "list", "keys": ["name"]},
+    {"path": "/acme:interface/name", "kind": "leaf", "type": "string"},
+    {"path": "/acme:interface/mtu", "kind": "leaf", "type": "uint16"},
+    {"path": "/acme:interface/enabled", "kind": "leaf", "type": "boolean"},
+    {"path": "/acme:interface/description", "kind": "leaf", "type": "string"},
+]
+ENTRIES = 5_000
+MOST_IDS = 60_000
+FIRST_ID = 2_147_483_648
+
+
+def entry(number: int) -> dict[str, Any]:
+    """An entry with three leaves: four rows."""
+    return {
+        "name": interface_name(number), "mtu": 1_500 + number % 7_500, "enabled": number % 3 > 0,
+        "description": f"to rack {number % 97}, {interface_name(number + 1)}"}
+
+
+def notification(name: str, body: dict[str, Any]) -> dict[str, Any]:
+    return {"ietf-restconf:notification": {"eventTime": "2026-05-04T08:00:00.00Z", name: body}}
+
+
+def full(sub: int) -> dict[str, Any]:
+    contents = {"acme:interface": [entry(number) for number in range(ENTRIES)]}
+    return notification("ietf-yang-push:push-update", {"datastore-contents": contents, "id": sub})
+
+
+def change(sub: int, position: int, number: int) -> dict[str, Any]:
+    """A change update of one edit: in turn an entry is replaced, a leaf is replaced, and an entry is deleted."""
+    name = escaped(interface_name(number))
+    edits = [
+        {"operation": "replace", "target": f"/acme:interface={name}", "value": {"acme:interface": [entry(number)]}},
+        {"operation": "replace", "target": f"/acme:interface={name}/mtu", "value": {"acme:mtu": 576 + position % 8_192}},
+        {"operation": "delete", "target": f"/acme:interface={name}"}]
+    patch = {"edit": [{"edit-id": "1", **edits[position % 3]}], "patch-id": str(position)}
+    return notification("ietf-yang-push:push-change-update", {"datastore-changes": {"yang-patch": patch}, "id": sub})
+
+
+def notifications(kind: str) -> Iterator[dict[str, Any]]:
+    match kind:
+        case "one":
+            yield full(FIRST_ID)
+            places = list(scattered(ENTRIES))
+            position = 0
+            while True:
+                yield change(FIRST_ID, position, places[position % ENTRIES])
+                position += 1
+        case "fulls":
+            while True:
+                yield full(FIRST_ID)
+        case "many":
+            for number in range(MOST_IDS):
+                yield change(FIRST_ID + number, 0, number)
+        case _:
+            sys.exit(__doc__)
+
+
+def main() -> None:
+    if len(sys.argv) != 3:
+        sys.exit(__doc__)
+    most = int(sys.argv[1])
+    first = json.dumps({"schema": SCHEMA}, separators=(",", ":")) + "\n"
+    sys.stdout.write(first)
+    size = len(first)
+    for each in notifications(sys.argv[2]):
+        text = json.dumps(each, separators=(",", ":")) + "\n"
+        size += len(text)
+        if size > most:
+            break
+        sys.stdout.write(text)
+
+
+if __name__ == "__main__":
+    main()

@@ -1,0 +1,66 @@
+-- What is asked of the program: what it reads for it, what it may write, and which faults it tells.
+use Rattle.std.specs.Prelude.{◌≡◌, ℕ, List, Bool, true, false, Option, Some, IfSome, Ok, Err, option_map}
+use Rattle.yp_command.specs.declared.fault.ScriptKind.{ScriptKind}
+use Rattle.yp_gen.specs.Scripts.{script_text}
+use Rattle.yp_live.specs.Promise.{Sums, Tells}
+use Rattle.yp_replay.specs.declared.fault.ReplayFault.TheVariants.{Script, Stream}
+use Rattle.yp_replay.specs.declared.fault.StreamKind.{StreamKind}
+use Rattle.yp_replay.specs.Replay.{replayed}
+use Rattle.yp_script.specs.Script.{script_in}
+use Rattle.yp_words.specs.declared.words.Mode.{Mode}
+use Rattle.yp_words.specs.declared.words.Mode.TheVariants as modes
+use Rattle.yp_words.specs.declared.words.Words.{Words}
+use Rattle.yp_words.specs.Words.{words_in}
+use Rattle.push_program.specs.declared.job.Job.{Job}
+use Rattle.push_program.specs.declared.job.Job.TheVariants.{Run, Replay, Gen, Trial}
+
+-- ---- words
+
+abbrev pub job_of : Mode → Words → Job
+job_of modes.Run words = Run
+job_of modes.Replay words = Replay
+job_of modes.Gen words = Gen words.seed words.size
+job_of modes.Trial words = Trial words.seed words.size
+
+-- what words ask for, where they are good
+abbrev pub job_in : List (List ℕ) → Option Job
+job_in words = option_map (λ (said : Words). job_of said.mode said) (words_in words)
+
+-- ---- what a job reads and writes
+
+-- whether it reads the source
+abbrev pub reads : Job → Bool
+reads Run = true
+reads Replay = true
+reads (Gen seed size) = false
+reads (Trial seed size) = false
+
+-- a text that a job may write, where it reads just these bytes, or none
+abbrev pub IsText : Job → List ℕ → List ℕ → Type 0
+IsText Run bytes text = Tells bytes text
+IsText Replay bytes text = replayed bytes ≡ Ok text
+IsText (Gen seed size) bytes text = text ≡ script_text seed size
+IsText (Trial seed size) bytes text = Sums (script_text seed size) text
+
+-- the same by what a source had left, where that is told
+abbrev pub IsTextOf : Job → Option (List ℕ) → List ℕ → Type 0
+IsTextOf Run left text = IfSome left (λ bytes. Tells bytes text)
+IsTextOf Replay left text = IfSome left (λ bytes. replayed bytes ≡ Ok text)
+IsTextOf (Gen seed size) left text = text ≡ script_text seed size
+IsTextOf (Trial seed size) left text = Sums (script_text seed size) text
+
+-- ---- faults of what is read
+
+-- a line of a script, or of the first lines of a stream, has this fault, and is the first with one
+abbrev pub HasScriptFault : Job → List ℕ → ℕ → ScriptKind → Type 0
+HasScriptFault Run bytes line kind = script_in bytes ≡ Err (record { line = line; kind = kind })
+HasScriptFault Replay bytes line kind = replayed bytes ≡ Err (Script line kind)
+HasScriptFault (Gen seed size) bytes line kind = ⊥
+HasScriptFault (Trial seed size) bytes line kind = ⊥
+
+-- a notification line of a stream has this fault, and is the first with one
+abbrev pub HasStreamFault : Job → List ℕ → ℕ → StreamKind → Type 0
+HasStreamFault Run bytes line kind = ⊥
+HasStreamFault Replay bytes line kind = replayed bytes ≡ Err (Stream line kind)
+HasStreamFault (Gen seed size) bytes line kind = ⊥
+HasStreamFault (Trial seed size) bytes line kind = ⊥

@@ -1,0 +1,24 @@
+use Rattle.std.proofs.Common.{◌≡◌, ◌∙◌, List, ap, subst, sym, string_bytes}
+use Rattle.std.proofs.lemmas.Result.{IfOk-weaker}
+use Rattle.yp_schema.specs.declared.schema.SchemaNode.{SchemaNode}
+use Rattle.yp_live.specs.declared.script.Ran.{Ran}
+use Rattle.yp_live.specs.Runs.{CanBeWritten, IsRunOf, text_from}
+use Rattle.yp_live.proofs.Promises.{run_writable, tells}
+use Rattle.yp_live.proofs.script.report_by.Goals as goal
+
+pub text_of-requires-clause-desks : goal.text_of-requires-clause-desks
+text_of-requires-clause-desks g c =
+    let script = c.args.script in
+    let ran : Ran = c.in_ok-schema.field-0 in
+    let is : IsRunOf script ran = c.in_ok-schema.ensures in
+    subst (λ (nodes : List SchemaNode). CanBeWritten nodes ran.run.desks.items) (sym is.schema)
+    (run_writable c.what_receivers_hold_can_be_shown.ensures script.schema script.start script.receivers is.entries ran.run is.is)
+
+pub returns : goal.returns
+returns g c =
+    let script = c.args.script in
+    let ran : Ran = c.in_ok-schema.field-0 in
+    let is : IsRunOf script ran = c.in_ok-schema.ensures in
+    IfOk-weaker c.text_of.result (λ text. string_bytes text ≡ text_from ran.schema ran.run.replies.items ran.run.desks.items) _ (λ text told. λ bytes read.
+    tells c.what_a_serial_run_makes_serves.ensures c.a_receiver_holds_what_its_lines_tell.ensures.took c.the_trees_of_lines_mirror.ensures.mirrors c.a_scripts_commands_have_utf8.ensures script bytes ran read is (string_bytes text)
+    (told ∙ ap (λ (nodes : List SchemaNode). text_from nodes ran.run.replies.items ran.run.desks.items) is.schema)) c.text_of.ensures
