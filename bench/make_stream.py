@@ -2,7 +2,8 @@
 """Writes a stream to replay, of about N bytes: a schema line, and then notifications of one receiver.
 
     make_stream.py N one       one full update of 20,000 rows, then change updates of one edit each, to one id
-    make_stream.py N fulls     full updates of 20,000 rows each, to one id
+    make_stream.py N fulls     full updates of 20,000 rows each, to one id, in the order of their paths
+    make_stream.py N scattered the same, with the entries of each in no order
     make_stream.py N many      one change update to each id, as many ids as there is room for, and not more than 60,000
 
 Entries have names of two families. Their leaves are a number, a truth value and a text.
@@ -41,8 +42,11 @@ def notification(name: str, body: dict[str, Any]) -> dict[str, Any]:
     return {"ietf-restconf:notification": {"eventTime": "2026-05-04T08:00:00.00Z", name: body}}
 
 
-def full(sub: int) -> dict[str, Any]:
-    contents = {"acme:interface": [entry(number) for number in range(ENTRIES)]}
+def full(sub: int, in_order: bool = True) -> dict[str, Any]:
+    entries = [entry(number) for number in range(ENTRIES)]
+    if in_order:
+        entries.sort(key=lambda each: each["name"].encode())
+    contents = {"acme:interface": entries}
     return notification("ietf-yang-push:push-update", {"datastore-contents": contents, "id": sub})
 
 
@@ -66,9 +70,10 @@ def notifications(kind: str) -> Iterator[dict[str, Any]]:
             while True:
                 yield change(FIRST_ID, position, places[position % ENTRIES])
                 position += 1
-        case "fulls":
+        case "fulls" | "scattered":
+            each = full(FIRST_ID, kind == "fulls")
             while True:
-                yield full(FIRST_ID)
+                yield each
         case "many":
             for number in range(MOST_IDS):
                 yield change(FIRST_ID + number, 0, number)
