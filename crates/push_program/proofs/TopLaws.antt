@@ -79,7 +79,6 @@ stream_fault_read Replay (Some before) after bytes over line kind read is = sym 
 stream_fault_read (Gen seed size) (Some before) after bytes over line kind read is = absurd is
 stream_fault_read (Trial seed size) (Some before) after bytes over line kind read is = absurd is
 
-
 -- ---- faults and memory
 
 -- a fault of what was read, before anything was written

@@ -22,7 +22,10 @@ pub fn job_of(words: Words) -> Job
     ensures { result ≡ job_of words.mode words }
 {
     let Words {
-        mode, seed, size, ..
+        mode,
+        seed,
+        size,
+        ..
     } = words;
     match mode {
         Mode::Run => Job::Run,
