@@ -75,6 +75,18 @@ def best(runs: list[Cost]) -> Cost:
         all(run.is_exact for run in runs))
 
 
+def beside_floor(words: list[str], script: pathlib.Path, output: pathlib.Path, look=None) -> tuple[int, Cost, Cost | None]:
+    """The bytes of what was written, and what a program and the floor took on a script, in turns. Each output is looked at."""
+    runs, floors = [], []
+    for _ in range(RUNS):
+        runs.append(run_once(words, script, output))
+        if look is not None:
+            look()
+        if FLOOR.is_file():
+            floors.append(run_floor(script, output))
+    return output.stat().st_size, best(runs), best(floors) if floors else None
+
+
 REFUSED = b'"patch-id":"refused'
 
 

@@ -6,7 +6,7 @@ import pathlib
 from collections.abc import Iterator
 from dataclasses import dataclass, field
 
-from measuring import FLOOR, MADE, RUNS, UNBUILT, Cost, Limit, best, held, line, look, made, run_floor, run_once
+from measuring import MADE, UNBUILT, Cost, Limit, beside_floor, held, line, look, made
 
 MOST_OVER_FLOOR = 3
 MOST_MEMORY = 6
@@ -32,16 +32,12 @@ class Parsing:
         """The bytes of script and report, and what the program and the floor took, in turns."""
         output = MADE / "output"
         script = made(self.name, self.maker, self.words)
-        runs, floors = [], []
-        for _ in range(RUNS):
-            runs.append(run_once([str(program), "run"], script, output))
-            look(script, output, self.takes_all)
-            if FLOOR.is_file():
-                floors.append(run_floor(script, output))
-        size = script.stat().st_size + output.stat().st_size
+        written, cost, floor = beside_floor(
+            [str(program), "run"], script, output, lambda: look(script, output, self.takes_all))
+        size = script.stat().st_size + written
         for path in (script, output):
             path.unlink()
-        return size, best(runs), best(floors) if floors else None
+        return size, cost, floor
 
     def limits(self, size: int, cost: Cost, floor: Cost | None) -> Iterator[Limit]:
         if floor is None:

@@ -7,7 +7,7 @@ import subprocess
 from collections.abc import Iterator
 from dataclasses import dataclass
 
-from measuring import FLOOR, MADE, RUNS, UNBUILT, Cost, Limit, best, held, line, made, run_floor, run_once
+from measuring import MADE, RUNS, UNBUILT, Cost, Limit, beside_floor, best, held, line, made, run_once
 
 MOST_OVER_FLOOR = 4
 MOST_MEMORY = 3
@@ -30,15 +30,11 @@ class Replaying:
         """The bytes of the stream, and what the program and the floor took, in turns."""
         output = MADE / "output"
         stream = made(self.name, "make_stream.py", [str(self.size), self.kind])
-        runs, floors = [], []
-        for _ in range(RUNS):
-            runs.append(run_once([str(program), "replay"], stream, output))
-            if FLOOR.is_file():
-                floors.append(run_floor(stream, output))
+        _, cost, floor = beside_floor([str(program), "replay"], stream, output)
         size = stream.stat().st_size
         for path in (stream, output):
             path.unlink()
-        return size, best(runs), best(floors) if floors else None
+        return size, cost, floor
 
     def limits(self, size: int, cost: Cost, floor: Cost | None) -> Iterator[Limit]:
         if floor is None:

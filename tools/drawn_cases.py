@@ -1,6 +1,6 @@
 """Scripts that are drawn: their texts, worked out from the rules of docs/REPLAY.md, and what their reports come to.
 
-The texts are written here anew, from the rule of the draws alone. What a trial writes is compared with what the report
+The commands are written here anew, from the rule of the draws alone. What a trial writes is compared with what the report
 of the same text comes to, which another run of the program writes; where nothing changes it is worked out by hand.
 """
 
@@ -11,18 +11,12 @@ import pathlib
 import subprocess
 from collections.abc import Iterator
 
+from large_cases import SCHEMA, START
+
 DRAWN = [(0, 1), (1, 1), (1, 100), (7, 300), (4294967295, 64), (2026, 2000)]
 
 SETTING = [
-    '{"start":"2026-01-01T00:00:00Z"}',
-    '{"schema":[{"path":"/acme:interfaces","kind":"container"},'
-    '{"path":"/acme:interfaces/interface","kind":"list","keys":["name"]},'
-    '{"path":"/acme:interfaces/interface/name","kind":"leaf","type":"string"},'
-    '{"path":"/acme:interfaces/interface/mtu","kind":"leaf","type":"uint16"},'
-    '{"path":"/acme:interfaces/interface/enabled","kind":"leaf","type":"boolean"},'
-    '{"path":"/acme:interfaces/interface/secret","kind":"leaf","type":"string","deny-all":true},'
-    '{"path":"/acme:interfaces/interface/stats","kind":"container"},'
-    '{"path":"/acme:interfaces/interface/stats/in","kind":"leaf","type":"uint64"}]}',
+    *(START + SCHEMA).splitlines(),
     '{"receiver":{"name":"r1","user":"ann","queue":8,"take":"auto"}}',
     '{"receiver":{"name":"r2","user":"bob","queue":8,"take":"auto"}}',
     '{"establish":{"by":"r1","datastore":"ietf-datastores:operational","on-change":{}}}',
