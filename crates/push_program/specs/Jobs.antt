@@ -1,5 +1,5 @@
 -- What is asked of the program: what it reads for it, what it may write, and which faults it tells.
-use Rattle.std.specs.Prelude.{◌≡◌, ℕ, List, Bool, true, false, Option, Some, IfSome, Ok, Err, option_map}
+use Rattle.std.specs.Prelude.{◌≡◌, ℕ, List, [], Bool, true, false, Option, Some, IfSome, Ok, Err, option_map}
 use Rattle.yp_command.specs.declared.fault.ScriptKind.{ScriptKind}
 use Rattle.yp_gen.specs.Scripts.{script_text}
 use Rattle.yp_live.specs.Promise.{Sums, Tells}
@@ -42,12 +42,12 @@ IsText Replay bytes text = replayed bytes ≡ Ok text
 IsText (Gen seed size) bytes text = text ≡ script_text seed size
 IsText (Trial seed size) bytes text = Sums (script_text seed size) text
 
--- the same by what a source had left, where that is told
+-- the same by what a source had left, where that is told; a job that doesn't read has its text whatever was left
 abbrev pub IsTextOf : Job → Option (List ℕ) → List ℕ → Type 0
-IsTextOf Run left text = IfSome left (λ bytes. Tells bytes text)
-IsTextOf Replay left text = IfSome left (λ bytes. replayed bytes ≡ Ok text)
-IsTextOf (Gen seed size) left text = text ≡ script_text seed size
-IsTextOf (Trial seed size) left text = Sums (script_text seed size) text
+IsTextOf Run left text = IfSome left (λ bytes. IsText Run bytes text)
+IsTextOf Replay left text = IfSome left (λ bytes. IsText Replay bytes text)
+IsTextOf (Gen seed size) left text = IsText (Gen seed size) [] text
+IsTextOf (Trial seed size) left text = IsText (Trial seed size) [] text
 
 -- ---- faults of what is read
 
