@@ -1,7 +1,6 @@
 pub mod Accepting
 pub mod CountLaws
 pub mod Desks
-pub mod Held
 pub mod Journals
 pub mod Promises
 pub mod Reached

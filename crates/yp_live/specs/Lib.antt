@@ -1,6 +1,5 @@
 pub mod Counts
 pub mod Desks
-pub mod Holdings
 pub mod Journal
 pub mod Promise
 pub mod Report

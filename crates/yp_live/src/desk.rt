@@ -7,7 +7,6 @@ ghost use Rattle.yp_live.specs.Counts.{count_desk, count_log, counts_entry, desk
 ghost use Rattle.yp_live.specs.Desks.{desk_answer, desk_at, desk_offered, desk_text, desk_took, left_after, log_text, logged_text};
 
 use crate::counted::Counted;
-use crate::holdings::Holdings;
 use crate::trees::{count_rows, push_trees};
 use circular_buffer::HeapCircularBuffer;
 use std::alloc::{AllocError, Global};
@@ -20,6 +19,7 @@ use yp_base::txt::Txt;
 use yp_journal::receiver::ReceiverInfo;
 use yp_queue::local::LocalQueue;
 use yp_queue::packet::{Offered, Packet, PacketKind};
+use yp_receiver::holdings::Holdings;
 use yp_roster::settling::Settled;
 use yp_schema::schema::Schema;
 use yp_worker::offering::Sent;

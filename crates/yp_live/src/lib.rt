@@ -7,14 +7,12 @@
 //! puts the commands in order, and `run` takes them one after another. At each, the receiver that it names
 //! takes packets; then the one worker of all receivers (`yp_worker`) takes the entry, and offers until it has
 //! nothing to offer. Each receiver has a `desk`: its queue (`yp_queue`) answers the offers, a log keeps their
-//! lines and where the queue was full, and what is taken is heard by what the receiver holds (`holdings`). Of
-//! the journal itself only the `replies` are kept; `text` puts the report together.
+//! lines and where the queue was full, and what is taken is heard by what the receiver holds (`Holdings` of
+//! `yp_receiver`). Of the journal itself only the `replies` are kept; `text` puts the report together.
 #![tactic(auto)]
 
 mod counted;
 mod desk;
-mod holding;
-mod holdings;
 mod replies;
 mod run;
 pub mod script;

@@ -4,14 +4,14 @@ ghost use Rattle.std.specs.List.{AllByRecursion, flat_map};
 ghost use Rattle.yp_schema.specs.Datastore.{AreWritable};
 ghost use Rattle.yp_live.specs.Report.{tree_text};
 
-use crate::holding::Holding;
-use crate::holdings::Holdings;
 use crate::summary::sum;
 use std::alloc::Global;
 use std::sync::ledger::Ledger;
 use yp_base::memory::NoMemory;
 use yp_base::steps::Steps;
 use yp_encode::contents::contents_text;
+use yp_receiver::holding::Holding;
+use yp_receiver::holdings::Holdings;
 use yp_schema::schema::Schema;
 
 /// Adds the line of the rows that it holds of a subscription.

@@ -16,7 +16,7 @@ use Rattle.yp_base.specs.declared.notice.Change.{Change}
 use Rattle.yp_base.specs.declared.notice.Notice.{Notice}
 use Rattle.yp_base.specs.declared.notice.Notice.TheVariants.{Full, Changes, Started, Modified, Suspended, Resumed, Terminated}
 use Rattle.yp_base.specs.declared.row.Row.{Row}
-use Rattle.yp_base.specs.Rows.{changed_by, put_rows, rows_without}
+use Rattle.yp_base.specs.Rows.{changed_by, put_rows, rows_within, rows_without}
 use Rattle.yp_decode.specs.declared.fault.StreamFault.{StreamFault}
 use Rattle.yp_decode.specs.declared.line.Heard.{Heard}
 use Rattle.yp_receiver.specs.Held.{HearsPart, TakesPart}
@@ -47,6 +47,11 @@ module _ {X : Type 0} where
   set_there id old rows [] sorted found = let wrong : None ≡ Some old = found in cc
   set_there id old rows (e ∷ es) sorted found =
       found_at (nat_cmp id e.0) id old rows e es refl sorted found (set_there id old rows es (sorted_tail nat_cmp e.0 (keys_of es) sorted))
+
+-- all rows are at or below the top
+pub all_within : (rows : List Row) → rows_within [] rows ≡ rows
+all_within [] = refl
+all_within (row ∷ rows) = ap (λ (more : List Row). row ∷ more) (all_within rows)
 
 -- ---- edits one after another
 

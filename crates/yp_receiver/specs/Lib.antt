@@ -1,3 +1,4 @@
 pub mod Held
 pub mod Hearable
+pub mod Holdings
 pub mod Readable

@@ -1,8 +1,14 @@
 //! What a receiver holds after lines of each kind, a faulty one among them.
+ghost use Rattle.std.specs.Prelude.{◌≡◌, ◌<◌};
+
 use crate::receiver::Receiver;
 use serde_json::Value as Json;
 use std::alloc::{AllocError, Global};
+use std::marker::Brand;
+use std::sync::ledger::{Blank, Ledger};
 use std::test::Fail;
+use yp_base::memory::NoMemory;
+use yp_base::steps::Steps;
 use yp_schema::schema::Schema;
 
 // Ports with a name and an mtu.
@@ -34,15 +40,29 @@ fn line_of(alloc: Global, name: &str, body: &str) -> Result<String, AllocError> 
 }
 
 // How many rows are held of a subscription, where it had an update.
-fn count(receiver: &Receiver, id: u32) -> Option<usize> {
-    match receiver.tree(id) {
-        Some(rows) => Some(rows.len()),
-        None => None,
+fn count<L: Ledger>(
+    alloc: Global,
+    receiver: &Receiver,
+    id: u32,
+    steps: &mut Steps<L>,
+) -> Result<Option<usize>, NoMemory> {
+    match receiver.holding(id) {
+        Some(holding) => Ok(Some(holding.rows(alloc, steps)?.len())),
+        None => Ok(None),
     }
 }
 
 #[test]
 fn lines_make_the_rows_of_each_subscription(rt: HostRuntime) -> Result<(), Fail> {
+    take_lines::<Brand>(rt, Blank::new(1))
+}
+
+fn take_lines<L: Ledger>(rt: HostRuntime, blank: Blank) -> Result<(), Fail>
+    requires name { blank.name ≡ L.name }
+    requires parts { blank.parts ≡ L.parts }
+    requires some { 0 < L.parts }
+{
+    let mut steps = Steps::<L>::open(blank);
     let alloc = rt.alloc();
     let schema = ports(alloc)?;
     let mut receiver = Receiver::new(alloc);
@@ -82,8 +102,8 @@ fn lines_make_the_rows_of_each_subscription(rt: HostRuntime) -> Result<(), Fail>
         let line = line_of(alloc, name, body)?;
         let taken = receiver.take_line(alloc, &schema, line.as_bytes());
         assert_eq!(rt; taken.is_ok(), is_taken, "{line}");
-        assert_eq!(rt; count(&receiver, 9), of_nine, "{line}");
-        assert_eq!(rt; count(&receiver, 7), of_seven, "{line}");
+        assert_eq!(rt; count(alloc, &receiver, 9, &mut steps)?, of_nine, "{line}");
+        assert_eq!(rt; count(alloc, &receiver, 7, &mut steps)?, of_seven, "{line}");
     }
     let ids = receiver.ids(alloc)?;
     assert_eq!(rt; ids.len(), 2);

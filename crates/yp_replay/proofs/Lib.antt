@@ -1,4 +1,3 @@
 mod FirstFaults
 mod Heard
 mod Held
-mod Lines

@@ -1,38 +1,24 @@
 //! The replay of a saved stream.
-ghost use Rattle.std.specs.Prelude.{◌≡◌, ◌<◌};
 ghost use Rattle.yp_replay.specs.Readings.{Gives};
 ghost use Rattle.yp_replay.specs.Replay.{replayed, stream_replayed};
 
 use crate::fault::ReplayFault;
 use crate::hearing::hear_lines;
-use crate::laws::{ids_of_what_is_held_ascend, what_is_held_can_be_written};
+use crate::laws::what_is_held_can_be_written;
 use crate::trees::trees_text;
 use std::alloc::Global;
-use std::marker::Brand;
-use std::sync::ledger::{Blank, Ledger};
-use yp_base::steps::Steps;
 use yp_script::stream::{Stream, read_stream};
 
-/// The text of what a receiver holds after the lines of a stream, of which the steps are counted. There is
-/// room for so many bytes from the start.
+/// The text of what a receiver holds after the lines of a stream. There is room for so many bytes from the
+/// start.
 #[tactic(auto, using(crate::proofs::FirstFaults::stream_given, crate::proofs::FirstFaults::stream_fails))]
-fn stream_text<L: Ledger>(
-    alloc: Global,
-    stream: Stream,
-    room: usize,
-    blank: Blank,
-) -> Result<String, ReplayFault>
-    requires name { blank.name ≡ L.name }
-    requires parts { blank.parts ≡ L.parts }
-    requires some { 0 < L.parts }
+fn stream_text(alloc: Global, stream: Stream, room: usize) -> Result<String, ReplayFault>
     ensures { Gives result (stream_replayed stream.entry) }
 {
     what_is_held_can_be_written();
-    ids_of_what_is_held_ascend();
     let Stream { schema, lines } = stream;
     let receiver = hear_lines(alloc, &schema, lines)?;
-    let mut steps = Steps::<L>::open(blank);
-    let text = trees_text(alloc, &schema, &receiver, room, &mut steps)?;
+    let text = trees_text(alloc, &schema, receiver, room)?;
     Ok(text)
 }
 
@@ -49,7 +35,7 @@ pub fn replay_text(alloc: Global, bytes: &[u8]) -> Result<String, ReplayFault>
     ensures { Gives result (replayed bytes.now) }
 {
     match read_stream(alloc, bytes) {
-        Ok(stream) => stream_text::<Brand>(alloc, stream, bytes.len(), Blank::new(1)),
+        Ok(stream) => stream_text(alloc, stream, bytes.len()),
         Err(fault) => Err(ReplayFault::from(fault)),
     }
 }

@@ -8,7 +8,7 @@ use Rattle.yp_base.specs.declared.row.Row.{Row}
 use Rattle.yp_base.specs.Rows.{changed_by}
 use Rattle.yp_receiver.specs.Held.{held_of}
 use Rattle.yp_receiver.proofs.Held.{set_there, when_ok}
-use Rattle.yp_receiver.proofs.receiver.Receiver.hear_update.Goals as goal
+use Rattle.yp_receiver.proofs.holdings.Holdings.hear_update.Goals as goal
 
 -- the rows are written where they were found
 pub returns-in-Some-clause-heard : goal.returns-in-Some-clause-heard
@@ -18,10 +18,10 @@ returns-in-Some-clause-heard c =
     let rows : List Row = c.in-Some.rows.now in
     let found : lookup (is_at (nat_cmp id)) before ≡ Some rows = sym c.get_mut.ensures.value ∙ ap option_copied_mut c.in-Some.is in
     let held : held_of id c.args.self.now ≡ Some rows = ap (held_of id) (sym c.self.view_is) ∙ found in
-    when_ok c.hear_changes.result c.hear_changes.ensures.heard (λ heard.
-    (c.get_mut.follows.holds c.hear_changes.new.rows).0
-    ∙ set_there id rows c.hear_changes.new.rows before c.get_mut.ensures.ordered found
-    ∙ ap (λ (es : List (ℕ × List Row)). insert_entry nat_cmp es id c.hear_changes.new.rows) c.self.view_is
+    when_ok c.change.result c.change.ensures.heard (λ heard.
+    (c.get_mut.follows.holds c.change.new.self).0
+    ∙ set_there id rows c.change.new.self before c.get_mut.ensures.ordered found
+    ∙ ap (λ (es : List (ℕ × List Row)). insert_entry nat_cmp es id c.change.new.self) c.self.view_is
     ∙ ap (λ (new : List Row). insert_entry nat_cmp c.args.self.now id new) (heard ∙ ap (λ (o : Option (List Row)). changed_by c.args.changes.now (unwrap_or o [])) (sym held)))
 
 pub returns-in-Some-clause-part : goal.returns-in-Some-clause-part
@@ -31,10 +31,10 @@ returns-in-Some-clause-part c =
     let rows : List Row = c.in-Some.rows.now in
     let found : lookup (is_at (nat_cmp id)) before ≡ Some rows = sym c.get_mut.ensures.value ∙ ap option_copied_mut c.in-Some.is in
     let held : held_of id c.args.self.now ≡ Some rows = ap (held_of id) (sym c.self.view_is) ∙ found in
-    on_err_weaker c.hear_changes.result (λ part. inr (
+    on_err_weaker c.change.result (λ part. inr (
       part.0,
-      (c.get_mut.follows.holds c.hear_changes.new.rows).0
-          ∙ set_there id rows c.hear_changes.new.rows before c.get_mut.ensures.ordered found
-          ∙ ap (λ (es : List (ℕ × List Row)). insert_entry nat_cmp es id c.hear_changes.new.rows) c.self.view_is
+      (c.get_mut.follows.holds c.change.new.self).0
+          ∙ set_there id rows c.change.new.self before c.get_mut.ensures.ordered found
+          ∙ ap (λ (es : List (ℕ × List Row)). insert_entry nat_cmp es id c.change.new.self) c.self.view_is
           ∙ ap (λ (new : List Row). insert_entry nat_cmp c.args.self.now id new) (part.1 ∙ ap (λ (o : Option (List Row)). changed_by (take part.0 c.args.changes.now) (unwrap_or o [])) (sym held)),
-    )) c.hear_changes.ensures.part
+    )) c.change.ensures.part

@@ -1,6 +1,6 @@
 use Rattle.std.proofs.Common.{arith}
 use Rattle.yp_receiver.proofs.Held.{one_more}
-use Rattle.yp_receiver.proofs.receiver.hear_changes.Goals as goal
+use Rattle.yp_receiver.proofs.holding.hear_changes.Goals as goal
 
 pub loop-change-preserved : goal.loop-change-preserved
 loop-change-preserved c =

@@ -1,6 +1,6 @@
 use Rattle.std.proofs.Common.{◌≡◌, take}
 use Rattle.yp_base.specs.Rows.{changed_by}
-use Rattle.yp_receiver.proofs.receiver.hear_changes.Given as goal
+use Rattle.yp_receiver.proofs.holding.hear_changes.Given as goal
 
 -- the edits so far were made
 abbrev pub invariant-loop-change : goal.invariant-loop-change

@@ -1,7 +1,0 @@
-use Rattle.std.proofs.Common.{ap, ◌∙◌}
-use Rattle.yp_base.specs.Rows.{rows_within}
-use Rattle.yp_select.specs.SelectionLaws.{within_top}
-use Rattle.yp_live.proofs.holding.all_rows.Goals as goal
-
-pub returns : goal.returns
-returns g c = c.in_ok-rows.ensures.rows ∙ ap (λ top. rows_within top c.args.tree.now) (c.from_vec-top.ensures ∙ c.new.ensures.items) ∙ within_top c.args.tree.now

@@ -1,0 +1,155 @@
+//! What a receiver holds of one subscription.
+ghost use Rattle.std.specs.Prelude.{◌≡◌, [], OnOk, OnErr, IfOk};
+ghost use Rattle.yp_base.specs.Rows.{put_rows, rows_without, changed_by};
+ghost use Rattle.yp_receiver.specs.Held.{IsPart};
+
+use std::alloc::Global;
+use std::marker::Model;
+use std::mem::replace;
+use std::sync::ledger::Ledger;
+use yp_base::memory::{Duplicate, NoMemory};
+use yp_base::notice::Change;
+use yp_base::path::Path;
+use yp_base::row::Rows;
+use yp_base::steps::Steps;
+use yp_tree::rising::Rising;
+use yp_tree::tree::Tree;
+
+/// How rows are kept: as they were told, or in a tree.
+#[derive(Drop)]
+enum Kept {
+    Told(Rows),
+    Changed(Tree),
+}
+
+/// The rows that a receiver holds of a subscription. Those of its last full update are kept as this told
+/// them, shared with whatever else it told, and those of a first change update as a list too; only where
+/// a change update comes after it are they put into a tree. Contracts see the rows, in the order of their
+/// paths.
+#[derive(Drop)]
+pub struct Holding {
+    kept: Kept,
+}
+
+impl Model for Holding {
+    ghost use Rattle.std.specs.Prelude.{List};
+    ghost use Rattle.yp_base.specs.declared.row.Row.{Row};
+    ghost use Rattle.yp_receiver.specs.Holdings.{held_rows};
+
+    ghost Value = { List Row };
+
+    ghost view = { λ h. held_rows h.kept };
+}
+
+/// What an edit does to the rows that are held. After `NoMemory` they are as they were.
+fn hear_change(alloc: Global, change: &Change, rows: &mut Tree) -> Result<(), NoMemory>
+    ensures heard { OnOk result (rows.new ≡ put_rows change.now.rows (rows_without change.now.target rows.old)) }
+    ensures same { OnErr result (rows.new ≡ rows.old) }
+{
+    rows.renew(alloc, &change.target, &change.rows)
+}
+
+/// What the edits of a change update do to them, in order. After `NoMemory` some of them, from the first
+/// on, were made.
+fn hear_changes(alloc: Global, changes: &[Change], rows: &mut Tree) -> Result<(), NoMemory>
+    ensures heard { OnOk result (rows.new ≡ changed_by changes.now rows.old) }
+    ensures part { OnErr result (IsPart changes.now rows.old rows.new) }
+{
+    for change in changes {
+        hear_change(alloc, change, rows)?;
+    }
+    Ok(())
+}
+
+/// The rows of a tree, in order.
+fn all_rows<L: Ledger>(alloc: Global, tree: &Tree, steps: &mut Steps<L>) -> Result<Rows, NoMemory>
+    ensures { IfOk result (λ rows. rows ≡ tree.now) }
+{
+    let top = Path::from_vec(Vec::new(alloc));
+    let rows = tree.rows_within(alloc, &top, steps)?;
+    Ok(rows)
+}
+
+/// Rows in order, as they are put one after another. Where they come in order they are only appended.
+fn put_in_order(alloc: Global, rows: Rows) -> Result<Rows, NoMemory>
+    ensures { IfOk result (λ all. all ≡ put_rows rows []) }
+{
+    let mut all = Rising::new(alloc);
+    for row in rows.into_vec(alloc)? {
+        all.put(alloc, row)?;
+    }
+    all.into_rows(alloc)
+}
+
+impl Holding {
+    /// After a full update of these rows. It takes no memory.
+    pub fn told(rows: Rows) -> Holding
+        ensures { result ≡ put_rows rows [] }
+    {
+        Holding {
+            kept: Kept::Told(rows),
+        }
+    }
+
+    /// After a change update that is the first update: its edits, in order, from no rows on.
+    #[tactic(auto, using(yp_base::specs::RowLaws::put_to_none))]
+    pub fn first(alloc: Global, changes: &[Change]) -> Result<Holding, NoMemory>
+        ensures { IfOk result (λ rows. rows ≡ changed_by changes.now []) }
+    {
+        let mut tree = Tree::new(alloc);
+        hear_changes(alloc, changes, &mut tree)?;
+        let _count = tree.len();
+        let rows = tree.into_rows(alloc)?;
+        Ok(Holding::told(rows))
+    }
+
+    // A tree of the rows, which is to be given back. After `NoMemory` they are as they were.
+    fn take_tree(&mut self, alloc: Global) -> Result<Tree, NoMemory>
+        ensures rows { IfOk result (λ tree. tree ≡ self.old) }
+        ensures same { OnErr result (self.new ≡ self.old) }
+    {
+        match replace(&mut self.kept, Kept::Told(Rows::from_vec(Vec::new(alloc)))) {
+            Kept::Changed(tree) => Ok(tree),
+            Kept::Told(rows) => {
+                let tree = Tree::of_rows(alloc, &rows);
+                if tree.is_err() {
+                    self.kept = Kept::Told(rows);
+                }
+                tree
+            }
+        }
+    }
+
+    /// After one more change update: each edit, in order, takes away the rows at or below its target, and
+    /// puts its own. After `NoMemory` some of the edits, from the first on, were made, or none.
+    pub fn change(&mut self, alloc: Global, changes: &[Change]) -> Result<(), NoMemory>
+        ensures heard { OnOk result (self.new ≡ changed_by changes.now self.old) }
+        ensures part { OnErr result (IsPart changes.now self.old self.new) }
+    {
+        let mut tree = self.take_tree(alloc)?;
+        let heard = hear_changes(alloc, changes, &mut tree);
+        self.kept = Kept::Changed(tree);
+        heard
+    }
+
+    /// Copies of the rows, in the order of their paths.
+    pub fn rows<L: Ledger>(&self, alloc: Global, steps: &mut Steps<L>) -> Result<Rows, NoMemory>
+        ensures { IfOk result (λ rows. rows ≡ self.now) }
+    {
+        match &self.kept {
+            Kept::Told(rows) => put_in_order(alloc, rows.copy(alloc)?),
+            Kept::Changed(tree) => all_rows(alloc, tree, steps),
+        }
+    }
+
+    /// The rows, in the order of their paths, given away. They are copied only where they are shared.
+    pub fn into_rows(self, alloc: Global) -> Result<Rows, NoMemory>
+        ensures { IfOk result (λ rows. rows ≡ self) }
+    {
+        let Holding { kept } = self;
+        match kept {
+            Kept::Told(rows) => put_in_order(alloc, rows),
+            Kept::Changed(tree) => tree.into_rows(alloc),
+        }
+    }
+}

@@ -1,7 +1,0 @@
-use Rattle.std.proofs.Common.{ap, ◌∙◌}
-use Rattle.yp_base.specs.Rows.{rows_within}
-use Rattle.yp_replay.proofs.Lines.{all_rows}
-use Rattle.yp_replay.proofs.trees.rows_of.Goals as goal
-
-pub returns : goal.returns
-returns g c = c.in_ok-rows.ensures.rows ∙ ap (λ top. rows_within top c.args.tree.now) (c.from_vec-top.ensures ∙ c.new.ensures.items) ∙ all_rows c.args.tree.now
