@@ -40,29 +40,33 @@ fn line_of(alloc: Global, name: &str, body: &str) -> Result<String, AllocError> 
 }
 
 // How many rows are held of a subscription, where it had an update.
-fn count<L: Ledger>(
+fn count(alloc: Global, receiver: &Receiver, id: u32) -> Result<Option<usize>, NoMemory> {
+    count_by::<Brand>(alloc, receiver, id, Blank::new(1))
+}
+
+// The same, with a ledger for the visits.
+fn count_by<L: Ledger>(
     alloc: Global,
     receiver: &Receiver,
     id: u32,
-    steps: &mut Steps<L>,
-) -> Result<Option<usize>, NoMemory> {
+    blank: Blank,
+) -> Result<Option<usize>, NoMemory>
+    requires name { blank.name ≡ L.name }
+    requires parts { blank.parts ≡ L.parts }
+    requires some { 0 < L.parts }
+{
+    let mut steps = Steps::<L>::open(blank);
     match receiver.holding(id) {
-        Some(holding) => Ok(Some(holding.rows(alloc, steps)?.len())),
+        Some(holding) => {
+            let rows = holding.rows(alloc, &mut steps)?;
+            Ok(Some(rows.len()))
+        }
         None => Ok(None),
     }
 }
 
 #[test]
 fn lines_make_the_rows_of_each_subscription(rt: HostRuntime) -> Result<(), Fail> {
-    take_lines::<Brand>(rt, Blank::new(1))
-}
-
-fn take_lines<L: Ledger>(rt: HostRuntime, blank: Blank) -> Result<(), Fail>
-    requires name { blank.name ≡ L.name }
-    requires parts { blank.parts ≡ L.parts }
-    requires some { 0 < L.parts }
-{
-    let mut steps = Steps::<L>::open(blank);
     let alloc = rt.alloc();
     let schema = ports(alloc)?;
     let mut receiver = Receiver::new(alloc);
@@ -102,8 +106,8 @@ fn take_lines<L: Ledger>(rt: HostRuntime, blank: Blank) -> Result<(), Fail>
         let line = line_of(alloc, name, body)?;
         let taken = receiver.take_line(alloc, &schema, line.as_bytes());
         assert_eq!(rt; taken.is_ok(), is_taken, "{line}");
-        assert_eq!(rt; count(alloc, &receiver, 9, &mut steps)?, of_nine, "{line}");
-        assert_eq!(rt; count(alloc, &receiver, 7, &mut steps)?, of_seven, "{line}");
+        assert_eq!(rt; count(alloc, &receiver, 9)?, of_nine, "{line}");
+        assert_eq!(rt; count(alloc, &receiver, 7)?, of_seven, "{line}");
     }
     let ids = receiver.ids(alloc)?;
     assert_eq!(rt; ids.len(), 2);
