@@ -14,7 +14,7 @@ use Rattle.yp_schema.specs.declared.schema.SchemaNode.{SchemaNode}
 use Rattle.yp_time.specs.Ticks.{tick_limit}
 use Rattle.yp_registry.specs.declared.ask.Ask.{Ask}
 use Rattle.yp_registry.specs.declared.refused.Refused.{Refused}
-use Rattle.yp_registry.specs.declared.refused.Refused.TheVariants.{AccessDenied, EncodingUnsupported, DatastoreNotSubscribable, FilterUnsupported, PeriodUnsupported, InsufficientResources, Memory}
+use Rattle.yp_registry.specs.declared.refused.Refused.TheVariants.{AccessDenied, EncodingUnsupported, DatastoreNotSubscribable, FilterUnsupported, PeriodUnsupported, NoSuchSubscription, OnChangeSyncUnsupported, InvalidTrigger, InvalidId, InvalidReceiver, InsufficientResources, Memory}
 use Rattle.yp_registry.specs.declared.ask.FilterAsk.{FilterAsk}
 use Rattle.yp_registry.specs.Terms.{Terms, AreTermsOf, HasAnchor, IsFollowed, if_read, is_too_short, with_anchor}
 use Rattle.yp_registry.specs.Registry.{Subscriptions, Reason, Fails, first_refusal, reasons_against, or_refused, lacks_room, no_subscriptions, most_feeds, last_id, next_id, feeds, asked_for, terms_for, with_terms, established, after_refusal, establish_answer, IsRegistryOf}
@@ -33,6 +33,11 @@ fails_alike refusal x y EncodingUnsupported h = same_refusal refusal x y Encodin
 fails_alike refusal x y DatastoreNotSubscribable h = same_refusal refusal x y DatastoreNotSubscribable h
 fails_alike refusal x y FilterUnsupported h = same_refusal refusal x y FilterUnsupported h
 fails_alike refusal x y (PeriodUnsupported hint) h = same_refusal refusal x y (PeriodUnsupported hint) h
+fails_alike refusal x y (NoSuchSubscription resync) h = same_refusal refusal x y (NoSuchSubscription resync) h
+fails_alike refusal x y OnChangeSyncUnsupported h = same_refusal refusal x y OnChangeSyncUnsupported h
+fails_alike refusal x y InvalidTrigger h = same_refusal refusal x y InvalidTrigger h
+fails_alike refusal x y InvalidId h = same_refusal refusal x y InvalidId h
+fails_alike refusal x y InvalidReceiver h = same_refusal refusal x y InvalidReceiver h
 fails_alike refusal x y InsufficientResources h = same_refusal refusal x y InsufficientResources h
 fails_alike refusal x y Memory h = tt
 
@@ -48,7 +53,7 @@ passed true refusal rest h = cc
 passed false refusal rest h = (refl, h)
 
 -- where nothing is refused, no reason holds
-none_holds : (reasons : List Reason) → first_refusal reasons ≡ None → AllByRecursion (λ (reason : Reason). reason.0 ≡ false) reasons
+pub none_holds : (reasons : List Reason) → first_refusal reasons ≡ None → AllByRecursion (λ (reason : Reason). reason.0 ≡ false) reasons
 none_holds [] h = tt
 none_holds (reason ∷ reasons) h = let rest = passed reason.0 reason.1 (first_refusal reasons) h in (rest.0, none_holds reasons rest.1)
 
@@ -68,7 +73,7 @@ has_room registry h =
 -- ---- registries of a schema
 
 -- a trigger with its anchor can be followed
-followed : (trigger : Trigger) (now : ℕ) → is_too_short trigger ≡ false → HasAnchor trigger → now ≤ tick_limit → IsFollowed (with_anchor now trigger)
+pub followed : (trigger : Trigger) (now : ℕ) → is_too_short trigger ≡ false → HasAnchor trigger → now ≤ tick_limit → IsFollowed (with_anchor now trigger)
 followed (Periodic period (Some anchor)) now long there late = (ltb-false _ _ long, there)
 followed (Periodic period None) now long there late = (ltb-false _ _ long, (omega (arith, ints), omega (arith, ints)))
 followed (OnChange dampening sync excluded) now long there late = tt
@@ -141,6 +146,12 @@ module _ (nodes : List SchemaNode) (policy : Policy) (registry : Subscriptions) 
 
   pub names_stay : (established nodes policy registry by ask now).names ≡ registry.names
   names_stay = elim (first_refusal (reasons_against nodes policy registry by ask)) as (λ (refused : Option Refused). (after_refusal refused registry (terms_for nodes registry by ask now)).names ≡ registry.names) [
+    | Some refused ↦ refl
+    | None ↦ refl
+  ]
+
+  pub taken_stay : (established nodes policy registry by ask now).taken ≡ registry.taken
+  taken_stay = elim (first_refusal (reasons_against nodes policy registry by ask)) as (λ (refused : Option Refused). (after_refusal refused registry (terms_for nodes registry by ask now)).taken ≡ registry.taken) [
     | Some refused ↦ refl
     | None ↦ refl
   ]

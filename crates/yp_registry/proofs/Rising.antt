@@ -3,7 +3,7 @@ use Rattle.std.proofs.Common.{◌≡◌, ℕ, ◌+◌, ◌<◌, ◌≤◌, ◌�
 use Rattle.std.specs.Prelude.{All, cond, nat_eq, nat_lt}
 use Rattle.std.specs.List.Sorted.{IsStrictlyIncreasing}
 use Rattle.std.proofs.Math.Seq.{get_or-append_seam}
-use Rattle.std.proofs.lemmas.Bool.{eqb-true, eq-eqb, ltb-true, ltb-false}
+use Rattle.std.proofs.lemmas.Bool.{and_parts, eqb-true, eq-eqb, ltb-true, ltb-false}
 use Rattle.std.proofs.lemmas.List.{get_or_append_left, length_push, map-append}
 use Rattle.std.proofs.lemmas.List.Elements.{All-map, All-push, All-tail, All-weaker}
 use Rattle.yp_nacm.specs.declared.policy.Policy.{Policy}
@@ -12,12 +12,13 @@ use Rattle.yp_registry.specs.declared.ask.Ask.{Ask}
 use Rattle.yp_registry.specs.declared.refused.Refused.{Refused}
 use Rattle.yp_registry.specs.Terms.{Terms}
 use Rattle.yp_registry.specs.Registry.{Subscriptions, no_subscriptions, live_at, next_id, first_refusal, reasons_against, or_refused, terms_for, with_terms, after_refusal, established, establish_answer}
+use Rattle.yp_registry.specs.Configuring.{is_configurable, is_taken}
 use Rattle.yp_registry.specs.Ids.{HasRisingIds}
 use Rattle.yp_registry.proofs.Establishing.{not_refused, given_state}
 
 -- ---- ids
 
-abbrev ids : List Terms → List ℕ
+abbrev pub ids : List Terms → List ℕ
 ids live = map (λ (terms : Terms). terms.id) live
 
 -- a number past all others keeps them rising
@@ -46,7 +47,7 @@ rising_push live new rising lower =
 -- ---- look-ups
 
 module _ (id : ℕ) where
-  apart : (other : ℕ) → id ≢ other → nat_eq id other ≡ false
+  pub apart : (other : ℕ) → id ≢ other → nat_eq id other ≡ false
   apart other differ = elim (nat_eq id other) as (λ (same : Bool). nat_eq id other ≡ same → same ≡ false) [
     | true ↦ λ is. absurd (differ (eqb-true id other is))
     | false ↦ λ is. refl
@@ -76,7 +77,14 @@ module _ (id : ℕ) where
 -- ---- registries
 
 pub rising_first : (users names : List (List ℕ)) → HasRisingIds (no_subscriptions users names)
-rising_first users names = record { rising = λ k within. absurd (omega (arith, within)); below = λ k other within. absurd (omega (arith, within)) }
+rising_first users names = record { rising = λ k within. absurd (omega (arith, within)); below = λ k other within. absurd (omega (arith, within)); configured = λ k other within. absurd (omega (arith, within)) }
+
+-- the next id can't be configured
+past_configurable : (given id : ℕ) → id ≡ next_id given → is_configurable id ≡ true → ⊥
+past_configurable given id next early =
+    let parts = and_parts (nat_lt 0 id) (nat_lt id (next_id 0)) early in
+    let lower : id < next_id 0 = ltb-true _ _ parts.1 in
+    omega (arith, next, lower)
 
 -- a subscription of the next id keeps ids rising
 with_next : (registry : Subscriptions) (new : Terms) → new.id ≡ next_id registry.given → HasRisingIds registry → HasRisingIds (with_terms registry new)
@@ -88,6 +96,7 @@ with_next registry new next is =
     record {
       rising = rising_push registry.live new is.rising lower;
       below = All-push (λ (terms : Terms). terms.id < next_id (registry.given + 1)) registry.live new later (omega (arith, next));
+      configured = All-push (λ (terms : Terms). is_configurable terms.id ≡ true → is_taken terms.id registry ≡ true) registry.live new is.configured (λ early. absurd (past_configurable registry.given new.id next early));
     }
 
 -- no live subscription has the next id

@@ -102,8 +102,8 @@ coded_terms =
 
 abbrev pub coded_subscriptions : Coded Subscriptions
 coded_subscriptions =
-    code_by (List (List ℕ) × (List (List ℕ) × (ℕ × List Terms)))
-    (coded× (coded_list (coded_list coded_ℕ)) (coded× (coded_list (coded_list coded_ℕ)) (coded× coded_ℕ (coded_list coded_terms))))
-    (λ r. (r.users, (r.names, (r.given, r.live))))
-    (λ p. record { users = p.0; names = p.1.0; given = p.1.1.0; live = p.1.1.1 })
+    code_by (List (List ℕ) × (List (List ℕ) × (ℕ × (List ℕ × List Terms))))
+    (coded× (coded_list (coded_list coded_ℕ)) (coded× (coded_list (coded_list coded_ℕ)) (coded× coded_ℕ (coded× (coded_list coded_ℕ) (coded_list coded_terms)))))
+    (λ r. (r.users, (r.names, (r.given, (r.taken, r.live)))))
+    (λ p. record { users = p.0; names = p.1.0; given = p.1.1.0; taken = p.1.1.1.0; live = p.1.1.1.1 })
     (λ _. refl)

@@ -9,19 +9,20 @@ use Rattle.yp_nacm.specs.Decision.{may_call}
 use Rattle.yp_registry.specs.declared.ask.Ask.{Ask}
 use Rattle.yp_registry.specs.declared.ask.FilterAsk.{FilterAsk}
 use Rattle.yp_registry.specs.declared.refused.Refused.{Refused}
-use Rattle.yp_registry.specs.declared.refused.Refused.TheVariants.{AccessDenied, EncodingUnsupported, DatastoreNotSubscribable, FilterUnsupported, PeriodUnsupported, InsufficientResources, Memory}
+use Rattle.yp_registry.specs.declared.refused.Refused.TheVariants.{AccessDenied, EncodingUnsupported, DatastoreNotSubscribable, FilterUnsupported, PeriodUnsupported, NoSuchSubscription, OnChangeSyncUnsupported, InvalidTrigger, InvalidId, InvalidReceiver, InsufficientResources, Memory}
 use Rattle.yp_registry.specs.Terms.{Terms, AreTermsOf, is_json, is_operational, asked_by, is_too_short, shortest_period, with_anchor}
 
--- the users and the names of the receivers, in the order of their declaration, how many ids were given to dynamic subscriptions so far, and the live subscriptions, in ascending order of their ids
+-- the users and the names of the receivers, in the order of their declaration, how many ids were given to dynamic subscriptions so far, the ids that were configured so far, and the live subscriptions, in ascending order of their ids
 pub record Subscriptions : Type 0 where
   pub users : List (List ℕ)
   pub names : List (List ℕ)
   pub given : ℕ
+  pub taken : List ℕ
   pub live : List Terms
 
 -- the registry that the first call finds
 abbrev pub no_subscriptions : List (List ℕ) → List (List ℕ) → Subscriptions
-no_subscriptions users names = record { users = users; names = names; given = 0; live = [] }
+no_subscriptions users names = record { users = users; names = names; given = 0; taken = []; live = [] }
 
 -- ---- look-ups
 
@@ -127,6 +128,11 @@ Fails EncodingUnsupported answer = answer ≡ Err EncodingUnsupported
 Fails DatastoreNotSubscribable answer = answer ≡ Err DatastoreNotSubscribable
 Fails FilterUnsupported answer = answer ≡ Err FilterUnsupported
 Fails (PeriodUnsupported hint) answer = answer ≡ Err (PeriodUnsupported hint)
+Fails (NoSuchSubscription resync) answer = answer ≡ Err (NoSuchSubscription resync)
+Fails OnChangeSyncUnsupported answer = answer ≡ Err OnChangeSyncUnsupported
+Fails InvalidTrigger answer = answer ≡ Err InvalidTrigger
+Fails InvalidId answer = answer ≡ Err InvalidId
+Fails InvalidReceiver answer = answer ≡ Err InvalidReceiver
 Fails InsufficientResources answer = answer ≡ Err InsufficientResources
 Fails Memory answer = Unit {0}
 

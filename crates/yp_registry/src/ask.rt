@@ -1,4 +1,5 @@
-//! What a subscription is asked for with (RFC 8639 section 2.4.2, RFC 8641 section 4.4.1).
+//! What a subscription is asked for with (RFC 8639 section 2.4.2, RFC 8641 section 4.4.1), and what it is
+//! amended with (RFC 8639 sections 2.4.3 and 2.5.3, RFC 8641 section 4.4.2).
 use std::alloc::Global;
 use yp_base::memory::{Duplicate, NoMemory};
 use yp_base::notice::Trigger;
@@ -26,6 +27,14 @@ pub struct Ask {
     pub trigger: Trigger,
 }
 
+/// What a live subscription is amended with: its filter, and when updates are sent. What is absent stays as
+/// it is. Of a trigger on change only the dampening period is used.
+#[derive(Drop)]
+pub struct Amend {
+    pub filter: Option<FilterAsk>,
+    pub trigger: Option<Trigger>,
+}
+
 impl Duplicate for FilterAsk {
     fn copy(&self, alloc: Global) -> Result<FilterAsk, NoMemory> {
         Ok(match self {
@@ -42,6 +51,19 @@ impl Duplicate for Ask {
             encoding: self.encoding.copy(alloc)?,
             datastore: self.datastore.copy(alloc)?,
             filter: self.filter.copy(alloc)?,
+            trigger: self.trigger,
+        })
+    }
+}
+
+impl Duplicate for Amend {
+    fn copy(&self, alloc: Global) -> Result<Amend, NoMemory> {
+        let filter = match &self.filter {
+            Some(filter) => Some(filter.copy(alloc)?),
+            None => None,
+        };
+        Ok(Amend {
+            filter,
             trigger: self.trigger,
         })
     }

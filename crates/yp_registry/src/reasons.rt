@@ -1,7 +1,10 @@
-//! The reasons to refuse a subscription that is asked for: each is tested by itself.
-ghost use Rattle.std.specs.Prelude.{◌≡◌, ◌+◌, length, nat_lt, true, IfOk};
+//! The reasons to refuse a call: each is tested by itself.
+ghost use Rattle.std.specs.Prelude.{◌≡◌, ◌+◌, length, nat_lt, option_map, true, Err, IfOk, Ok, Some, if◌then◌else◌};
 ghost use Rattle.yp_filter.specs.Fits.{filter_fits};
 ghost use Rattle.yp_filter.specs.View.{filter_view};
+ghost use Rattle.yp_base.specs.Types.{is_among};
+ghost use Rattle.yp_registry.specs.Amending.{given_filter, is_given_short, is_other_kind, is_unread};
+ghost use Rattle.yp_registry.specs.Configuring.{are_declared, is_configurable};
 ghost use Rattle.yp_registry.specs.Registry.{Gives, feeds, most_feeds};
 ghost use Rattle.yp_registry.specs.Terms.{asked_by, is_json, is_operational, is_too_short};
 ghost use Rattle.yp_base.specs.Results.{or_fault};
@@ -9,12 +12,17 @@ ghost use Rattle.yp_base.specs.Results.{or_fault};
 use crate::ask::FilterAsk;
 use crate::refused::Refused;
 use crate::terms::Terms;
+use crate::triggers::differ_in_kind;
 use std::alloc::Global;
 use yp_base::notice::Trigger;
 use yp_base::payload::Payload;
+use yp_base::txt::Txt;
 use yp_filter::fault::FilterFault;
 use yp_filter::filter::Filter;
 use yp_schema::schema::Schema;
+
+/// The last id of configured subscriptions.
+const LAST_CONFIGURED_ID: u32 = 2147483647;
 
 /// How many feeds may be live: one for each receiver of each live subscription.
 const MOST_FEEDS: usize = 256;
@@ -64,6 +72,20 @@ fn read_subtree(alloc: Global, schema: &Schema, json: &Payload) -> Result<Filter
     }
 }
 
+/// Reads the filter that is given, where one is and that can be done.
+pub(crate) fn read_given(
+    alloc: Global,
+    schema: &Schema,
+    given: &Option<FilterAsk>,
+) -> Result<Option<Filter>, Refused>
+    ensures { Gives (λ filter. option_map filter_view filter) result (if is_unread schema.now given.now then Err Refused.FilterUnsupported else Ok (given_filter schema.now given.now)) }
+{
+    match given {
+        Some(asked) => Ok(Some(read_filter(alloc, schema, asked)?)),
+        None => Ok(None),
+    }
+}
+
 /// Whether a period is shorter than the shortest.
 pub(crate) fn is_too_short(trigger: &Trigger) -> bool
     ensures { result ≡ is_too_short trigger.now }
@@ -72,6 +94,57 @@ pub(crate) fn is_too_short(trigger: &Trigger) -> bool
         Trigger::Periodic { period, .. } => *period < SHORTEST_PERIOD,
         Trigger::OnChange { .. } => false,
     }
+}
+
+/// Whether a trigger is given whose period is too short.
+pub(crate) fn is_given_short(given: &Option<Trigger>) -> bool
+    ensures { result ≡ is_given_short given.now }
+{
+    match given {
+        Some(trigger) => is_too_short(trigger),
+        None => false,
+    }
+}
+
+/// Whether a trigger is given that is of the other kind than the subscription's.
+pub(crate) fn is_other_kind(given: &Option<Trigger>, terms: &Terms) -> bool
+    ensures { result ≡ is_other_kind given.now (Some terms.now) }
+{
+    match given {
+        Some(trigger) => differ_in_kind(trigger, terms.trigger()),
+        None => false,
+    }
+}
+
+/// Whether an id is one of configured subscriptions.
+pub(crate) fn is_configurable(id: u32) -> bool
+    ensures { result ≡ is_configurable id }
+{
+    0 < id && id <= LAST_CONFIGURED_ID
+}
+
+/// Whether a text is among others.
+pub(crate) fn is_among(text: &str, others: &[Txt]) -> bool
+    ensures { result ≡ is_among text.now others.now }
+{
+    for other in others {
+        if text == other.as_str() {
+            return true;
+        }
+    }
+    false
+}
+
+/// Whether all these are names of receivers.
+pub(crate) fn are_declared(names: &[Txt], asked: &[Txt]) -> bool
+    ensures { result ≡ are_declared names.now asked.now }
+{
+    for name in asked {
+        if !is_among(name.as_str(), names) {
+            return false;
+        }
+    }
+    true
 }
 
 /// Whether so many feeds more than those of live subscriptions are too many.

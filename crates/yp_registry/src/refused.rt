@@ -21,12 +21,33 @@ pub enum Refused {
     /// The period is too short. The hint is the shortest one, in ticks of a hundredth of a second.
     #[error("period-unsupported: the period is shorter than {hint} hundredths of a second")]
     PeriodUnsupported { hint: u32 },
+    /// No live subscription has the id, or it is one that the call may not be about. `resync` tells whether
+    /// the call was to synchronise again, whose reason has a name of its own.
+    #[error("no-such-subscription{}: the call may not be about a live subscription of this id", ending(*.resync))]
+    NoSuchSubscription { resync: bool },
+    /// The subscription is periodic, or has no full update at first.
+    #[error("on-change-sync-unsupported: the subscription is not on change with sync-on-start")]
+    OnChangeSyncUnsupported,
+    /// The trigger that is given is of the other kind than the subscription's.
+    #[error("invalid-value: the trigger is of another kind than the subscription")]
+    InvalidTrigger,
+    /// The id isn't one of configured subscriptions, or was configured before.
+    #[error("invalid-value: the id is not from 1 to 2147483647, or was configured before")]
+    InvalidId,
+    /// A name isn't that of a receiver.
+    #[error("invalid-value: a name is not that of a receiver")]
+    InvalidReceiver,
     /// There would be more feeds than may be, or no id is left.
     #[error("insufficient-resources: there are too many subscriptions")]
     InsufficientResources,
     /// Memory ran out.
     #[error("out of memory")]
     Memory,
+}
+
+/// How the name ends of the reason that there is no such subscription.
+fn ending(resync: bool) -> &'static str {
+    if resync { "-resync" } else { "" }
 }
 
 impl From<NoMemory> for Refused {

@@ -3,16 +3,21 @@
 ghost use Rattle.std.specs.Prelude.{◌≡◌, ◌+◌, ◌<◌, ◌≤◌, length, option_copied, option_map, true, IfOk, OnErr, OnOk};
 ghost use Rattle.yp_filter.specs.Fits.{filter_fits};
 ghost use Rattle.yp_filter.specs.View.{filter_view};
+ghost use Rattle.yp_registry.specs.Amending.{amended_terms, with_change};
+ghost use Rattle.yp_registry.specs.Calls.{configured_at, dynamic_at, own_at, with_end};
+ghost use Rattle.yp_registry.specs.Configuring.{is_taken, with_configured};
 ghost use Rattle.yp_registry.specs.Registry.{Answers, Gives, IsRegistryOf, asked_for, establish_answer, established, first_refusal, free_id, last_id, live_at, next_id, no_subscriptions, or_refused, reasons_against, user_at, with_terms};
 ghost use Rattle.yp_registry.specs.Terms.{HasAnchor, with_anchor};
 ghost use Rattle.yp_time.specs.Ticks.{tick_limit};
 
 use crate::ask::Ask;
+use crate::live;
 use crate::reasons::{
     SHORTEST_PERIOD, are_too_many, is_json, is_operational, is_too_short, read_filter,
 };
 use crate::refused::Refused;
 use crate::terms::Terms;
+use crate::triggers::with_anchor;
 use std::alloc::Global;
 use std::marker::Model;
 use yp_base::leaf_type::Names;
@@ -35,6 +40,8 @@ pub struct Registry {
     names: Names,
     /// How many ids were given to dynamic subscriptions.
     given: u32,
+    /// The ids that were configured, in that order.
+    taken: Vec<u32>,
     live: Vec<Terms>,
 }
 
@@ -46,7 +53,7 @@ impl Model for Registry {
 
     ghost coded = { coded_subscriptions };
 
-    ghost view = { λ r. record { users = r.users; names = r.names; given = r.given; live = r.live.items } };
+    ghost view = { λ r. record { users = r.users; names = r.names; given = r.given; taken = r.taken.items; live = r.live.items } };
 }
 
 /// What a subscription is admitted with: its id, and its filter.
@@ -54,20 +61,6 @@ impl Model for Registry {
 struct Admitted {
     id: u32,
     filter: Filter,
-}
-
-/// The trigger with its anchor, which is the present tick where none is given (RFC 8641 section 4.2).
-fn with_anchor(now: u64, trigger: Trigger) -> Trigger
-    requires { now ≤ tick_limit }
-    ensures { result ≡ with_anchor now trigger }
-{
-    match trigger {
-        Trigger::Periodic { period, anchor } => Trigger::Periodic {
-            period,
-            anchor: Some(anchor.unwrap_or(now as i64)),
-        },
-        on_change => on_change,
-    }
 }
 
 impl Registry {
@@ -80,6 +73,7 @@ impl Registry {
             users,
             names,
             given: 0,
+            taken: Vec::new(alloc),
             live: Vec::new(alloc),
         }
     }
@@ -91,6 +85,7 @@ impl Registry {
             users,
             names,
             given,
+            taken: Vec::new(alloc),
             live: Vec::new(alloc),
         }
     }
@@ -170,7 +165,7 @@ impl Registry {
     }
 
     /// The user of the receiver of this number.
-    fn user(&self, number: u32) -> &str
+    pub(crate) fn user(&self, number: u32) -> &str
         requires { number < length self.now.users }
         ensures { result.now ≡ user_at self.now.users number }
     {
@@ -192,6 +187,83 @@ impl Registry {
         ensures { option_copied result ≡ live_at id self.now.live }
     {
         self.live.iter().find(|terms| terms.id() == id)
+    }
+
+    /// The terms of the live subscription of an id that the receiver of this number established, where
+    /// there is one.
+    pub(crate) fn own_at(&self, by: u32, id: u32) -> Option<&Terms>
+        ensures { option_copied result ≡ own_at by id self.now.live }
+    {
+        let terms = self.at(id)?;
+        if terms.is_own(by) { Some(terms) } else { None }
+    }
+
+    /// Those of one that any receiver established.
+    pub(crate) fn dynamic_at(&self, id: u32) -> Option<&Terms>
+        ensures { option_copied result ≡ dynamic_at id self.now.live }
+    {
+        let terms = self.at(id)?;
+        if terms.configured() {
+            None
+        } else {
+            Some(terms)
+        }
+    }
+
+    /// Those of one that was configured.
+    pub(crate) fn configured_at(&self, id: u32) -> Option<&Terms>
+        ensures { option_copied result ≡ configured_at id self.now.live }
+    {
+        let terms = self.at(id)?;
+        if terms.configured() {
+            Some(terms)
+        } else {
+            None
+        }
+    }
+
+    /// Whether an id was configured.
+    pub(crate) fn is_taken(&self, id: u32) -> bool
+        ensures { result ≡ is_taken id self.now }
+    {
+        self.taken.as_slice().contains(&id)
+    }
+
+    /// Amends the terms of the live subscription of an id at this tick by what is given.
+    pub(crate) fn amend(
+        &mut self,
+        id: u32,
+        filter: Option<Filter>,
+        trigger: Option<Trigger>,
+        now: u64,
+    )
+        requires { now ≤ tick_limit }
+        ensures { self.new ≡ with_change id (amended_terms now (option_map filter_view filter) trigger) self.old }
+    {
+        live::amend(&mut self.live, id, filter, trigger, now);
+    }
+
+    /// Ends the live subscription of an id.
+    pub(crate) fn end(&mut self, id: u32)
+        ensures { self.new ≡ with_end id self.old }
+    {
+        live::end(&mut self.live, id);
+    }
+
+    /// Takes in the terms of a configured subscription.
+    pub(crate) fn add_configured(&mut self, terms: Terms) -> Result<(), NoMemory>
+        ensures state { OnOk result (self.new ≡ with_configured self.old terms) }
+        ensures unchanged { OnErr result (self.new ≡ self.old) }
+    {
+        let count = self.taken.len();
+        self.taken.push(terms.id())?;
+        match live::insert(&mut self.live, terms) {
+            Ok(()) => Ok(()),
+            Err(error) => {
+                self.taken.truncate(count);
+                Err(error)
+            }
+        }
     }
 
     /// The filter of a live subscription; `None` exactly where no live subscription has the id.
@@ -255,6 +327,7 @@ impl Duplicate for Registry {
             users: self.users.copy(alloc)?,
             names: self.names.copy(alloc)?,
             given: self.given,
+            taken: Vec::from_slice(alloc, self.taken.as_slice())?,
             live: copies_of(alloc, self.live.as_slice())?,
         })
     }

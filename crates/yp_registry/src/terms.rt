@@ -1,7 +1,11 @@
 //! What a subscription is given.
-ghost use Rattle.std.specs.Prelude.{◌≡◌, ◌∷◌, [], IfOk, false};
+ghost use Rattle.std.specs.Prelude.{◌≡◌, ◌≤◌, ◌∷◌, [], IfOk, false, option_map, true};
 ghost use Rattle.yp_filter.specs.View.{filter_view};
+ghost use Rattle.yp_registry.specs.Amending.{amended_terms};
+ghost use Rattle.yp_registry.specs.Calls.{is_own};
+ghost use Rattle.yp_time.specs.Ticks.{tick_limit};
 
+use crate::triggers::amended_trigger;
 use std::alloc::Global;
 use std::marker::Model;
 use yp_base::memory::{Duplicate, NoMemory};
@@ -52,6 +56,42 @@ impl Terms {
             filter,
             trigger,
         })
+    }
+
+    /// The terms of a configured subscription.
+    pub(crate) fn from_configuration(
+        id: u32,
+        receivers: Series<u32>,
+        filter: Filter,
+        trigger: Trigger,
+    ) -> Terms
+        ensures { result ≡ record { id = id; receivers = receivers; configured = true; asked = filter_view filter; trigger = trigger } }
+    {
+        Terms {
+            id,
+            receivers,
+            configured: true,
+            filter,
+            trigger,
+        }
+    }
+
+    /// Amends the terms at this tick by what is given.
+    pub(crate) fn amend(&mut self, filter: Option<Filter>, trigger: Option<Trigger>, now: u64)
+        requires { now ≤ tick_limit }
+        ensures { self.new ≡ amended_terms now (option_map filter_view filter) trigger self.old }
+    {
+        if let Some(filter) = filter {
+            self.filter = filter;
+        }
+        self.trigger = amended_trigger(now, trigger, self.trigger);
+    }
+
+    /// Whether the receiver of this number established the subscription.
+    pub(crate) fn is_own(&self, by: u32) -> bool
+        ensures { result ≡ is_own by self.now }
+    {
+        !self.configured && self.receivers.items().contains(&by)
     }
 
     /// The subscription's id.

@@ -1,8 +1,10 @@
-//! Ids to the end of their range, which no script and no case of calls reaches.
+//! Ids to the end of their range, which no script and no case of calls reaches, and each further call where it
+//! is done.
 ghost use Rattle.std.specs.Prelude.{IfOk};
+ghost use Rattle.yp_registry.specs.Amending.{HasGivenAnchor};
 ghost use Rattle.yp_registry.specs.Terms.{HasAnchor};
 
-use crate::ask::{Ask, FilterAsk};
+use crate::ask::{Amend, Ask, FilterAsk};
 use crate::refused::Refused;
 use crate::registry::Registry;
 use std::alloc::Global;
@@ -32,17 +34,21 @@ fn ann(alloc: Global) -> Result<Names, NoMemory> {
     Ok(Series::from_vec(names))
 }
 
-// Everything in JSON of the operational datastore, on change.
-fn everything(alloc: Global) -> Result<Ask, NoMemory>
-    ensures { IfOk result (λ ask. HasAnchor ask.trigger) }
-{
-    let excluded = Kinds {
+// No operation.
+fn none_of_all() -> Kinds {
+    Kinds {
         create: false,
         delete: false,
         insert: false,
         moved: false,
         replace: false,
-    };
+    }
+}
+
+// Everything in JSON of the operational datastore, on change.
+fn everything(alloc: Global) -> Result<Ask, NoMemory>
+    ensures { IfOk result (λ ask. HasAnchor ask.trigger) }
+{
     Ok(Ask {
         encoding: txt(alloc, "encode-json")?,
         datastore: txt(alloc, "ietf-datastores:operational")?,
@@ -50,7 +56,7 @@ fn everything(alloc: Global) -> Result<Ask, NoMemory>
         trigger: Trigger::OnChange {
             dampening: 0,
             sync: true,
-            excluded,
+            excluded: none_of_all(),
         },
     })
 }
@@ -116,5 +122,123 @@ fn where_no_subscription_is_live_any_more_no_id_is_given_again(
         assert_eq!(rt; answer(alloc, &schema, &policy, &mut registry), none_left);
         assert!(rt; registry.live().is_empty());
     }
+    Ok(())
+}
+
+// The receivers a and b, which have one user.
+fn two(alloc: Global, first: &str, second: &str) -> Result<Names, NoMemory> {
+    let mut names = Vec::new(alloc);
+    names.push(txt(alloc, first)?)?;
+    names.push(txt(alloc, second)?)?;
+    Ok(Series::from_vec(names))
+}
+
+fn registry_of_two(alloc: Global) -> Result<Registry, NoMemory> {
+    Ok(Registry::new(alloc, two(alloc, "ann", "ann")?, two(alloc, "a", "b")?))
+}
+
+// Another dampening period, and nothing else.
+fn dampened() -> Amend
+    ensures { HasGivenAnchor result.trigger }
+{
+    Amend {
+        filter: None,
+        trigger: Some(Trigger::OnChange {
+            dampening: 10,
+            sync: false,
+            excluded: none_of_all(),
+        }),
+    }
+}
+
+// Whether a subscription has this dampening period and, as before, a full update at first.
+fn has_dampening(registry: &Registry, id: u32, period: u32) -> bool {
+    let dampened = Trigger::OnChange {
+        dampening: period,
+        sync: true,
+        excluded: none_of_all(),
+    };
+    registry.trigger(id) == Some(&dampened)
+}
+
+#[test]
+fn a_receiver_modifies_resyncs_and_deletes_its_own_subscription(
+    rt: HostRuntime,
+) -> Result<(), Fail> {
+    let alloc = rt.alloc();
+    let schema = Schema::read(alloc, &[])?;
+    let policy = Policy::opening(alloc);
+    let mut registry = registry_of_two(alloc)?;
+    let missing = Refused::NoSuchSubscription { resync: false };
+    let id = answer(alloc, &schema, &policy, &mut registry)?;
+    assert!(rt; has_dampening(&registry, id, 0));
+    if registry.users().len() == 2 {
+        let amend = dampened();
+        assert_eq!(rt;
+            registry.modify(alloc, &schema, &policy, 1, id, &amend, 0),
+            Err(missing)
+        );
+    }
+    if registry.users().len() == 2 {
+        let amend = dampened();
+        assert_eq!(rt;
+            registry.modify(alloc, &schema, &policy, 0, id, &amend, 0),
+            Ok(())
+        );
+    }
+    assert!(rt; has_dampening(&registry, id, 10));
+    if registry.users().len() == 2 {
+        assert_eq!(rt; registry.resync(&policy, 0, id), Ok(()));
+        assert_eq!(rt; registry.delete(&policy, 0, id), Ok(()));
+    }
+    assert!(rt; registry.live().is_empty());
+    Ok(())
+}
+
+#[test]
+fn an_operator_kills_the_subscription_of_another_receiver(rt: HostRuntime) -> Result<(), Fail> {
+    let alloc = rt.alloc();
+    let schema = Schema::read(alloc, &[])?;
+    let mut policy = Policy::opening(alloc);
+    let mut registry = registry_of_two(alloc)?;
+    let id = answer(alloc, &schema, &policy, &mut registry)?;
+    policy.enabled = false;
+    if registry.users().len() == 2 {
+        assert_eq!(rt; registry.kill(&policy, 1, id), Ok(()));
+    }
+    assert!(rt; registry.live().is_empty());
+    Ok(())
+}
+
+#[test]
+fn a_configured_id_is_taken_for_ever(rt: HostRuntime) -> Result<(), Fail> {
+    let alloc = rt.alloc();
+    let schema = Schema::read(alloc, &[])?;
+    let policy = Policy::opening(alloc);
+    let mut registry = registry_of_two(alloc)?;
+    let ask = everything(alloc)?;
+    let both = two(alloc, "b", "a")?;
+    let id = answer(alloc, &schema, &policy, &mut registry)?;
+    if registry.users().len() == 2 {
+        assert_eq!(rt;
+            registry.configure(alloc, &schema, 7, both.items(), &ask, 0),
+            Ok(())
+        );
+    }
+    assert!(rt; has_ids(&registry, &[7, id]));
+    assert!(rt; registry.receivers(7) == Some(&[0, 1][..]));
+    assert_eq!(rt;
+        registry.reconfigure(alloc, &schema, 7, &dampened(), 0),
+        Ok(())
+    );
+    assert!(rt; has_dampening(&registry, 7, 10));
+    assert_eq!(rt; registry.unconfigure(7), Ok(()));
+    assert!(rt; has_ids(&registry, &[id]));
+    let mut registry = registry.copy(alloc)?;
+    if registry.users().len() == 2 {
+        let again = registry.configure(alloc, &schema, 7, both.items(), &ask, 0);
+        assert_eq!(rt; again, Err(Refused::InvalidId));
+    }
+    assert!(rt; has_ids(&registry, &[id]));
     Ok(())
 }
