@@ -5,8 +5,8 @@ use Rattle.std.proofs.lemmas.Bool.{eqb-true, eq-eqb}
 use Rattle.std.proofs.lemmas.List.Elements.{All-head, All-tail}
 use Rattle.yp_registry.specs.Terms.{Terms}
 use Rattle.yp_registry.specs.Registry.{live_at}
-use Rattle.yp_registry.specs.Calls.{without}
-use Rattle.yp_registry.specs.Amending.{changed_at}
+use Rattle.yp_registry.specs.Calls.{live_without}
+use Rattle.yp_registry.specs.Amending.{changed_terms}
 use Rattle.yp_registry.specs.Configuring.{in_order}
 use Rattle.yp_registry.proofs.Rising.{apart}
 
@@ -19,18 +19,18 @@ none_of id (first ∷ live) differ =
 -- ---- a change that keeps the id
 
 module _ (change : Terms → Terms) (keeps : (terms : Terms) → (change terms).id ≡ terms.id) (id : ℕ) where
-  pub found_changed : (live : List Terms) → live_at id (changed_at id change live) ≡ option_map change (live_at id live)
+  pub found_changed : (live : List Terms) → live_at id (changed_terms id change live) ≡ option_map change (live_at id live)
   found_changed [] = refl
   found_changed (first ∷ live) =
-      elim (nat_eq id first.id) as (λ (is : Bool). nat_eq id first.id ≡ is → live_at id (cond is (change first ∷ live) (first ∷ changed_at id change live)) ≡ option_map change (cond is (Some first) (live_at id live))) [
+      elim (nat_eq id first.id) as (λ (is : Bool). nat_eq id first.id ≡ is → live_at id (cond is (change first ∷ live) (first ∷ changed_terms id change live)) ≡ option_map change (cond is (Some first) (live_at id live))) [
         | true ↦ λ is. rw (ap (nat_eq id) (keeps first) ∙ is) refl
         | false ↦ λ is. rw is (found_changed live)
       ] refl
 
-  pub others_changed : (other : ℕ) → other ≢ id → (live : List Terms) → live_at other (changed_at id change live) ≡ live_at other live
+  pub others_changed : (other : ℕ) → other ≢ id → (live : List Terms) → live_at other (changed_terms id change live) ≡ live_at other live
   others_changed other differ [] = refl
   others_changed other differ (first ∷ live) =
-      elim (nat_eq id first.id) as (λ (is : Bool). nat_eq id first.id ≡ is → live_at other (cond is (change first ∷ live) (first ∷ changed_at id change live)) ≡ live_at other (first ∷ live)) [
+      elim (nat_eq id first.id) as (λ (is : Bool). nat_eq id first.id ≡ is → live_at other (cond is (change first ∷ live) (first ∷ changed_terms id change live)) ≡ live_at other (first ∷ live)) [
         | true ↦ λ is.
             let same : id ≡ first.id = eqb-true id first.id is in
             let here : nat_eq other first.id ≡ false = apart other first.id (λ (one : other ≡ first.id). differ (one ∙ sym same)) in
@@ -41,18 +41,18 @@ module _ (change : Terms → Terms) (keeps : (terms : Terms) → (change terms).
 -- ---- an end
 
 module _ (id : ℕ) where
-  pub found_without : (live : List Terms) → live_at id (without id live) ≡ None
+  pub found_without : (live : List Terms) → live_at id (live_without id live) ≡ None
   found_without [] = refl
   found_without (first ∷ live) =
-      elim (nat_eq id first.id) as (λ (is : Bool). nat_eq id first.id ≡ is → live_at id (cond (not is) (first ∷ without id live) (without id live)) ≡ None) [
+      elim (nat_eq id first.id) as (λ (is : Bool). nat_eq id first.id ≡ is → live_at id (cond (not is) (first ∷ live_without id live) (live_without id live)) ≡ None) [
         | true ↦ λ is. found_without live
         | false ↦ λ is. rw is (found_without live)
       ] refl
 
-  pub others_without : (other : ℕ) → other ≢ id → (live : List Terms) → live_at other (without id live) ≡ live_at other live
+  pub others_without : (other : ℕ) → other ≢ id → (live : List Terms) → live_at other (live_without id live) ≡ live_at other live
   others_without other differ [] = refl
   others_without other differ (first ∷ live) =
-      elim (nat_eq id first.id) as (λ (is : Bool). nat_eq id first.id ≡ is → live_at other (cond (not is) (first ∷ without id live) (without id live)) ≡ live_at other (first ∷ live)) [
+      elim (nat_eq id first.id) as (λ (is : Bool). nat_eq id first.id ≡ is → live_at other (cond (not is) (first ∷ live_without id live) (live_without id live)) ≡ live_at other (first ∷ live)) [
         | true ↦ λ is.
             let same : id ≡ first.id = eqb-true id first.id is in
             rw (apart other first.id (λ (one : other ≡ first.id). differ (one ∙ sym same))) (others_without other differ live)

@@ -12,9 +12,9 @@ use Rattle.yp_base.specs.declared.notice.Trigger.{Trigger}
 use Rattle.yp_filter.specs.Filters.{Asked}
 use Rattle.yp_registry.specs.Terms.{Terms, HasAnchor, is_too_short, with_anchor}
 use Rattle.yp_registry.specs.Registry.{Subscriptions, IsRegistryOf, asked_for, first_refusal, live_at, or_refused}
-use Rattle.yp_registry.specs.Calls.{delete_answer, delete_reasons, done_unless, has_sync, if_meant, is_own, kill_answer, kill_reasons, lacks_sync, left_unless, resync_answer, resync_reasons, unconfigure_answer, unconfigure_reasons, with_end}
-use Rattle.yp_registry.specs.Amending.{HasGivenAnchor, amended, amended_terms, given_filter, is_given_short, is_other_kind, modified, modify_answer, modify_reasons, reconfigure_answer, reconfigure_reasons, reconfigured, with_change}
-use Rattle.yp_registry.specs.Configuring.{configure_answer, configure_reasons, configured_terms, exceeds_feeds, is_configurable, is_taken, newly_configured, numbers_named, with_configured}
+use Rattle.yp_registry.specs.Calls.{delete_answer, delete_reasons, done_unless, has_sync, if_meant, is_established_by, kill_answer, kill_reasons, lacks_sync, left_unless, resync_answer, resync_reasons, unconfigure_answer, unconfigure_reasons, with_end}
+use Rattle.yp_registry.specs.Amending.{HasGivenAnchor, amended_terms, with_given, given_filter, is_given_short, is_other_kind, modified_by, modify_answer, modify_reasons, reconfigure_answer, reconfigure_reasons, reconfigured, with_change}
+use Rattle.yp_registry.specs.Configuring.{configure_answer, configure_reasons, configured_terms, exceeds_feeds, is_configurable, is_id_taken, newly_configured, numbers_named, with_configured}
 use Rattle.yp_registry.specs.Ids.{HasRisingIds}
 use Rattle.yp_registry.proofs.Establishing.{AskedFiltersFit, none_holds, not_refused}
 use Rattle.yp_registry.proofs.Finding.{none_of}
@@ -60,10 +60,10 @@ meant is_meant found there =
     weaker (λ (terms : Terms). (is_meant terms ≡ true) × (false ≡ false)) (λ (terms : Terms). is_meant terms ≡ true) found (λ terms both. both.0) (meant_and is_meant (λ (terms : Option Terms). false) found there refl)
 
 pub modified_is : (nodes : List SchemaNode) (policy : Policy) (registry : Subscriptions) (by id : ℕ) (amend : Amend) → modify_answer nodes policy registry by id amend ≡ Ok tt
-    → IsSomeAnd (live_at id registry.live) (λ (terms : Terms). (is_own by terms ≡ true) × (is_other_kind amend.trigger (Some terms) ≡ false))
+    → IsSomeAnd (live_at id registry.live) (λ (terms : Terms). (is_established_by by terms ≡ true) × (is_other_kind amend.trigger (Some terms) ≡ false))
 modified_is nodes policy registry by id amend done =
     let none = none_holds (modify_reasons nodes policy registry by id amend) (done_none (first_refusal (modify_reasons nodes policy registry by id amend)) done) in
-    meant_and (is_own by) (is_other_kind amend.trigger) (live_at id registry.live) none.1.1.1.0 none.1.1.1.1.0
+    meant_and (is_established_by by) (is_other_kind amend.trigger) (live_at id registry.live) none.1.1.1.0 none.1.1.1.1.0
 
 pub reconfigured_is : (nodes : List SchemaNode) (registry : Subscriptions) (id : ℕ) (amend : Amend) → reconfigure_answer nodes registry id amend ≡ Ok tt
     → IsSomeAnd (live_at id registry.live) (λ (terms : Terms). (terms.configured ≡ true) × (is_other_kind amend.trigger (Some terms) ≡ false))
@@ -71,10 +71,10 @@ reconfigured_is nodes registry id amend done =
     let none = none_holds (reconfigure_reasons nodes registry id amend) (done_none (first_refusal (reconfigure_reasons nodes registry id amend)) done) in
     meant_and (λ (terms : Terms). terms.configured) (is_other_kind amend.trigger) (live_at id registry.live) none.1.1.0 none.1.1.1.0
 
-pub deleted_is : (policy : Policy) (registry : Subscriptions) (by id : ℕ) → delete_answer policy registry by id ≡ Ok tt → IsSomeAnd (live_at id registry.live) (λ (terms : Terms). is_own by terms ≡ true)
+pub deleted_is : (policy : Policy) (registry : Subscriptions) (by id : ℕ) → delete_answer policy registry by id ≡ Ok tt → IsSomeAnd (live_at id registry.live) (λ (terms : Terms). is_established_by by terms ≡ true)
 deleted_is policy registry by id done =
     let none = none_holds (delete_reasons policy registry by id) (done_none (first_refusal (delete_reasons policy registry by id)) done) in
-    meant (is_own by) (live_at id registry.live) none.1.0
+    meant (is_established_by by) (live_at id registry.live) none.1.0
 
 pub killed_is : (policy : Policy) (registry : Subscriptions) (by id : ℕ) → kill_answer policy registry by id ≡ Ok tt → IsSomeAnd (live_at id registry.live) (λ (terms : Terms). not terms.configured ≡ true)
 killed_is policy registry by id done =
@@ -82,11 +82,11 @@ killed_is policy registry by id done =
     meant (λ (terms : Terms). not terms.configured) (live_at id registry.live) none.1.0
 
 pub resynced_is : (policy : Policy) (registry : Subscriptions) (by id : ℕ) → resync_answer policy registry by id ≡ Ok tt
-    → IsSomeAnd (live_at id registry.live) (λ (terms : Terms). (is_own by terms ≡ true) × (has_sync terms.trigger ≡ true))
+    → IsSomeAnd (live_at id registry.live) (λ (terms : Terms). (is_established_by by terms ≡ true) × (has_sync terms.trigger ≡ true))
 resynced_is policy registry by id done =
     let none = none_holds (resync_reasons policy registry by id) (done_none (first_refusal (resync_reasons policy registry by id)) done) in
-    weaker (λ (terms : Terms). (is_own by terms ≡ true) × (lacks_sync (Some terms) ≡ false)) (λ (terms : Terms). (is_own by terms ≡ true) × (has_sync terms.trigger ≡ true)) (live_at id registry.live)
-    (λ terms both. (both.0, not-false (has_sync terms.trigger) both.1)) (meant_and (is_own by) lacks_sync (live_at id registry.live) none.1.0 none.1.1.0)
+    weaker (λ (terms : Terms). (is_established_by by terms ≡ true) × (lacks_sync (Some terms) ≡ false)) (λ (terms : Terms). (is_established_by by terms ≡ true) × (has_sync terms.trigger ≡ true)) (live_at id registry.live)
+    (λ terms both. (both.0, not-false (has_sync terms.trigger) both.1)) (meant_and (is_established_by by) lacks_sync (live_at id registry.live) none.1.0 none.1.1.0)
 
 pub unconfigured_is : (registry : Subscriptions) (id : ℕ) → unconfigure_answer registry id ≡ Ok tt → IsSomeAnd (live_at id registry.live) (λ (terms : Terms). terms.configured ≡ true)
 unconfigured_is registry id done =
@@ -106,22 +106,22 @@ module _ (nodes : List SchemaNode) (registry : Subscriptions) (id : ℕ) (receiv
   configure_few : exceeds_feeds registry.live (length (numbers_named registry receivers)) ≡ false
   configure_few = (none_holds (configure_reasons nodes registry id receivers ask) free).1.1.1.1.1.1.0
 
-  configure_new : (is_configurable id ≡ true) × (is_taken id registry ≡ false)
+  configure_new : (is_configurable id ≡ true) × (is_id_taken id registry ≡ false)
   configure_new =
-      let parts = or_parts (not (is_configurable id)) (is_taken id registry) (none_holds (configure_reasons nodes registry id receivers ask) free).1.1.1.1.0 in
+      let parts = or_parts (not (is_configurable id)) (is_id_taken id registry) (none_holds (configure_reasons nodes registry id receivers ask) free).1.1.1.1.0 in
       (not-false _ parts.0, parts.1)
 
 -- ---- a registry of a schema stays one
 
 module _ (fit : AskedFiltersFit) (nodes : List SchemaNode) where
-  pub modified_keeps : (policy : Policy) (registry : Subscriptions) (by id : ℕ) (amend : Amend) (now : ℕ) → HasGivenAnchor amend.trigger → now ≤ tick_limit → IsRegistryOf nodes registry → IsRegistryOf nodes (modified nodes policy registry by id amend now)
+  pub modified_keeps : (policy : Policy) (registry : Subscriptions) (by id : ℕ) (amend : Amend) (now : ℕ) → HasGivenAnchor amend.trigger → now ≤ tick_limit → IsRegistryOf nodes registry → IsRegistryOf nodes (modified_by nodes policy registry by id amend now)
   modified_keeps policy registry by id amend now anchor late is =
-      left_is (λ (r : Subscriptions). IsRegistryOf nodes r) (first_refusal (modify_reasons nodes policy registry by id amend)) registry (with_change id (amended nodes amend now) registry) is
+      left_is (λ (r : Subscriptions). IsRegistryOf nodes r) (first_refusal (modify_reasons nodes policy registry by id amend)) registry (with_change id (amended_terms nodes amend now) registry) is
       (λ free. amended_kept fit nodes registry amend now id (modify_long nodes policy registry by id amend free) anchor late is)
 
   pub reconfigured_keeps : (registry : Subscriptions) (id : ℕ) (amend : Amend) (now : ℕ) → HasGivenAnchor amend.trigger → now ≤ tick_limit → IsRegistryOf nodes registry → IsRegistryOf nodes (reconfigured nodes registry id amend now)
   reconfigured_keeps registry id amend now anchor late is =
-      left_is (λ (r : Subscriptions). IsRegistryOf nodes r) (first_refusal (reconfigure_reasons nodes registry id amend)) registry (with_change id (amended nodes amend now) registry) is
+      left_is (λ (r : Subscriptions). IsRegistryOf nodes r) (first_refusal (reconfigure_reasons nodes registry id amend)) registry (with_change id (amended_terms nodes amend now) registry) is
       (λ free. amended_kept fit nodes registry amend now id (reconfigure_long nodes registry id amend free) anchor late is)
 
   pub configured_keeps : (registry : Subscriptions) (id : ℕ) (receivers : List (List ℕ)) (ask : Ask) (now : ℕ) → HasAnchor ask.trigger → now ≤ tick_limit → IsRegistryOf nodes registry → IsRegistryOf nodes (newly_configured nodes registry id receivers ask now)
@@ -134,8 +134,8 @@ end_keeps nodes refusal registry id is = left_is (λ (r : Subscriptions). IsRegi
 
 -- ---- ids rise
 
-pub change_keeps_rising : (refusal : Option Refused) (registry : Subscriptions) (id : ℕ) (nodes : List SchemaNode) (amend : Amend) (now : ℕ) → HasRisingIds registry → HasRisingIds (left_unless refusal registry (with_change id (amended nodes amend now) registry))
-change_keeps_rising refusal registry id nodes amend now is = left_is HasRisingIds refusal registry (with_change id (amended nodes amend now) registry) is (λ free. change_rises registry id nodes amend now is)
+pub change_keeps_rising : (refusal : Option Refused) (registry : Subscriptions) (id : ℕ) (nodes : List SchemaNode) (amend : Amend) (now : ℕ) → HasRisingIds registry → HasRisingIds (left_unless refusal registry (with_change id (amended_terms nodes amend now) registry))
+change_keeps_rising refusal registry id nodes amend now is = left_is HasRisingIds refusal registry (with_change id (amended_terms nodes amend now) registry) is (λ free. change_rises registry id nodes amend now is)
 
 pub end_keeps_rising : (refusal : Option Refused) (registry : Subscriptions) (id : ℕ) → HasRisingIds registry → HasRisingIds (left_unless refusal registry (with_end id registry))
 end_keeps_rising refusal registry id is = left_is HasRisingIds refusal registry (with_end id registry) is (λ free. end_rises registry id is)
@@ -151,19 +151,19 @@ module _ (nodes : List SchemaNode) (registry : Subscriptions) (id : ℕ) (receiv
   done_free : configure_answer nodes registry id receivers ask ≡ Ok tt → first_refusal (configure_reasons nodes registry id receivers ask) ≡ None
   done_free done = (not_refused (first_refusal (configure_reasons nodes registry id receivers ask)) tt tt done).0
 
-  pub taken_then : (now : ℕ) → configure_answer nodes registry id receivers ask ≡ Ok tt → is_taken id (newly_configured nodes registry id receivers ask now) ≡ true
+  pub taken_then : (now : ℕ) → configure_answer nodes registry id receivers ask ≡ Ok tt → is_id_taken id (newly_configured nodes registry id receivers ask now) ≡ true
   taken_then now done =
-      ap (is_taken id) (done_leaves (first_refusal (configure_reasons nodes registry id receivers ask)) registry (with_configured registry (configured_terms nodes registry id receivers ask now)) done)
+      ap (is_id_taken id) (done_leaves (first_refusal (configure_reasons nodes registry id receivers ask)) registry (with_configured registry (configured_terms nodes registry id receivers ask now)) done)
       ∙ taken_now registry (configured_terms nodes registry id receivers ask now)
 
-  pub stays_taken : (now other : ℕ) → is_taken other registry ≡ true → is_taken other (newly_configured nodes registry id receivers ask now) ≡ true
+  pub stays_taken : (now other : ℕ) → is_id_taken other registry ≡ true → is_id_taken other (newly_configured nodes registry id receivers ask now) ≡ true
   stays_taken now other is =
-      left_is (λ (r : Subscriptions). is_taken other r ≡ true) (first_refusal (configure_reasons nodes registry id receivers ask)) registry (with_configured registry (configured_terms nodes registry id receivers ask now)) is
+      left_is (λ (r : Subscriptions). is_id_taken other r ≡ true) (first_refusal (configure_reasons nodes registry id receivers ask)) registry (with_configured registry (configured_terms nodes registry id receivers ask now)) is
       (λ free. taken_stays registry (configured_terms nodes registry id receivers ask now) other is)
 
-  pub never_again : is_taken id registry ≡ true → configure_answer nodes registry id receivers ask ≢ Ok tt
+  pub never_again : is_id_taken id registry ≡ true → configure_answer nodes registry id receivers ask ≢ Ok tt
   never_again is done =
-      let free : is_taken id registry ≡ false = (configure_new nodes registry id receivers ask (done_free done)).1 in
+      let free : is_id_taken id registry ≡ false = (configure_new nodes registry id receivers ask (done_free done)).1 in
       let both : true ≡ false = sym is ∙ free in
       cc
 
@@ -182,12 +182,12 @@ done_answer refusal x y given = ap done_unless (not_refused refusal x y given).0
 
 -- an amendment by what was admitted
 pub amended_state : (refusal : Option Refused) (registry left : Subscriptions) (id now : ℕ) (nodes : List SchemaNode) (amend : Amend) (asked : Option Asked) → or_refused refusal (given_filter nodes amend.filter) ≡ Ok asked
-    → left ≡ with_change id (amended_terms now asked amend.trigger) registry → left ≡ left_unless refusal registry (with_change id (amended nodes amend now) registry)
+    → left ≡ with_change id (with_given now asked amend.trigger) registry → left ≡ left_unless refusal registry (with_change id (amended_terms nodes amend now) registry)
 amended_state refusal registry left id now nodes amend asked given is =
     let free = not_refused refusal (given_filter nodes amend.filter) asked given in
     is
-    ∙ ap (λ (said : Option Asked). with_change id (amended_terms now said amend.trigger) registry) (sym free.1)
-    ∙ left_free refusal registry (with_change id (amended nodes amend now) registry) free.0
+    ∙ ap (λ (said : Option Asked). with_change id (with_given now said amend.trigger) registry) (sym free.1)
+    ∙ left_free refusal registry (with_change id (amended_terms nodes amend now) registry) free.0
 
 -- a configuration by what was admitted
 pub configured_state : (nodes : List SchemaNode) (registry left : Subscriptions) (id : ℕ) (receivers : List (List ℕ)) (ask : Ask) (now : ℕ) (numbers : List ℕ) (asked : Asked) (trigger : Trigger) (terms : Terms)

@@ -19,9 +19,9 @@ use Rattle.yp_registry.specs.declared.ask.Ask.{Ask}
 use Rattle.yp_registry.specs.declared.ask.FilterAsk.{FilterAsk}
 use Rattle.yp_registry.specs.Terms.{Terms, AreTermsOf, HasAnchor, IsFollowed, is_too_short}
 use Rattle.yp_registry.specs.Registry.{Subscriptions, IsRegistryOf, feeds, most_feeds, next_id}
-use Rattle.yp_registry.specs.Calls.{with_end, without}
-use Rattle.yp_registry.specs.Amending.{HasGivenAnchor, amended, amended_trigger, changed_at, given_filter, is_given_short, with_change}
-use Rattle.yp_registry.specs.Configuring.{configured_terms, exceeds_feeds, in_order, is_asked, is_configurable, is_taken, numbers_named, with_configured}
+use Rattle.yp_registry.specs.Calls.{with_end, live_without}
+use Rattle.yp_registry.specs.Amending.{HasGivenAnchor, amended_terms, amended_trigger, changed_terms, given_filter, has_period, is_given_short, with_change}
+use Rattle.yp_registry.specs.Configuring.{configured_terms, exceeds_feeds, in_order, is_asked, is_configurable, is_id_taken, numbers_named, with_configured}
 use Rattle.yp_registry.specs.Ids.{HasRisingIds}
 use Rattle.yp_registry.proofs.Establishing.{AskedFiltersFit, followed}
 use Rattle.yp_registry.proofs.Numbers.{below_end, range_rises}
@@ -30,12 +30,12 @@ use Rattle.yp_registry.proofs.Rising.{ids}
 -- ---- the live subscriptions
 
 module _ (P : Terms → Type 0) where
-  pub all_changed : (id : ℕ) (change : Terms → Terms) → ((terms : Terms) → P terms → P (change terms)) → (live : List Terms) → All P live → All P (changed_at id change live)
+  pub all_changed : (id : ℕ) (change : Terms → Terms) → ((terms : Terms) → P terms → P (change terms)) → (live : List Terms) → All P live → All P (changed_terms id change live)
   all_changed id change keeps [] all = all
   all_changed id change keeps (first ∷ live) all =
-      elim (nat_eq id first.id) as (λ (is : Bool). All P (cond is (change first ∷ live) (first ∷ changed_at id change live))) [
+      elim (nat_eq id first.id) as (λ (is : Bool). All P (cond is (change first ∷ live) (first ∷ changed_terms id change live))) [
         | true ↦ All-cons P (change first) live (keeps first (All-head P first live all)) (All-tail P first live all)
-        | false ↦ All-cons P first (changed_at id change live) (All-head P first live all) (all_changed id change keeps live (All-tail P first live all))
+        | false ↦ All-cons P first (changed_terms id change live) (All-head P first live all) (all_changed id change keeps live (All-tail P first live all))
       ]
 
   pub all_in_order : (new : Terms) (live : List Terms) → P new → All P live → All P (in_order new live)
@@ -49,30 +49,30 @@ module _ (P : Terms → Type 0) where
 abbrev count : Terms → ℕ
 count terms = length terms.receivers
 
-feeds_changed : (id : ℕ) (change : Terms → Terms) → ((terms : Terms) → (change terms).receivers ≡ terms.receivers) → (live : List Terms) → feeds (changed_at id change live) ≡ feeds live
+feeds_changed : (id : ℕ) (change : Terms → Terms) → ((terms : Terms) → (change terms).receivers ≡ terms.receivers) → (live : List Terms) → feeds (changed_terms id change live) ≡ feeds live
 feeds_changed id change keeps [] = refl
 feeds_changed id change keeps (first ∷ live) =
     let one : length (change first).receivers ≡ length first.receivers = ap length (keeps first) in
     let more : feeds (first ∷ live) ≡ length first.receivers + feeds live = sum_by-cons count first live in
-    elim (nat_eq id first.id) as (λ (is : Bool). feeds (cond is (change first ∷ live) (first ∷ changed_at id change live)) ≡ feeds (first ∷ live)) [
+    elim (nat_eq id first.id) as (λ (is : Bool). feeds (cond is (change first ∷ live) (first ∷ changed_terms id change live)) ≡ feeds (first ∷ live)) [
       | true ↦
           let other : feeds (change first ∷ live) ≡ length (change first).receivers + feeds live = sum_by-cons count (change first) live in
           omega (arith, one, more, other)
       | false ↦
-          let other : feeds (first ∷ changed_at id change live) ≡ length first.receivers + feeds (changed_at id change live) = sum_by-cons count first (changed_at id change live) in
-          let rest : feeds (changed_at id change live) ≡ feeds live = feeds_changed id change keeps live in
+          let other : feeds (first ∷ changed_terms id change live) ≡ length first.receivers + feeds (changed_terms id change live) = sum_by-cons count first (changed_terms id change live) in
+          let rest : feeds (changed_terms id change live) ≡ feeds live = feeds_changed id change keeps live in
           omega (arith, more, other, rest)
     ]
 
-feeds_without : (id : ℕ) (live : List Terms) → feeds (without id live) ≤ feeds live
+feeds_without : (id : ℕ) (live : List Terms) → feeds (live_without id live) ≤ feeds live
 feeds_without id [] = omega arith
 feeds_without id (first ∷ live) =
     let more : feeds (first ∷ live) ≡ length first.receivers + feeds live = sum_by-cons count first live in
-    let rest : feeds (without id live) ≤ feeds live = feeds_without id live in
-    elim (nat_eq id first.id) as (λ (is : Bool). feeds (cond (not is) (first ∷ without id live) (without id live)) ≤ feeds (first ∷ live)) [
+    let rest : feeds (live_without id live) ≤ feeds live = feeds_without id live in
+    elim (nat_eq id first.id) as (λ (is : Bool). feeds (cond (not is) (first ∷ live_without id live) (live_without id live)) ≤ feeds (first ∷ live)) [
       | true ↦ omega (arith, more, rest)
       | false ↦
-          let other : feeds (first ∷ without id live) ≡ length first.receivers + feeds (without id live) = sum_by-cons count first (without id live) in
+          let other : feeds (first ∷ live_without id live) ≡ length first.receivers + feeds (live_without id live) = sum_by-cons count first (live_without id live) in
           omega (arith, more, rest, other)
     ]
 
@@ -97,13 +97,22 @@ fits_given fit nodes (Some filter) kept is = fit nodes filter
 -- a kept trigger is followed, one that is given is where its period isn't too short, and another dampening period changes nothing of that
 followed_amended : (now : ℕ) (given : Option Trigger) (kept : Trigger) → is_given_short given ≡ false → HasGivenAnchor given → now ≤ tick_limit → IsFollowed kept → IsFollowed (amended_trigger now given kept)
 followed_amended now None kept long anchor late is = is
-followed_amended now (Some (Periodic period anchored)) kept long anchor late is = followed (Periodic period anchored) now long anchor late
+followed_amended now (Some (Periodic period anchored)) (Periodic before had) long anchor late is = followed (Periodic period anchored) now long anchor late
+followed_amended now (Some (Periodic period anchored)) (OnChange dampening sync excluded) long anchor late is = is
 followed_amended now (Some (OnChange dampening sync excluded)) (Periodic period (Some anchored)) long anchor late is = is
 followed_amended now (Some (OnChange dampening sync excluded)) (Periodic period None) long anchor late is = is
 followed_amended now (Some (OnChange dampening sync excluded)) (OnChange before had kinds) long anchor late is = is
 
+-- and it stays of its kind
+pub kind_stays : (now : ℕ) (given : Option Trigger) (kept : Trigger) → has_period (amended_trigger now given kept) ≡ has_period kept
+kind_stays now None kept = refl
+kind_stays now (Some (Periodic period anchored)) (Periodic before had) = refl
+kind_stays now (Some (Periodic period anchored)) (OnChange dampening sync excluded) = refl
+kind_stays now (Some (OnChange dampening sync excluded)) (Periodic period anchored) = refl
+kind_stays now (Some (OnChange dampening sync excluded)) (OnChange before had kinds) = refl
+
 module _ (fit : AskedFiltersFit) (nodes : List SchemaNode) (registry : Subscriptions) (amend : Amend) (now : ℕ) where
-  amended_fits : is_given_short amend.trigger ≡ false → HasGivenAnchor amend.trigger → now ≤ tick_limit → (terms : Terms) → AreTermsOf nodes (length registry.users) terms → AreTermsOf nodes (length registry.users) (amended nodes amend now terms)
+  amended_fits : is_given_short amend.trigger ≡ false → HasGivenAnchor amend.trigger → now ≤ tick_limit → (terms : Terms) → AreTermsOf nodes (length registry.users) terms → AreTermsOf nodes (length registry.users) (amended_terms nodes amend now terms)
   amended_fits long anchor late terms are = record {
     filter = fits_given fit nodes amend.filter terms.asked are.filter;
     trigger = followed_amended now amend.trigger terms.trigger long anchor late are.trigger;
@@ -111,12 +120,12 @@ module _ (fit : AskedFiltersFit) (nodes : List SchemaNode) (registry : Subscript
     in_order = are.in_order;
   }
 
-  pub amended_kept : (id : ℕ) → is_given_short amend.trigger ≡ false → HasGivenAnchor amend.trigger → now ≤ tick_limit → IsRegistryOf nodes registry → IsRegistryOf nodes (with_change id (amended nodes amend now) registry)
+  pub amended_kept : (id : ℕ) → is_given_short amend.trigger ≡ false → HasGivenAnchor amend.trigger → now ≤ tick_limit → IsRegistryOf nodes registry → IsRegistryOf nodes (with_change id (amended_terms nodes amend now) registry)
   amended_kept id long anchor late is =
       let are : Terms → Type 0 = λ (terms : Terms). AreTermsOf nodes (length registry.users) terms in
-      let same : feeds (changed_at id (amended nodes amend now) registry.live) ≡ feeds registry.live = feeds_changed id (amended nodes amend now) (λ terms. refl) registry.live in
+      let same : feeds (changed_terms id (amended_terms nodes amend now) registry.live) ≡ feeds registry.live = feeds_changed id (amended_terms nodes amend now) (λ terms. refl) registry.live in
       record {
-        terms = recursion_from_All are _ (all_changed are id (amended nodes amend now) (amended_fits long anchor late) registry.live (All-from_recursion are registry.live is.terms));
+        terms = recursion_from_All are _ (all_changed are id (amended_terms nodes amend now) (amended_fits long anchor late) registry.live (All-from_recursion are registry.live is.terms));
         room = omega (arith, same, is.room);
         ids = is.ids;
       }
@@ -124,7 +133,7 @@ module _ (fit : AskedFiltersFit) (nodes : List SchemaNode) (registry : Subscript
 pub end_kept : (nodes : List SchemaNode) (registry : Subscriptions) (id : ℕ) → IsRegistryOf nodes registry → IsRegistryOf nodes (with_end id registry)
 end_kept nodes registry id is =
     let are : Terms → Type 0 = λ (terms : Terms). AreTermsOf nodes (length registry.users) terms in
-    let fewer : feeds (without id registry.live) ≤ feeds registry.live = feeds_without id registry.live in
+    let fewer : feeds (live_without id registry.live) ≤ feeds registry.live = feeds_without id registry.live in
     record {
       terms = recursion_from_All are _ (All-filter (λ (terms : Terms). not (nat_eq id terms.id)) are registry.live (All-from_recursion are registry.live is.terms));
       room = omega (arith, fewer, is.room);
@@ -163,28 +172,28 @@ module _ (fit : AskedFiltersFit) (nodes : List SchemaNode) (registry : Subscript
 
 -- ---- rising ids
 
-ids_changed : (id : ℕ) (change : Terms → Terms) → ((terms : Terms) → (change terms).id ≡ terms.id) → (live : List Terms) → ids (changed_at id change live) ≡ ids live
+ids_changed : (id : ℕ) (change : Terms → Terms) → ((terms : Terms) → (change terms).id ≡ terms.id) → (live : List Terms) → ids (changed_terms id change live) ≡ ids live
 ids_changed id change keeps [] = refl
 ids_changed id change keeps (first ∷ live) =
-    elim (nat_eq id first.id) as (λ (is : Bool). ids (cond is (change first ∷ live) (first ∷ changed_at id change live)) ≡ first.id ∷ ids live) [
+    elim (nat_eq id first.id) as (λ (is : Bool). ids (cond is (change first ∷ live) (first ∷ changed_terms id change live)) ≡ first.id ∷ ids live) [
       | true ↦ ap (λ (number : ℕ). number ∷ ids live) (keeps first)
       | false ↦ ap (λ (rest : List ℕ). first.id ∷ rest) (ids_changed id change keeps live)
     ]
 
-pub change_rises : (registry : Subscriptions) (id : ℕ) (nodes : List SchemaNode) (amend : Amend) (now : ℕ) → HasRisingIds registry → HasRisingIds (with_change id (amended nodes amend now) registry)
+pub change_rises : (registry : Subscriptions) (id : ℕ) (nodes : List SchemaNode) (amend : Amend) (now : ℕ) → HasRisingIds registry → HasRisingIds (with_change id (amended_terms nodes amend now) registry)
 change_rises registry id nodes amend now is =
     let are : List ℕ → Type 0 = λ (numbers : List ℕ). IsStrictlyIncreasing numbers in
-    let change : Terms → Terms = amended nodes amend now in
+    let change : Terms → Terms = amended_terms nodes amend now in
     record {
       rising = subst are (sym (ids_changed id change (λ terms. refl) registry.live)) is.rising;
       below = all_changed (λ (terms : Terms). terms.id < next_id registry.given) id change (λ terms lower. lower) registry.live is.below;
-      configured = all_changed (λ (terms : Terms). is_configurable terms.id ≡ true → is_taken terms.id registry ≡ true) id change (λ terms taken. taken) registry.live is.configured;
+      configured = all_changed (λ (terms : Terms). is_configurable terms.id ≡ true → is_id_taken terms.id registry ≡ true) id change (λ terms taken. taken) registry.live is.configured;
     }
 
-ids_without : (id : ℕ) (live : List Terms) → ids (without id live) ≡ filter (λ (number : ℕ). not (nat_eq id number)) (ids live)
+ids_without : (id : ℕ) (live : List Terms) → ids (live_without id live) ≡ filter (λ (number : ℕ). not (nat_eq id number)) (ids live)
 ids_without id [] = refl
 ids_without id (first ∷ live) =
-    elim (nat_eq id first.id) as (λ (is : Bool). ids (cond (not is) (first ∷ without id live) (without id live)) ≡ cond (not is) (first.id ∷ filter (λ (number : ℕ). not (nat_eq id number)) (ids live)) (filter (λ (number : ℕ). not (nat_eq id number)) (ids live))) [
+    elim (nat_eq id first.id) as (λ (is : Bool). ids (cond (not is) (first ∷ live_without id live) (live_without id live)) ≡ cond (not is) (first.id ∷ filter (λ (number : ℕ). not (nat_eq id number)) (ids live)) (filter (λ (number : ℕ). not (nat_eq id number)) (ids live))) [
       | true ↦ ids_without id live
       | false ↦ ap (λ (rest : List ℕ). first.id ∷ rest) (ids_without id live)
     ]
@@ -196,7 +205,7 @@ end_rises registry id is =
     record {
       rising = subst are (sym (ids_without id registry.live)) (IsStrictlyIncreasing-filter (λ (number : ℕ). not (nat_eq id number)) (ids registry.live) is.rising);
       below = All-filter test (λ (terms : Terms). terms.id < next_id registry.given) registry.live is.below;
-      configured = All-filter test (λ (terms : Terms). is_configurable terms.id ≡ true → is_taken terms.id registry ≡ true) registry.live is.configured;
+      configured = All-filter test (λ (terms : Terms). is_configurable terms.id ≡ true → is_id_taken terms.id registry ≡ true) registry.live is.configured;
     }
 
 -- a number in its place among others
@@ -248,12 +257,12 @@ rising_put : (x : ℕ) (xs : List ℕ) → IsStrictlyIncreasing xs → All (λ (
 rising_put x xs rising differ k within = pairs_put x xs (AllPairs-from_increasing xs rising) differ k (k + 1) 0 (omega arith) within
 
 -- an id that can be configured and isn't taken is none of a live subscription
-pub none_has : (registry : Subscriptions) (id : ℕ) → HasRisingIds registry → is_configurable id ≡ true → is_taken id registry ≡ false → All (λ (terms : Terms). terms.id ≢ id) registry.live
+pub none_has : (registry : Subscriptions) (id : ℕ) → HasRisingIds registry → is_configurable id ≡ true → is_id_taken id registry ≡ false → All (λ (terms : Terms). terms.id ≢ id) registry.live
 none_has registry id is early free =
-    All-weaker (λ (terms : Terms). is_configurable terms.id ≡ true → is_taken terms.id registry ≡ true) (λ (terms : Terms). terms.id ≢ id)
+    All-weaker (λ (terms : Terms). is_configurable terms.id ≡ true → is_id_taken terms.id registry ≡ true) (λ (terms : Terms). terms.id ≢ id)
     (λ terms taken same.
-    let there : is_taken terms.id registry ≡ true = taken (ap is_configurable same ∙ early) in
-    let both : true ≡ false = sym there ∙ (ap (λ (number : ℕ). is_taken number registry) same ∙ free) in
+    let there : is_id_taken terms.id registry ≡ true = taken (ap is_configurable same ∙ early) in
+    let both : true ≡ false = sym there ∙ (ap (λ (number : ℕ). is_id_taken number registry) same ∙ free) in
     cc)
     registry.live is.configured
 
@@ -270,22 +279,22 @@ any_last test x is (y ∷ ys) =
     ]
 
 -- what is taken stays so, and a new id is taken
-pub taken_stays : (registry : Subscriptions) (new : Terms) (id : ℕ) → is_taken id registry ≡ true → is_taken id (with_configured registry new) ≡ true
+pub taken_stays : (registry : Subscriptions) (new : Terms) (id : ℕ) → is_id_taken id registry ≡ true → is_id_taken id (with_configured registry new) ≡ true
 taken_stays registry new id is = any_before (λ (other : ℕ). nat_eq other id) registry.taken (new.id ∷ []) is
 
-pub taken_now : (registry : Subscriptions) (new : Terms) → is_taken new.id (with_configured registry new) ≡ true
+pub taken_now : (registry : Subscriptions) (new : Terms) → is_id_taken new.id (with_configured registry new) ≡ true
 taken_now registry new = any_last (λ (other : ℕ). nat_eq other new.id) new.id (eq-eqb new.id new.id refl) registry.taken
 
-pub configured_rises : (registry : Subscriptions) (new : Terms) → is_configurable new.id ≡ true → is_taken new.id registry ≡ false → HasRisingIds registry → HasRisingIds (with_configured registry new)
+pub configured_rises : (registry : Subscriptions) (new : Terms) → is_configurable new.id ≡ true → is_id_taken new.id registry ≡ false → HasRisingIds registry → HasRisingIds (with_configured registry new)
 configured_rises registry new early free is =
     let are : List ℕ → Type 0 = λ (numbers : List ℕ). IsStrictlyIncreasing numbers in
     let differ : All (λ (number : ℕ). number ≢ new.id) (ids registry.live) = All-map (λ (number : ℕ). number ≢ new.id) (λ (terms : Terms). terms.id) registry.live (none_has registry new.id is early free) in
     let parts = and_parts (nat_lt 0 new.id) (nat_lt new.id (next_id 0)) early in
     let lower : new.id < next_id 0 = ltb-true _ _ parts.1 in
-    let taken : Terms → Type 0 = λ (terms : Terms). is_configurable terms.id ≡ true → is_taken terms.id (with_configured registry new) ≡ true in
+    let taken : Terms → Type 0 = λ (terms : Terms). is_configurable terms.id ≡ true → is_id_taken terms.id (with_configured registry new) ≡ true in
     record {
       rising = subst are (sym (ids_in_order new registry.live)) (rising_put new.id (ids registry.live) is.rising differ);
       below = all_in_order (λ (terms : Terms). terms.id < next_id registry.given) new registry.live (omega (arith, lower)) is.below;
       configured = all_in_order taken new registry.live (λ _. taken_now registry new)
-          (All-weaker (λ (terms : Terms). is_configurable terms.id ≡ true → is_taken terms.id registry ≡ true) taken (λ terms was here. taken_stays registry new terms.id (was here)) registry.live is.configured);
+          (All-weaker (λ (terms : Terms). is_configurable terms.id ≡ true → is_id_taken terms.id registry ≡ true) taken (λ terms was here. taken_stays registry new terms.id (was here)) registry.live is.configured);
     }

@@ -4,7 +4,7 @@ use Rattle.std.specs.Prelude.{cond, nat_eq, nat_lt}
 use Rattle.std.specs.List.{insert, position, position_or_len}
 use Rattle.std.proofs.lemmas.Bool.{ltb-true, ltb-false}
 use Rattle.yp_registry.specs.Terms.{Terms}
-use Rattle.yp_registry.specs.Amending.{changed_at}
+use Rattle.yp_registry.specs.Amending.{changed_terms}
 use Rattle.yp_registry.specs.Configuring.{in_order}
 
 -- ---- the first place
@@ -32,12 +32,12 @@ module _ (id : ℕ) (change : Terms → Terms) where
   abbrev place_of : List Terms → ℕ
   place_of live = position_or_len (λ (terms : Terms). nat_eq id terms.id) live
 
-  changed_there : (live : List Terms) (other : Terms) → place_of live < length live → set live (place_of live) (change (get_or live (place_of live) other)) ≡ changed_at id change live
+  changed_there : (live : List Terms) (other : Terms) → place_of live < length live → set live (place_of live) (change (get_or live (place_of live) other)) ≡ changed_terms id change live
   changed_there [] other within = absurd (omega (arith, within))
   changed_there (first ∷ live) other within =
       let next : 1 + place_of live ≡ suc (place_of live) = omega arith in
       elim (nat_eq id first.id) as (λ (is : Bool). cond (not is) (1 + place_of live) 0 < suc (length live)
-      → set (first ∷ live) (cond (not is) (1 + place_of live) 0) (change (get_or (first ∷ live) (cond (not is) (1 + place_of live) 0) other)) ≡ cond is (change first ∷ live) (first ∷ changed_at id change live)) [
+      → set (first ∷ live) (cond (not is) (1 + place_of live) 0) (change (get_or (first ∷ live) (cond (not is) (1 + place_of live) 0) other)) ≡ cond is (change first ∷ live) (first ∷ changed_terms id change live)) [
         | true ↦ λ there. refl
         | false ↦ λ there.
             ap (λ (number : ℕ). set (first ∷ live) number (change (get_or (first ∷ live) number other))) next
@@ -45,21 +45,21 @@ module _ (id : ℕ) (change : Terms → Terms) where
       ] within
 
   -- the first of an id is changed
-  pub changed_some : (live : List Terms) (place : ℕ) (other : Terms) → position (λ (terms : Terms). nat_eq id terms.id) live ≡ Some place → set live place (change (get_or live place other)) ≡ changed_at id change live
+  pub changed_some : (live : List Terms) (place : ℕ) (other : Terms) → position (λ (terms : Terms). nat_eq id terms.id) live ≡ Some place → set live place (change (get_or live place other)) ≡ changed_terms id change live
   changed_some live place other found =
       let at = some_place (λ (terms : Terms). nat_eq id terms.id) live place found in
       ap (λ (number : ℕ). set live number (change (get_or live number other))) (sym at.0) ∙ changed_there live other (omega (arith, at.0, at.1))
 
-  changed_nowhere : (live : List Terms) → length live ≤ place_of live → changed_at id change live ≡ live
+  changed_nowhere : (live : List Terms) → length live ≤ place_of live → changed_terms id change live ≡ live
   changed_nowhere [] past = refl
   changed_nowhere (first ∷ live) past =
-      elim (nat_eq id first.id) as (λ (is : Bool). suc (length live) ≤ cond (not is) (1 + place_of live) 0 → cond is (change first ∷ live) (first ∷ changed_at id change live) ≡ first ∷ live) [
+      elim (nat_eq id first.id) as (λ (is : Bool). suc (length live) ≤ cond (not is) (1 + place_of live) 0 → cond is (change first ∷ live) (first ∷ changed_terms id change live) ≡ first ∷ live) [
         | true ↦ λ there. absurd (omega (arith, there))
         | false ↦ λ there. ap (λ (rest : List Terms). first ∷ rest) (changed_nowhere live (omega (arith, there)))
       ] past
 
   -- where none has the id nothing is
-  pub changed_none : (live : List Terms) → position (λ (terms : Terms). nat_eq id terms.id) live ≡ None → changed_at id change live ≡ live
+  pub changed_none : (live : List Terms) → position (λ (terms : Terms). nat_eq id terms.id) live ≡ None → changed_terms id change live ≡ live
   changed_none live none = changed_nowhere live (no_place (λ (terms : Terms). nat_eq id terms.id) live none)
 
 -- ---- one more

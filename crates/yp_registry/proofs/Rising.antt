@@ -12,7 +12,7 @@ use Rattle.yp_registry.specs.declared.ask.Ask.{Ask}
 use Rattle.yp_registry.specs.declared.refused.Refused.{Refused}
 use Rattle.yp_registry.specs.Terms.{Terms}
 use Rattle.yp_registry.specs.Registry.{Subscriptions, no_subscriptions, live_at, next_id, first_refusal, reasons_against, or_refused, terms_for, with_terms, after_refusal, established, establish_answer}
-use Rattle.yp_registry.specs.Configuring.{is_configurable, is_taken}
+use Rattle.yp_registry.specs.Configuring.{is_configurable, is_id_taken}
 use Rattle.yp_registry.specs.Ids.{HasRisingIds}
 use Rattle.yp_registry.proofs.Establishing.{not_refused, given_state}
 
@@ -96,7 +96,7 @@ with_next registry new next is =
     record {
       rising = rising_push registry.live new is.rising lower;
       below = All-push (λ (terms : Terms). terms.id < next_id (registry.given + 1)) registry.live new later (omega (arith, next));
-      configured = All-push (λ (terms : Terms). is_configurable terms.id ≡ true → is_taken terms.id registry ≡ true) registry.live new is.configured (λ early. absurd (past_configurable registry.given new.id next early));
+      configured = All-push (λ (terms : Terms). is_configurable terms.id ≡ true → is_id_taken terms.id registry ≡ true) registry.live new is.configured (λ early. absurd (past_configurable registry.given new.id next early));
     }
 
 -- no live subscription has the next id

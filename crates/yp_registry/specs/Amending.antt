@@ -38,14 +38,14 @@ HasGivenAnchor (Some trigger) = HasAnchor trigger
 -- ---- kinds of triggers
 
 -- whether updates are periodic, and not on change
-abbrev pub is_periodic : Trigger → Bool
-is_periodic (Periodic period anchor) = true
-is_periodic (OnChange dampening sync excluded) = false
+abbrev pub has_period : Trigger → Bool
+has_period (Periodic period anchor) = true
+has_period (OnChange dampening sync excluded) = false
 
 -- whether one of two triggers is periodic and the other on change
 abbrev pub differ_in_kind : Trigger → Trigger → Bool
-differ_in_kind (Periodic period anchor) other = not (is_periodic other)
-differ_in_kind (OnChange dampening sync excluded) other = is_periodic other
+differ_in_kind (Periodic period anchor) other = not (has_period other)
+differ_in_kind (OnChange dampening sync excluded) other = has_period other
 
 -- whether a trigger is given that is of the other kind than the subscription's
 abbrev pub is_other_kind : Option Trigger → Option Terms → Bool
@@ -60,9 +60,10 @@ abbrev pub with_dampening : ℕ → Trigger → Trigger
 with_dampening dampening (Periodic period anchor) = Periodic period anchor
 with_dampening dampening (OnChange before sync excluded) = OnChange dampening sync excluded
 
--- a trigger by one that is given at this tick: a period is counted from the anchor that is given, or else from this tick; of one on change the dampening period alone can be amended
+-- a trigger by one that is given at this tick: it stays of its kind; a period is counted from the anchor that is given, or else from this tick; of one on change the dampening period alone can be amended
 abbrev pub renewed_trigger : ℕ → Trigger → Trigger → Trigger
-renewed_trigger now (Periodic period anchor) kept = with_anchor now (Periodic period anchor)
+renewed_trigger now (Periodic period anchor) (Periodic before had) = with_anchor now (Periodic period anchor)
+renewed_trigger now (Periodic period anchor) (OnChange dampening sync excluded) = OnChange dampening sync excluded
 renewed_trigger now (OnChange dampening sync excluded) kept = with_dampening dampening kept
 
 -- a trigger stays as it is, with its anchor, where none is given
@@ -71,21 +72,21 @@ amended_trigger now None kept = kept
 amended_trigger now (Some given) kept = renewed_trigger now given kept
 
 -- terms by what a filter that is given says, and by a trigger that is given: what isn't given stays
-abbrev pub amended_terms : ℕ → Option Asked → Option Trigger → Terms → Terms
-amended_terms now asked trigger terms = record terms { asked = unwrap_or asked terms.asked; trigger = amended_trigger now trigger terms.trigger }
+abbrev pub with_given : ℕ → Option Asked → Option Trigger → Terms → Terms
+with_given now asked trigger terms = record terms { asked = unwrap_or asked terms.asked; trigger = amended_trigger now trigger terms.trigger }
 
 -- terms by what they are amended with at this tick
-abbrev pub amended : List SchemaNode → Amend → ℕ → Terms → Terms
-amended nodes amend now terms = amended_terms now (given_filter nodes amend.filter) amend.trigger terms
+abbrev pub amended_terms : List SchemaNode → Amend → ℕ → Terms → Terms
+amended_terms nodes amend now terms = with_given now (given_filter nodes amend.filter) amend.trigger terms
 
 -- the live subscriptions with a change of that of an id
-abbrev pub changed_at : ℕ → (Terms → Terms) → List Terms → List Terms
-changed_at id change [] = []
-changed_at id change (terms ∷ live) = if nat_eq id terms.id then change terms ∷ live else terms ∷ changed_at id change live
+abbrev pub changed_terms : ℕ → (Terms → Terms) → List Terms → List Terms
+changed_terms id change [] = []
+changed_terms id change (terms ∷ live) = if nat_eq id terms.id then change terms ∷ live else terms ∷ changed_terms id change live
 
 -- the registry with a change of the subscription of an id
 abbrev pub with_change : ℕ → (Terms → Terms) → Subscriptions → Subscriptions
-with_change id change registry = record registry { live = changed_at id change registry.live }
+with_change id change registry = record registry { live = changed_terms id change registry.live }
 
 -- ---- calls
 
@@ -105,8 +106,8 @@ modify_reasons nodes policy registry by id amend = denied policy registry by Mod
 abbrev pub modify_answer : List SchemaNode → Policy → Subscriptions → ℕ → ℕ → Amend → Result Unit Refused
 modify_answer nodes policy registry by id amend = done_unless (first_refusal (modify_reasons nodes policy registry by id amend))
 
-abbrev pub modified : List SchemaNode → Policy → Subscriptions → ℕ → ℕ → Amend → ℕ → Subscriptions
-modified nodes policy registry by id amend now = left_unless (first_refusal (modify_reasons nodes policy registry by id amend)) registry (with_change id (amended nodes amend now) registry)
+abbrev pub modified_by : List SchemaNode → Policy → Subscriptions → ℕ → ℕ → Amend → ℕ → Subscriptions
+modified_by nodes policy registry by id amend now = left_unless (first_refusal (modify_reasons nodes policy registry by id amend)) registry (with_change id (amended_terms nodes amend now) registry)
 
 -- a configured subscription is modified (RFC 8639 section 2.5.3)
 abbrev pub reconfigure_reasons : List SchemaNode → Subscriptions → ℕ → Amend → List Reason
@@ -116,4 +117,4 @@ abbrev pub reconfigure_answer : List SchemaNode → Subscriptions → ℕ → Am
 reconfigure_answer nodes registry id amend = done_unless (first_refusal (reconfigure_reasons nodes registry id amend))
 
 abbrev pub reconfigured : List SchemaNode → Subscriptions → ℕ → Amend → ℕ → Subscriptions
-reconfigured nodes registry id amend now = left_unless (first_refusal (reconfigure_reasons nodes registry id amend)) registry (with_change id (amended nodes amend now) registry)
+reconfigured nodes registry id amend now = left_unless (first_refusal (reconfigure_reasons nodes registry id amend)) registry (with_change id (amended_terms nodes amend now) registry)

@@ -20,12 +20,12 @@ if_meant is_meant None = None
 if_meant is_meant (Some terms) = if is_meant terms then Some terms else None
 
 -- whether the receiver of this number established a subscription: one receiver is one session
-abbrev pub is_own : ℕ → Terms → Bool
-is_own by terms = not terms.configured && list_any (λ receiver. receiver == by) terms.receivers
+abbrev pub is_established_by : ℕ → Terms → Bool
+is_established_by by terms = not terms.configured && list_any (λ receiver. receiver == by) terms.receivers
 
 -- the live subscription of an id that the receiver of this number established, where there is one
 abbrev pub own_at : ℕ → ℕ → List Terms → Option Terms
-own_at by id live = if_meant (is_own by) (live_at id live)
+own_at by id live = if_meant (is_established_by by) (live_at id live)
 
 -- the live subscription of an id that any receiver established
 abbrev pub dynamic_at : ℕ → List Terms → Option Terms
@@ -80,26 +80,26 @@ left_unless (Some refusal) before after = before
 left_unless None before after = after
 
 -- the live subscriptions but that of an id
-abbrev pub without : ℕ → List Terms → List Terms
-without id live = filter (λ terms. not (nat_eq id terms.id)) live
+abbrev pub live_without : ℕ → List Terms → List Terms
+live_without id live = filter (λ terms. not (nat_eq id terms.id)) live
 
 -- the registry in which the subscription of an id has ended
 abbrev pub with_end : ℕ → Subscriptions → Subscriptions
-with_end id registry = record registry { live = without id registry.live }
+with_end id registry = record registry { live = live_without id registry.live }
 
 -- a receiver deletes its own subscription (RFC 8639 section 2.4.4)
 abbrev pub delete_answer : Policy → Subscriptions → ℕ → ℕ → Result Unit Refused
 delete_answer policy registry by id = done_unless (first_refusal (delete_reasons policy registry by id))
 
-abbrev pub deleted : Policy → Subscriptions → ℕ → ℕ → Subscriptions
-deleted policy registry by id = left_unless (first_refusal (delete_reasons policy registry by id)) registry (with_end id registry)
+abbrev pub deleted_by : Policy → Subscriptions → ℕ → ℕ → Subscriptions
+deleted_by policy registry by id = left_unless (first_refusal (delete_reasons policy registry by id)) registry (with_end id registry)
 
 -- an operator kills any receiver's subscription (RFC 8639 section 2.4.5)
 abbrev pub kill_answer : Policy → Subscriptions → ℕ → ℕ → Result Unit Refused
 kill_answer policy registry by id = done_unless (first_refusal (kill_reasons policy registry by id))
 
-abbrev pub killed : Policy → Subscriptions → ℕ → ℕ → Subscriptions
-killed policy registry by id = left_unless (first_refusal (kill_reasons policy registry by id)) registry (with_end id registry)
+abbrev pub killed_by : Policy → Subscriptions → ℕ → ℕ → Subscriptions
+killed_by policy registry by id = left_unless (first_refusal (kill_reasons policy registry by id)) registry (with_end id registry)
 
 -- a receiver asks for a full update of its own subscription (RFC 8641 section 4.4.4), which leaves the registry as it was
 abbrev pub resync_answer : Policy → Subscriptions → ℕ → ℕ → Result Unit Refused

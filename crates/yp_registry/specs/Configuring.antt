@@ -17,8 +17,8 @@ abbrev pub is_configurable : ℕ → Bool
 is_configurable id = nat_lt 0 id && nat_lt id (next_id 0)
 
 -- whether an id was configured: it stays so when its subscription has ended
-abbrev pub is_taken : ℕ → Subscriptions → Bool
-is_taken id registry = list_any (λ other. other == id) registry.taken
+abbrev pub is_id_taken : ℕ → Subscriptions → Bool
+is_id_taken id registry = list_any (λ other. other == id) registry.taken
 
 -- ---- receivers
 
@@ -48,7 +48,7 @@ configure_reasons nodes registry id receivers ask =
     ∷ (not (is_operational ask.datastore), DatastoreNotSubscribable)
     ∷ (is_none (asked_by nodes ask.filter), FilterUnsupported)
     ∷ (is_too_short ask.trigger, PeriodUnsupported shortest_period)
-    ∷ (not (is_configurable id) || is_taken id registry, InvalidId)
+    ∷ (not (is_configurable id) || is_id_taken id registry, InvalidId)
     ∷ (not (are_declared registry.names receivers), InvalidReceiver)
     ∷ (exceeds_feeds registry.live (length (numbers_named registry receivers)), InsufficientResources)
     ∷ []

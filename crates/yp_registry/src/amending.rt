@@ -1,7 +1,7 @@
 //! The calls that amend a live subscription (RFC 8639 sections 2.4.3 and 2.5.3, RFC 8641 section 4.4.2).
 ghost use Rattle.std.specs.Prelude.{◌≡◌, ◌<◌, ◌≤◌, length, option_copied, option_map, OnErr, OnOk};
 ghost use Rattle.yp_filter.specs.View.{filter_view};
-ghost use Rattle.yp_registry.specs.Amending.{HasGivenAnchor, amend_reasons, given_filter, modified, modify_answer, modify_reasons, reconfigure_answer, reconfigure_reasons, reconfigured};
+ghost use Rattle.yp_registry.specs.Amending.{HasGivenAnchor, amend_reasons, given_filter, modified_by, modify_answer, modify_reasons, reconfigure_answer, reconfigure_reasons, reconfigured};
 ghost use Rattle.yp_registry.specs.Registry.{Gives, IsRegistryOf, first_refusal, or_refused};
 ghost use Rattle.yp_time.specs.Ticks.{tick_limit};
 
@@ -86,7 +86,7 @@ impl Registry {
         requires anchor { HasGivenAnchor amend.now.trigger }
         requires now { now ≤ tick_limit }
         ensures answer { Gives (λ done. done) result (modify_answer schema.now policy.now self.old by id amend.now) }
-        ensures state { OnOk result (self.new ≡ modified schema.now policy.now self.old by id amend.now now) }
+        ensures state { OnOk result (self.new ≡ modified_by schema.now policy.now self.old by id amend.now now) }
         ensures unchanged { OnErr result (self.new ≡ self.old) }
         ensures kept { IsRegistryOf schema.now self.old → IsRegistryOf schema.now self.new }
     {

@@ -2,7 +2,7 @@
 //! and 2.5.4, RFC 8641 section 4.4.4). They take no memory.
 ghost use Rattle.std.specs.Prelude.{◌≡◌, ◌<◌, List, length, OnErr};
 ghost use Rattle.yp_schema.specs.declared.schema.SchemaNode.{SchemaNode};
-ghost use Rattle.yp_registry.specs.Calls.{delete_answer, deleted, kill_answer, killed, resync_answer, unconfigure_answer, unconfigured};
+ghost use Rattle.yp_registry.specs.Calls.{delete_answer, deleted_by, kill_answer, killed_by, resync_answer, unconfigure_answer, unconfigured};
 ghost use Rattle.yp_registry.specs.Registry.{IsRegistryOf};
 
 use crate::refused::Refused;
@@ -18,7 +18,7 @@ impl Registry {
     pub fn delete(&mut self, policy: &Policy, by: u32, id: u32) -> Result<(), Refused>
         requires receiver { by < length self.old.users }
         ensures answer { result ≡ delete_answer policy.now self.old by id }
-        ensures state { self.new ≡ deleted policy.now self.old by id }
+        ensures state { self.new ≡ deleted_by policy.now self.old by id }
         ensures unchanged { OnErr result (self.new ≡ self.old) }
         ensures kept { (nodes : List SchemaNode) → IsRegistryOf nodes self.old → IsRegistryOf nodes self.new }
     {
@@ -38,7 +38,7 @@ impl Registry {
     pub fn kill(&mut self, policy: &Policy, by: u32, id: u32) -> Result<(), Refused>
         requires receiver { by < length self.old.users }
         ensures answer { result ≡ kill_answer policy.now self.old by id }
-        ensures state { self.new ≡ killed policy.now self.old by id }
+        ensures state { self.new ≡ killed_by policy.now self.old by id }
         ensures unchanged { OnErr result (self.new ≡ self.old) }
         ensures kept { (nodes : List SchemaNode) → IsRegistryOf nodes self.old → IsRegistryOf nodes self.new }
     {

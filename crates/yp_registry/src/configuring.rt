@@ -81,7 +81,7 @@ impl Registry {
                 hint: SHORTEST_PERIOD,
             });
         }
-        if !is_configurable(id) || self.is_taken(id) {
+        if !is_configurable(id) || self.is_id_taken(id) {
             return Err(Refused::InvalidId);
         }
         if !are_declared(self.names(), receivers) {

@@ -1,13 +1,14 @@
 //! Laws of the registry, which the definitions keep; nothing runs.
 ghost use Rattle.std.specs.Prelude.{◌≡◌, ◌≢◌, ◌+◌, ◌<◌, ◌≤◌, ℕ, List, Option, Some, None, Ok, Err, IsSomeAnd, length, not, option_map, false, true};
+ghost use Rattle.yp_base.specs.declared.notice.Trigger.{Trigger};
 ghost use Rattle.yp_nacm.specs.declared.policy.Policy.{Policy};
 ghost use Rattle.yp_schema.specs.declared.schema.SchemaNode.{SchemaNode};
 ghost use Rattle.yp_registry.specs.declared.ask.Amend.{Amend};
 ghost use Rattle.yp_registry.specs.declared.ask.Ask.{Ask};
 ghost use Rattle.yp_registry.specs.declared.refused.Refused.{Refused};
-ghost use Rattle.yp_registry.specs.Amending.{HasGivenAnchor, amended, changed_at, is_other_kind, modified, modify_answer, reconfigure_answer, reconfigured};
-ghost use Rattle.yp_registry.specs.Calls.{delete_answer, deleted, done_unless, has_sync, is_own, kill_answer, killed, left_unless, resync_answer, unconfigure_answer, unconfigured, without};
-ghost use Rattle.yp_registry.specs.Configuring.{configure_answer, in_order, is_taken, newly_configured};
+ghost use Rattle.yp_registry.specs.Amending.{HasGivenAnchor, amended_terms, amended_trigger, changed_terms, has_period, is_other_kind, modified_by, modify_answer, reconfigure_answer, reconfigured};
+ghost use Rattle.yp_registry.specs.Calls.{delete_answer, deleted_by, done_unless, has_sync, is_established_by, kill_answer, killed_by, left_unless, resync_answer, unconfigure_answer, unconfigured, live_without};
+ghost use Rattle.yp_registry.specs.Configuring.{configure_answer, in_order, is_id_taken, newly_configured};
 ghost use Rattle.yp_registry.specs.Ids.{HasRisingIds};
 ghost use Rattle.yp_registry.specs.Registry.{IsRegistryOf, Subscriptions, establish_answer, established, live_at, next_id, no_subscriptions, terms_for};
 ghost use Rattle.yp_registry.specs.Terms.{HasAnchor, Terms};
@@ -75,20 +76,20 @@ pub fn a_call_is_done_or_leaves_the_registry()
 /// A further call that is done is about a live subscription that it may be about.
 pub fn a_call_that_is_done_has_its_subscription()
     ensures modified { (nodes : List SchemaNode) (policy : Policy) (registry : Subscriptions) (by id : ℕ) (amend : Amend)
-        → modify_answer nodes policy registry by id amend ≡ Ok tt → IsSomeAnd (live_at id registry.live) (λ terms. (is_own by terms ≡ true) × (is_other_kind amend.trigger (Some terms) ≡ false)) }
+        → modify_answer nodes policy registry by id amend ≡ Ok tt → IsSomeAnd (live_at id registry.live) (λ terms. (is_established_by by terms ≡ true) × (is_other_kind amend.trigger (Some terms) ≡ false)) }
     ensures reconfigured { (nodes : List SchemaNode) (registry : Subscriptions) (id : ℕ) (amend : Amend)
         → reconfigure_answer nodes registry id amend ≡ Ok tt → IsSomeAnd (live_at id registry.live) (λ terms. (terms.configured ≡ true) × (is_other_kind amend.trigger (Some terms) ≡ false)) }
-    ensures deleted { (policy : Policy) (registry : Subscriptions) (by id : ℕ) → delete_answer policy registry by id ≡ Ok tt → IsSomeAnd (live_at id registry.live) (λ terms. is_own by terms ≡ true) }
+    ensures deleted { (policy : Policy) (registry : Subscriptions) (by id : ℕ) → delete_answer policy registry by id ≡ Ok tt → IsSomeAnd (live_at id registry.live) (λ terms. is_established_by by terms ≡ true) }
     ensures killed { (policy : Policy) (registry : Subscriptions) (by id : ℕ) → kill_answer policy registry by id ≡ Ok tt → IsSomeAnd (live_at id registry.live) (λ terms. not terms.configured ≡ true) }
     ensures resynced { (policy : Policy) (registry : Subscriptions) (by id : ℕ)
-        → resync_answer policy registry by id ≡ Ok tt → IsSomeAnd (live_at id registry.live) (λ terms. (is_own by terms ≡ true) × (has_sync terms.trigger ≡ true)) }
+        → resync_answer policy registry by id ≡ Ok tt → IsSomeAnd (live_at id registry.live) (λ terms. (is_established_by by terms ≡ true) × (has_sync terms.trigger ≡ true)) }
     ensures unconfigured { (registry : Subscriptions) (id : ℕ) → unconfigure_answer registry id ≡ Ok tt → IsSomeAnd (live_at id registry.live) (λ terms. terms.configured ≡ true) }
 {}
 
 /// An amendment, refused or not, leaves a registry of the schema one.
 pub fn an_amendment_keeps_a_registry()
     ensures modified { (nodes : List SchemaNode) (policy : Policy) (registry : Subscriptions) (by id : ℕ) (amend : Amend) (now : ℕ)
-        → HasGivenAnchor amend.trigger → now ≤ tick_limit → IsRegistryOf nodes registry → IsRegistryOf nodes (modified nodes policy registry by id amend now) }
+        → HasGivenAnchor amend.trigger → now ≤ tick_limit → IsRegistryOf nodes registry → IsRegistryOf nodes (modified_by nodes policy registry by id amend now) }
     ensures reconfigured { (nodes : List SchemaNode) (registry : Subscriptions) (id : ℕ) (amend : Amend) (now : ℕ)
         → HasGivenAnchor amend.trigger → now ≤ tick_limit → IsRegistryOf nodes registry → IsRegistryOf nodes (reconfigured nodes registry id amend now) }
 {
@@ -105,17 +106,17 @@ pub fn a_configuration_keeps_a_registry()
 
 /// So does a call that ends a subscription.
 pub fn an_end_keeps_a_registry()
-    ensures deleted { (nodes : List SchemaNode) (policy : Policy) (registry : Subscriptions) (by id : ℕ) → IsRegistryOf nodes registry → IsRegistryOf nodes (deleted policy registry by id) }
-    ensures killed { (nodes : List SchemaNode) (policy : Policy) (registry : Subscriptions) (by id : ℕ) → IsRegistryOf nodes registry → IsRegistryOf nodes (killed policy registry by id) }
+    ensures deleted { (nodes : List SchemaNode) (policy : Policy) (registry : Subscriptions) (by id : ℕ) → IsRegistryOf nodes registry → IsRegistryOf nodes (deleted_by policy registry by id) }
+    ensures killed { (nodes : List SchemaNode) (policy : Policy) (registry : Subscriptions) (by id : ℕ) → IsRegistryOf nodes registry → IsRegistryOf nodes (killed_by policy registry by id) }
     ensures unconfigured { (nodes : List SchemaNode) (registry : Subscriptions) (id : ℕ) → IsRegistryOf nodes registry → IsRegistryOf nodes (unconfigured registry id) }
 {}
 
 /// The ids of the live subscriptions rise after each further call too.
 pub fn ids_rise_after_each_call()
-    ensures modified { (nodes : List SchemaNode) (policy : Policy) (registry : Subscriptions) (by id : ℕ) (amend : Amend) (now : ℕ) → HasRisingIds registry → HasRisingIds (modified nodes policy registry by id amend now) }
+    ensures modified { (nodes : List SchemaNode) (policy : Policy) (registry : Subscriptions) (by id : ℕ) (amend : Amend) (now : ℕ) → HasRisingIds registry → HasRisingIds (modified_by nodes policy registry by id amend now) }
     ensures reconfigured { (nodes : List SchemaNode) (registry : Subscriptions) (id : ℕ) (amend : Amend) (now : ℕ) → HasRisingIds registry → HasRisingIds (reconfigured nodes registry id amend now) }
-    ensures deleted { (policy : Policy) (registry : Subscriptions) (by id : ℕ) → HasRisingIds registry → HasRisingIds (deleted policy registry by id) }
-    ensures killed { (policy : Policy) (registry : Subscriptions) (by id : ℕ) → HasRisingIds registry → HasRisingIds (killed policy registry by id) }
+    ensures deleted { (policy : Policy) (registry : Subscriptions) (by id : ℕ) → HasRisingIds registry → HasRisingIds (deleted_by policy registry by id) }
+    ensures killed { (policy : Policy) (registry : Subscriptions) (by id : ℕ) → HasRisingIds registry → HasRisingIds (killed_by policy registry by id) }
     ensures unconfigured { (registry : Subscriptions) (id : ℕ) → HasRisingIds registry → HasRisingIds (unconfigured registry id) }
     ensures configured { (nodes : List SchemaNode) (registry : Subscriptions) (id : ℕ) (receivers : List (List ℕ)) (ask : Ask) (now : ℕ) → HasRisingIds registry → HasRisingIds (newly_configured nodes registry id receivers ask now) }
 {}
@@ -124,11 +125,11 @@ pub fn ids_rise_after_each_call()
 /// subscription has it before.
 pub fn an_id_is_configured_once()
     ensures taken { (nodes : List SchemaNode) (registry : Subscriptions) (id : ℕ) (receivers : List (List ℕ)) (ask : Ask) (now : ℕ)
-        → configure_answer nodes registry id receivers ask ≡ Ok tt → is_taken id (newly_configured nodes registry id receivers ask now) ≡ true }
+        → configure_answer nodes registry id receivers ask ≡ Ok tt → is_id_taken id (newly_configured nodes registry id receivers ask now) ≡ true }
     ensures stays { (nodes : List SchemaNode) (registry : Subscriptions) (id : ℕ) (receivers : List (List ℕ)) (ask : Ask) (now : ℕ) (other : ℕ)
-        → is_taken other registry ≡ true → is_taken other (newly_configured nodes registry id receivers ask now) ≡ true }
+        → is_id_taken other registry ≡ true → is_id_taken other (newly_configured nodes registry id receivers ask now) ≡ true }
     ensures refused { (nodes : List SchemaNode) (registry : Subscriptions) (id : ℕ) (receivers : List (List ℕ)) (ask : Ask)
-        → is_taken id registry ≡ true → configure_answer nodes registry id receivers ask ≢ Ok tt }
+        → is_id_taken id registry ≡ true → configure_answer nodes registry id receivers ask ≢ Ok tt }
     ensures fresh { (nodes : List SchemaNode) (registry : Subscriptions) (id : ℕ) (receivers : List (List ℕ)) (ask : Ask)
         → HasRisingIds registry → configure_answer nodes registry id receivers ask ≡ Ok tt → live_at id registry.live ≡ None }
 {}
@@ -136,19 +137,19 @@ pub fn an_id_is_configured_once()
 /// No other call takes an id or frees one.
 pub fn other_calls_leave_what_is_taken()
     ensures established { (nodes : List SchemaNode) (policy : Policy) (registry : Subscriptions) (by : ℕ) (ask : Ask) (now : ℕ) → (established nodes policy registry by ask now).taken ≡ registry.taken }
-    ensures modified { (nodes : List SchemaNode) (policy : Policy) (registry : Subscriptions) (by id : ℕ) (amend : Amend) (now : ℕ) → (modified nodes policy registry by id amend now).taken ≡ registry.taken }
+    ensures modified { (nodes : List SchemaNode) (policy : Policy) (registry : Subscriptions) (by id : ℕ) (amend : Amend) (now : ℕ) → (modified_by nodes policy registry by id amend now).taken ≡ registry.taken }
     ensures reconfigured { (nodes : List SchemaNode) (registry : Subscriptions) (id : ℕ) (amend : Amend) (now : ℕ) → (reconfigured nodes registry id amend now).taken ≡ registry.taken }
-    ensures deleted { (policy : Policy) (registry : Subscriptions) (by id : ℕ) → (deleted policy registry by id).taken ≡ registry.taken }
-    ensures killed { (policy : Policy) (registry : Subscriptions) (by id : ℕ) → (killed policy registry by id).taken ≡ registry.taken }
+    ensures deleted { (policy : Policy) (registry : Subscriptions) (by id : ℕ) → (deleted_by policy registry by id).taken ≡ registry.taken }
+    ensures killed { (policy : Policy) (registry : Subscriptions) (by id : ℕ) → (killed_by policy registry by id).taken ≡ registry.taken }
     ensures unconfigured { (registry : Subscriptions) (id : ℕ) → (unconfigured registry id).taken ≡ registry.taken }
 {}
 
 /// Each further call, refused or not, leaves the receivers as they were declared.
 pub fn each_call_leaves_the_receivers()
-    ensures modified { (nodes : List SchemaNode) (policy : Policy) (registry : Subscriptions) (by id : ℕ) (amend : Amend) (now : ℕ) → ((modified nodes policy registry by id amend now).users ≡ registry.users) × ((modified nodes policy registry by id amend now).names ≡ registry.names) }
+    ensures modified { (nodes : List SchemaNode) (policy : Policy) (registry : Subscriptions) (by id : ℕ) (amend : Amend) (now : ℕ) → ((modified_by nodes policy registry by id amend now).users ≡ registry.users) × ((modified_by nodes policy registry by id amend now).names ≡ registry.names) }
     ensures reconfigured { (nodes : List SchemaNode) (registry : Subscriptions) (id : ℕ) (amend : Amend) (now : ℕ) → ((reconfigured nodes registry id amend now).users ≡ registry.users) × ((reconfigured nodes registry id amend now).names ≡ registry.names) }
-    ensures deleted { (policy : Policy) (registry : Subscriptions) (by id : ℕ) → ((deleted policy registry by id).users ≡ registry.users) × ((deleted policy registry by id).names ≡ registry.names) }
-    ensures killed { (policy : Policy) (registry : Subscriptions) (by id : ℕ) → ((killed policy registry by id).users ≡ registry.users) × ((killed policy registry by id).names ≡ registry.names) }
+    ensures deleted { (policy : Policy) (registry : Subscriptions) (by id : ℕ) → ((deleted_by policy registry by id).users ≡ registry.users) × ((deleted_by policy registry by id).names ≡ registry.names) }
+    ensures killed { (policy : Policy) (registry : Subscriptions) (by id : ℕ) → ((killed_by policy registry by id).users ≡ registry.users) × ((killed_by policy registry by id).names ≡ registry.names) }
     ensures unconfigured { (registry : Subscriptions) (id : ℕ) → ((unconfigured registry id).users ≡ registry.users) × ((unconfigured registry id).names ≡ registry.names) }
     ensures configured { (nodes : List SchemaNode) (registry : Subscriptions) (id : ℕ) (receivers : List (List ℕ)) (ask : Ask) (now : ℕ) → ((newly_configured nodes registry id receivers ask now).users ≡ registry.users) × ((newly_configured nodes registry id receivers ask now).names ≡ registry.names) }
 {}
@@ -157,15 +158,20 @@ pub fn each_call_leaves_the_receivers()
 /// before.
 pub fn an_amendment_changes_one_subscription()
     ensures found { (nodes : List SchemaNode) (amend : Amend) (now id : ℕ) (live : List Terms)
-        → live_at id (changed_at id (amended nodes amend now) live) ≡ option_map (amended nodes amend now) (live_at id live) }
+        → live_at id (changed_terms id (amended_terms nodes amend now) live) ≡ option_map (amended_terms nodes amend now) (live_at id live) }
     ensures others { (nodes : List SchemaNode) (amend : Amend) (now id other : ℕ) (live : List Terms)
-        → other ≢ id → live_at other (changed_at id (amended nodes amend now) live) ≡ live_at other live }
+        → other ≢ id → live_at other (changed_terms id (amended_terms nodes amend now) live) ≡ live_at other live }
+{}
+
+/// A trigger stays periodic or on change, whatever is given.
+pub fn an_amendment_leaves_the_kind_of_a_trigger()
+    ensures { (now : ℕ) (given : Option Trigger) (kept : Trigger) → has_period (amended_trigger now given kept) ≡ has_period kept }
 {}
 
 /// By the id of a subscription that has ended none is found, and by each other id what was found before.
 pub fn an_end_takes_one_subscription_away()
-    ensures found { (id : ℕ) (live : List Terms) → live_at id (without id live) ≡ None }
-    ensures others { (id other : ℕ) (live : List Terms) → other ≢ id → live_at other (without id live) ≡ live_at other live }
+    ensures found { (id : ℕ) (live : List Terms) → live_at id (live_without id live) ≡ None }
+    ensures others { (id other : ℕ) (live : List Terms) → other ≢ id → live_at other (live_without id live) ≡ live_at other live }
 {}
 
 /// By a new id the terms are found that are put in their place, and by each other id what was found before.

@@ -2,8 +2,8 @@
 ghost use Rattle.std.specs.Prelude.{◌≡◌, ◌≤◌, nat_eq, nat_lt, option_map, OnErr, OnOk};
 ghost use Rattle.std.specs.List.{position};
 ghost use Rattle.yp_filter.specs.View.{filter_view};
-ghost use Rattle.yp_registry.specs.Amending.{amended_terms, changed_at};
-ghost use Rattle.yp_registry.specs.Calls.{without};
+ghost use Rattle.yp_registry.specs.Amending.{with_given, changed_terms};
+ghost use Rattle.yp_registry.specs.Calls.{live_without};
 ghost use Rattle.yp_registry.specs.Configuring.{in_order};
 ghost use Rattle.yp_time.specs.Ticks.{tick_limit};
 
@@ -35,7 +35,7 @@ pub(crate) fn amend(
     now: u64,
 )
     requires { now ≤ tick_limit }
-    ensures { live.new.items ≡ changed_at id (amended_terms now (option_map filter_view filter) trigger) live.old.items }
+    ensures { live.new.items ≡ changed_terms id (with_given now (option_map filter_view filter) trigger) live.old.items }
 {
     if let Some(place) = place_of(live.as_slice(), id) {
         live[place].amend(filter, trigger, now);
@@ -44,7 +44,7 @@ pub(crate) fn amend(
 
 /// Takes the terms of an id away.
 pub(crate) fn end(live: &mut Vec<Terms>, id: u32)
-    ensures { live.new.items ≡ without id live.old.items }
+    ensures { live.new.items ≡ live_without id live.old.items }
 {
     live.retain(|terms| terms.id() != id);
 }

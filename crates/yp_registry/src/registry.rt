@@ -3,9 +3,9 @@
 ghost use Rattle.std.specs.Prelude.{◌≡◌, ◌+◌, ◌<◌, ◌≤◌, length, option_copied, option_map, true, IfOk, OnErr, OnOk};
 ghost use Rattle.yp_filter.specs.Fits.{filter_fits};
 ghost use Rattle.yp_filter.specs.View.{filter_view};
-ghost use Rattle.yp_registry.specs.Amending.{amended_terms, with_change};
+ghost use Rattle.yp_registry.specs.Amending.{with_given, with_change};
 ghost use Rattle.yp_registry.specs.Calls.{configured_at, dynamic_at, own_at, with_end};
-ghost use Rattle.yp_registry.specs.Configuring.{is_taken, with_configured};
+ghost use Rattle.yp_registry.specs.Configuring.{is_id_taken, with_configured};
 ghost use Rattle.yp_registry.specs.Registry.{Answers, Gives, IsRegistryOf, asked_for, establish_answer, established, first_refusal, free_id, last_id, live_at, next_id, no_subscriptions, or_refused, reasons_against, user_at, with_terms};
 ghost use Rattle.yp_registry.specs.Terms.{HasAnchor, with_anchor};
 ghost use Rattle.yp_time.specs.Ticks.{tick_limit};
@@ -195,7 +195,11 @@ impl Registry {
         ensures { option_copied result ≡ own_at by id self.now.live }
     {
         let terms = self.at(id)?;
-        if terms.is_own(by) { Some(terms) } else { None }
+        if terms.is_established_by(by) {
+            Some(terms)
+        } else {
+            None
+        }
     }
 
     /// Those of one that any receiver established.
@@ -223,8 +227,8 @@ impl Registry {
     }
 
     /// Whether an id was configured.
-    pub(crate) fn is_taken(&self, id: u32) -> bool
-        ensures { result ≡ is_taken id self.now }
+    pub(crate) fn is_id_taken(&self, id: u32) -> bool
+        ensures { result ≡ is_id_taken id self.now }
     {
         self.taken.as_slice().contains(&id)
     }
@@ -238,7 +242,7 @@ impl Registry {
         now: u64,
     )
         requires { now ≤ tick_limit }
-        ensures { self.new ≡ with_change id (amended_terms now (option_map filter_view filter) trigger) self.old }
+        ensures { self.new ≡ with_change id (with_given now (option_map filter_view filter) trigger) self.old }
     {
         live::amend(&mut self.live, id, filter, trigger, now);
     }

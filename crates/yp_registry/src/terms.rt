@@ -1,8 +1,8 @@
 //! What a subscription is given.
 ghost use Rattle.std.specs.Prelude.{◌≡◌, ◌≤◌, ◌∷◌, [], IfOk, false, option_map, true};
 ghost use Rattle.yp_filter.specs.View.{filter_view};
-ghost use Rattle.yp_registry.specs.Amending.{amended_terms};
-ghost use Rattle.yp_registry.specs.Calls.{is_own};
+ghost use Rattle.yp_registry.specs.Amending.{with_given};
+ghost use Rattle.yp_registry.specs.Calls.{is_established_by};
 ghost use Rattle.yp_time.specs.Ticks.{tick_limit};
 
 use crate::triggers::amended_trigger;
@@ -79,7 +79,7 @@ impl Terms {
     /// Amends the terms at this tick by what is given.
     pub(crate) fn amend(&mut self, filter: Option<Filter>, trigger: Option<Trigger>, now: u64)
         requires { now ≤ tick_limit }
-        ensures { self.new ≡ amended_terms now (option_map filter_view filter) trigger self.old }
+        ensures { self.new ≡ with_given now (option_map filter_view filter) trigger self.old }
     {
         if let Some(filter) = filter {
             self.filter = filter;
@@ -88,8 +88,8 @@ impl Terms {
     }
 
     /// Whether the receiver of this number established the subscription.
-    pub(crate) fn is_own(&self, by: u32) -> bool
-        ensures { result ≡ is_own by self.now }
+    pub(crate) fn is_established_by(&self, by: u32) -> bool
+        ensures { result ≡ is_established_by by self.now }
     {
         !self.configured && self.receivers.items().contains(&by)
     }

@@ -1,6 +1,6 @@
 //! Triggers as they are given and as they are amended.
 ghost use Rattle.std.specs.Prelude.{◌≡◌, ◌≤◌};
-ghost use Rattle.yp_registry.specs.Amending.{amended_trigger, differ_in_kind, is_periodic, renewed_trigger, with_dampening};
+ghost use Rattle.yp_registry.specs.Amending.{amended_trigger, differ_in_kind, has_period, renewed_trigger, with_dampening};
 ghost use Rattle.yp_registry.specs.Calls.{has_sync};
 ghost use Rattle.yp_registry.specs.Terms.{with_anchor};
 ghost use Rattle.yp_time.specs.Ticks.{tick_limit};
@@ -21,8 +21,8 @@ pub(crate) fn with_anchor(now: u64, trigger: Trigger) -> Trigger
     }
 }
 
-fn is_periodic(trigger: &Trigger) -> bool
-    ensures { result ≡ is_periodic trigger.now }
+fn has_period(trigger: &Trigger) -> bool
+    ensures { result ≡ has_period trigger.now }
 {
     match trigger {
         Trigger::Periodic { .. } => true,
@@ -35,8 +35,8 @@ pub(crate) fn differ_in_kind(one: &Trigger, other: &Trigger) -> bool
     ensures { result ≡ differ_in_kind one.now other.now }
 {
     match one {
-        Trigger::Periodic { .. } => !is_periodic(other),
-        Trigger::OnChange { .. } => is_periodic(other),
+        Trigger::Periodic { .. } => !has_period(other),
+        Trigger::OnChange { .. } => has_period(other),
     }
 }
 
@@ -64,13 +64,19 @@ fn with_dampening(dampening: u32, trigger: Trigger) -> Trigger
     }
 }
 
-/// A trigger by one that is given at this tick.
+/// A trigger by one that is given at this tick, which stays of its kind.
 fn renewed_trigger(now: u64, given: Trigger, kept: Trigger) -> Trigger
     requires { now ≤ tick_limit }
     ensures { result ≡ renewed_trigger now given kept }
 {
     match given {
-        Trigger::Periodic { .. } => with_anchor(now, given),
+        Trigger::Periodic { .. } => {
+            if has_period(&kept) {
+                with_anchor(now, given)
+            } else {
+                kept
+            }
+        }
         Trigger::OnChange { dampening, .. } => with_dampening(dampening, kept),
     }
 }

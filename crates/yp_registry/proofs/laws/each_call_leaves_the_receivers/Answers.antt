@@ -1,16 +1,16 @@
 use Rattle.std.proofs.Common.{◌≡◌, refl}
 use Rattle.yp_registry.specs.Registry.{Subscriptions, first_refusal}
-use Rattle.yp_registry.specs.Amending.{amended, modify_reasons, reconfigure_reasons, with_change}
+use Rattle.yp_registry.specs.Amending.{amended_terms, modify_reasons, reconfigure_reasons, with_change}
 use Rattle.yp_registry.specs.Calls.{delete_reasons, kill_reasons, unconfigure_reasons, with_end}
 use Rattle.yp_registry.specs.Configuring.{configure_reasons, configured_terms, with_configured}
 use Rattle.yp_registry.proofs.Further.{left_is}
 use Rattle.yp_registry.proofs.laws.each_call_leaves_the_receivers.Goals as goal
 
 pub returns-clause-modified : goal.returns-clause-modified
-returns-clause-modified c = λ nodes policy registry by id amend now. (left_is (λ (r : Subscriptions). r.users ≡ registry.users) (first_refusal (modify_reasons nodes policy registry by id amend)) registry (with_change id (amended nodes amend now) registry) refl (λ free. refl), left_is (λ (r : Subscriptions). r.names ≡ registry.names) (first_refusal (modify_reasons nodes policy registry by id amend)) registry (with_change id (amended nodes amend now) registry) refl (λ free. refl))
+returns-clause-modified c = λ nodes policy registry by id amend now. (left_is (λ (r : Subscriptions). r.users ≡ registry.users) (first_refusal (modify_reasons nodes policy registry by id amend)) registry (with_change id (amended_terms nodes amend now) registry) refl (λ free. refl), left_is (λ (r : Subscriptions). r.names ≡ registry.names) (first_refusal (modify_reasons nodes policy registry by id amend)) registry (with_change id (amended_terms nodes amend now) registry) refl (λ free. refl))
 
 pub returns-clause-reconfigured : goal.returns-clause-reconfigured
-returns-clause-reconfigured c = λ nodes registry id amend now. (left_is (λ (r : Subscriptions). r.users ≡ registry.users) (first_refusal (reconfigure_reasons nodes registry id amend)) registry (with_change id (amended nodes amend now) registry) refl (λ free. refl), left_is (λ (r : Subscriptions). r.names ≡ registry.names) (first_refusal (reconfigure_reasons nodes registry id amend)) registry (with_change id (amended nodes amend now) registry) refl (λ free. refl))
+returns-clause-reconfigured c = λ nodes registry id amend now. (left_is (λ (r : Subscriptions). r.users ≡ registry.users) (first_refusal (reconfigure_reasons nodes registry id amend)) registry (with_change id (amended_terms nodes amend now) registry) refl (λ free. refl), left_is (λ (r : Subscriptions). r.names ≡ registry.names) (first_refusal (reconfigure_reasons nodes registry id amend)) registry (with_change id (amended_terms nodes amend now) registry) refl (λ free. refl))
 
 pub returns-clause-deleted : goal.returns-clause-deleted
 returns-clause-deleted c = λ policy registry by id. (left_is (λ (r : Subscriptions). r.users ≡ registry.users) (first_refusal (delete_reasons policy registry by id)) registry (with_end id registry) refl (λ free. refl), left_is (λ (r : Subscriptions). r.names ≡ registry.names) (first_refusal (delete_reasons policy registry by id)) registry (with_end id registry) refl (λ free. refl))
