@@ -137,12 +137,12 @@ fn registry_of_two(alloc: Global) -> Result<Registry, NoMemory> {
     Ok(Registry::new(alloc, two(alloc, "ann", "ann")?, two(alloc, "a", "b")?))
 }
 
-// Another dampening period, and nothing else.
+// Everything, with another dampening period.
 fn dampened() -> Amend
     ensures { HasGivenAnchor result.trigger }
 {
     Amend {
-        filter: None,
+        filter: Some(FilterAsk::All),
         trigger: Some(Trigger::OnChange {
             dampening: 10,
             sync: false,
@@ -153,12 +153,82 @@ fn dampened() -> Amend
 
 // Whether a subscription has this dampening period and, as before, a full update at first.
 fn has_dampening(registry: &Registry, id: u32, period: u32) -> bool {
-    let dampened = Trigger::OnChange {
-        dampening: period,
-        sync: true,
-        excluded: none_of_all(),
-    };
-    registry.trigger(id) == Some(&dampened)
+    match registry.trigger(id) {
+        Some(
+            Trigger::OnChange {
+                dampening,
+                sync,
+                ..
+            },
+        ) => *dampening == period && *sync,
+        _ => false,
+    }
+}
+
+// What a receiver is answered that modifies a subscription. Without the receiver it is a refusal that no call
+// here has, and so it is below.
+fn modified(
+    alloc: Global,
+    schema: &Schema,
+    policy: &Policy,
+    registry: &mut Registry,
+    by: u32,
+    id: u32,
+) -> Result<(), Refused> {
+    if registry.users().len() <= by as usize {
+        return Err(Refused::AccessDenied);
+    }
+    let amend = dampened().copy(alloc)?;
+    registry.modify(alloc, schema, policy, by, id, &amend, 0)
+}
+
+fn resynced(policy: &Policy, registry: &mut Registry, by: u32, id: u32) -> Result<(), Refused> {
+    if registry.users().len() <= by as usize {
+        return Err(Refused::AccessDenied);
+    }
+    registry.resync(policy, by, id)
+}
+
+fn deleted(policy: &Policy, registry: &mut Registry, by: u32, id: u32) -> Result<(), Refused> {
+    if registry.users().len() <= by as usize {
+        return Err(Refused::AccessDenied);
+    }
+    registry.delete(policy, by, id)
+}
+
+fn killed(policy: &Policy, registry: &mut Registry, by: u32, id: u32) -> Result<(), Refused> {
+    if registry.users().len() <= by as usize {
+        return Err(Refused::AccessDenied);
+    }
+    registry.kill(policy, by, id)
+}
+
+// What is answered where a subscription of everything is configured for b and a.
+fn configured(
+    alloc: Global,
+    schema: &Schema,
+    registry: &mut Registry,
+    id: u32,
+) -> Result<(), Refused> {
+    if registry.users().len() != 2 {
+        return Err(Refused::AccessDenied);
+    }
+    let names = two(alloc, "b", "a")?;
+    let ask = everything(alloc)?;
+    registry.configure(alloc, schema, id, names.items(), &ask, 0)
+}
+
+fn reconfigured(
+    alloc: Global,
+    schema: &Schema,
+    registry: &mut Registry,
+    id: u32,
+) -> Result<(), Refused> {
+    registry.reconfigure(alloc, schema, id, &dampened(), 0)
+}
+
+fn unconfigured(registry: &mut Registry, id: u32) -> Result<(), Refused> {
+    registry.unconfigure(id)
 }
 
 #[test]
@@ -169,28 +239,20 @@ fn a_receiver_modifies_resyncs_and_deletes_its_own_subscription(
     let schema = Schema::read(alloc, &[])?;
     let policy = Policy::opening(alloc);
     let mut registry = registry_of_two(alloc)?;
-    let missing = Refused::NoSuchSubscription { resync: false };
     let id = answer(alloc, &schema, &policy, &mut registry)?;
+    let missing = Err(Refused::NoSuchSubscription { resync: false });
+    assert_eq!(rt;
+        modified(alloc, &schema, &policy, &mut registry, 1, id),
+        missing
+    );
     assert!(rt; has_dampening(&registry, id, 0));
-    if registry.users().len() == 2 {
-        let amend = dampened();
-        assert_eq!(rt;
-            registry.modify(alloc, &schema, &policy, 1, id, &amend, 0),
-            Err(missing)
-        );
-    }
-    if registry.users().len() == 2 {
-        let amend = dampened();
-        assert_eq!(rt;
-            registry.modify(alloc, &schema, &policy, 0, id, &amend, 0),
-            Ok(())
-        );
-    }
+    assert_eq!(rt;
+        modified(alloc, &schema, &policy, &mut registry, 0, id),
+        Ok(())
+    );
     assert!(rt; has_dampening(&registry, id, 10));
-    if registry.users().len() == 2 {
-        assert_eq!(rt; registry.resync(&policy, 0, id), Ok(()));
-        assert_eq!(rt; registry.delete(&policy, 0, id), Ok(()));
-    }
+    assert_eq!(rt; resynced(&policy, &mut registry, 0, id), Ok(()));
+    assert_eq!(rt; deleted(&policy, &mut registry, 0, id), Ok(()));
     assert!(rt; registry.live().is_empty());
     Ok(())
 }
@@ -203,9 +265,7 @@ fn an_operator_kills_the_subscription_of_another_receiver(rt: HostRuntime) -> Re
     let mut registry = registry_of_two(alloc)?;
     let id = answer(alloc, &schema, &policy, &mut registry)?;
     policy.enabled = false;
-    if registry.users().len() == 2 {
-        assert_eq!(rt; registry.kill(&policy, 1, id), Ok(()));
-    }
+    assert_eq!(rt; killed(&policy, &mut registry, 1, id), Ok(()));
     assert!(rt; registry.live().is_empty());
     Ok(())
 }
@@ -216,29 +276,15 @@ fn a_configured_id_is_taken_for_ever(rt: HostRuntime) -> Result<(), Fail> {
     let schema = Schema::read(alloc, &[])?;
     let policy = Policy::opening(alloc);
     let mut registry = registry_of_two(alloc)?;
-    let ask = everything(alloc)?;
-    let both = two(alloc, "b", "a")?;
     let id = answer(alloc, &schema, &policy, &mut registry)?;
-    if registry.users().len() == 2 {
-        assert_eq!(rt;
-            registry.configure(alloc, &schema, 7, both.items(), &ask, 0),
-            Ok(())
-        );
-    }
+    assert_eq!(rt; configured(alloc, &schema, &mut registry, 7), Ok(()));
     assert!(rt; has_ids(&registry, &[7, id]));
     assert!(rt; registry.receivers(7) == Some(&[0, 1][..]));
-    assert_eq!(rt;
-        registry.reconfigure(alloc, &schema, 7, &dampened(), 0),
-        Ok(())
-    );
+    assert_eq!(rt; reconfigured(alloc, &schema, &mut registry, 7), Ok(()));
     assert!(rt; has_dampening(&registry, 7, 10));
-    assert_eq!(rt; registry.unconfigure(7), Ok(()));
-    assert!(rt; has_ids(&registry, &[id]));
-    let mut registry = registry.copy(alloc)?;
-    if registry.users().len() == 2 {
-        let again = registry.configure(alloc, &schema, 7, both.items(), &ask, 0);
-        assert_eq!(rt; again, Err(Refused::InvalidId));
-    }
+    assert_eq!(rt; unconfigured(&mut registry, 7), Ok(()));
+    let again = configured(alloc, &schema, &mut registry, 7);
+    assert_eq!(rt; again, Err(Refused::InvalidId));
     assert!(rt; has_ids(&registry, &[id]));
     Ok(())
 }
