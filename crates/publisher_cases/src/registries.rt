@@ -1,6 +1,6 @@
 //! Calls of `yp_registry`: steps on one registry, each with its answer.
 ghost use Rattle.std.specs.Prelude.{◌≡◌, ◌≤◌, IfOk, IfSome};
-ghost use Rattle.yp_registry.specs.Terms.{HasAnchor};
+ghost use Rattle.yp_terms.specs.Terms.{HasAnchor};
 ghost use Rattle.yp_time.specs.Ticks.{IsAnchor, tick_limit};
 
 use crate::calls::Setting;
@@ -17,10 +17,10 @@ use yp_base::payload::Payload;
 use yp_base::series::Series;
 use yp_base::txt::Txt;
 use yp_filter::filter::Filter;
-use yp_registry::ask::{Ask, FilterAsk};
-use yp_registry::refused::Refused;
 use yp_registry::registry::Registry;
 use yp_schema::schema::Schema;
+use yp_terms::ask::{Ask, FilterAsk};
+use yp_terms::refused::Refused;
 
 // The last tick.
 const LAST_TICK: u64 = 1_000_000_000_000;

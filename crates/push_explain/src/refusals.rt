@@ -18,9 +18,9 @@ use yp_edit::reading::read_patch;
 use yp_filter::fault::FilterFault;
 use yp_filter::filter::Filter;
 use yp_live::script::report_of_script;
-use yp_registry::refused::Refused;
 use yp_schema::schema::Schema;
 use yp_script::script::Script;
+use yp_terms::refused::Refused;
 
 /// The most lanes, and the commands outside of them.
 const MOST_LANES: usize = 65;

@@ -8,7 +8,7 @@ use Rattle.yp_schema.specs.declared.schema.SchemaNode.{SchemaNode}
 use Rattle.yp_nacm.specs.declared.policy.Policy.{Policy}
 use Rattle.yp_nacm.specs.Policies.{IsPolicyOf}
 use Rattle.yp_nacm_text.specs.Policies.{policy_in}
-use Rattle.yp_registry.specs.Terms.{HasAnchor}
+use Rattle.yp_terms.specs.Terms.{HasAnchor}
 use Rattle.yp_time.specs.Ticks.{IsAnchor}
 use Rattle.yp_journal.specs.declared.command.Command.TheVariants as commands
 use Rattle.yp_command.specs.Commands.{CommandsMayCome, anchor_of}

@@ -8,9 +8,9 @@ use Rattle.yp_base.specs.declared.notice.Trigger.TheVariants.{Periodic, OnChange
 use Rattle.yp_base.specs.Json.{member_of}
 use Rattle.yp_base.specs.Results.{or_fault}
 use Rattle.yp_base.specs.Types.{is_among}
-use Rattle.yp_registry.specs.declared.ask.Ask.{Ask}
-use Rattle.yp_registry.specs.declared.ask.FilterAsk.{FilterAsk}
-use Rattle.yp_registry.specs.declared.ask.FilterAsk.TheVariants.{All, Subtree, XPath}
+use Rattle.yp_terms.specs.declared.ask.Ask.{Ask}
+use Rattle.yp_terms.specs.declared.ask.FilterAsk.{FilterAsk}
+use Rattle.yp_terms.specs.declared.ask.FilterAsk.TheVariants.{All, Subtree, XPath}
 use Rattle.yp_time.specs.Instants.{anchor_in}
 use Rattle.yp_journal.specs.declared.command.Command.{Command}
 use Rattle.yp_journal.specs.declared.command.Command.TheVariants.{Establish}

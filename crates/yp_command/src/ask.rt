@@ -20,7 +20,7 @@ use yp_base::notice::{Kinds, Trigger};
 use yp_base::payload::Payload;
 use yp_base::txt::Txt;
 use yp_journal::command::Command;
-use yp_registry::ask::{Ask, FilterAsk};
+use yp_terms::ask::{Ask, FilterAsk};
 use yp_time::instant::anchor_ticks;
 use yp_time::start::Start;
 

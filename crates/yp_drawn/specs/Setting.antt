@@ -7,9 +7,9 @@ use Rattle.yp_base.specs.declared.notice.Trigger.TheVariants.{OnChange}
 use Rattle.yp_schema.specs.declared.schema.Kind.{Kind}
 use Rattle.yp_schema.specs.declared.schema.Kind.TheVariants.{Container, List as Listing, Leaf}
 use Rattle.yp_schema.specs.declared.schema.SchemaNode.{SchemaNode}
-use Rattle.yp_registry.specs.declared.ask.Ask.{Ask}
-use Rattle.yp_registry.specs.declared.ask.FilterAsk.{FilterAsk}
-use Rattle.yp_registry.specs.declared.ask.FilterAsk.TheVariants.{All, Subtree}
+use Rattle.yp_terms.specs.declared.ask.Ask.{Ask}
+use Rattle.yp_terms.specs.declared.ask.FilterAsk.{FilterAsk}
+use Rattle.yp_terms.specs.declared.ask.FilterAsk.TheVariants.{All, Subtree}
 use Rattle.yp_journal.specs.declared.command.Command.{Command}
 use Rattle.yp_journal.specs.declared.command.Command.TheVariants.{Establish}
 use Rattle.yp_journal.specs.declared.receiver.ReceiverInfo.{ReceiverInfo}

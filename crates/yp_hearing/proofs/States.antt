@@ -5,10 +5,11 @@ use Rattle.std.proofs.lemmas.Bool.{or_parts, ltb-false}
 use Rattle.yp_base.specs.declared.row.Row.{Row}
 use Rattle.yp_base.specs.Results.{◌>>=◌}
 use Rattle.yp_schema.specs.declared.schema.SchemaNode.{SchemaNode}
-use Rattle.yp_registry.specs.declared.ask.Ask.{Ask}
-use Rattle.yp_registry.specs.declared.refused.Refused.{Refused}
-use Rattle.yp_registry.specs.Registry.{Subscriptions, live_at, next_id, last_id, lacks_room, feeds, most_feeds, first_refusal, reasons_against, terms_for, after_refusal, established}
-use Rattle.yp_registry.specs.Terms.{Terms}
+use Rattle.yp_terms.specs.declared.ask.Ask.{Ask}
+use Rattle.yp_terms.specs.declared.refused.Refused.{Refused}
+use Rattle.yp_terms.specs.Refusals.{first_refusal}
+use Rattle.yp_registry.specs.Registry.{Subscriptions, live_at, next_id, last_id, lacks_room, feeds, most_feeds, reasons_against, terms_for, after_refusal, established}
+use Rattle.yp_terms.specs.Terms.{Terms}
 use Rattle.yp_registry.proofs.Establishing.{fitting}
 use Rattle.yp_nacm.specs.declared.policy.Policy.{Policy}
 use Rattle.yp_edit.specs.declared.halt.Refusal.{Refusal}

@@ -10,7 +10,7 @@ use Rattle.yp_schema.specs.WellFormed.{IsSchema}
 use Rattle.yp_path.specs.Targets.{has_texts}
 use Rattle.yp_nacm.specs.AccessLaws.{readable_above}
 use Rattle.yp_registry.specs.Registry.{live_at}
-use Rattle.yp_registry.specs.Terms.{Terms}
+use Rattle.yp_terms.specs.Terms.{Terms}
 use Rattle.yp_select.specs.KeptLaws.{kept_datastore}
 use Rattle.yp_select.specs.Selection.{kept}
 use Rattle.yp_select.specs.SelectionLaws.{all_selected}

@@ -5,7 +5,7 @@ use Rattle.yp_base.specs.declared.notice.Notice.{Notice}
 use Rattle.yp_schema.specs.declared.schema.SchemaNode.{SchemaNode}
 use Rattle.yp_schema.specs.WellFormed.{IsSchema}
 use Rattle.yp_encode.specs.Lines.{line_of}
-use Rattle.yp_registry.specs.declared.ask.Ask.{Ask}
+use Rattle.yp_terms.specs.declared.ask.Ask.{Ask}
 use Rattle.yp_feed.specs.Machine.{is_mirrored}
 use Rattle.yp_journal.specs.declared.entry.Entry.{Entry}
 use Rattle.yp_journal.specs.declared.receiver.ReceiverInfo.{ReceiverInfo}

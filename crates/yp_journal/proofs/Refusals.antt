@@ -1,11 +1,12 @@
 -- What an establishment leaves that is refused, and its reply.
 use Rattle.std.proofs.Common.{◌≡◌, ◌≢◌, ℕ, List, [], true, Option, Some, None, Result, Ok, Err, IfOk, OnOk, refl, sym, ap, ◌∙◌}
 use Rattle.yp_schema.specs.declared.schema.SchemaNode.{SchemaNode}
-use Rattle.yp_registry.specs.declared.ask.Ask.{Ask}
-use Rattle.yp_registry.specs.declared.refused.Refused.{Refused}
-use Rattle.yp_registry.specs.declared.refused.Refused.TheVariants.{AccessDenied, EncodingUnsupported, DatastoreNotSubscribable, FilterUnsupported, PeriodUnsupported, InsufficientResources, Memory}
-use Rattle.yp_registry.specs.Terms.{Terms}
-use Rattle.yp_registry.specs.Registry.{Subscriptions, Fails, first_refusal, reasons_against, terms_for, after_refusal, or_refused, establish_answer}
+use Rattle.yp_terms.specs.declared.ask.Ask.{Ask}
+use Rattle.yp_terms.specs.declared.refused.Refused.{Refused}
+use Rattle.yp_terms.specs.declared.refused.Refused.TheVariants.{AccessDenied, EncodingUnsupported, DatastoreNotSubscribable, FilterUnsupported, PeriodUnsupported, NoSuchSubscription, OnChangeSyncUnsupported, InvalidTrigger, InvalidId, InvalidReceiver, InsufficientResources, Memory}
+use Rattle.yp_terms.specs.Terms.{Terms}
+use Rattle.yp_terms.specs.Refusals.{first_refusal, or_refused, Fails}
+use Rattle.yp_registry.specs.Registry.{Subscriptions, reasons_against, terms_for, after_refusal, establish_answer}
 use Rattle.yp_journal.specs.declared.command.Command.TheVariants.{Establish}
 use Rattle.yp_journal.specs.declared.reply.Reply.TheVariants.{Registry}
 use Rattle.yp_journal.specs.declared.state.Outcome.{Outcome}
@@ -19,6 +20,11 @@ refused_is EncodingUnsupported answer other fails = fails
 refused_is DatastoreNotSubscribable answer other fails = fails
 refused_is FilterUnsupported answer other fails = fails
 refused_is (PeriodUnsupported hint) answer other fails = fails
+refused_is (NoSuchSubscription resync) answer other fails = fails
+refused_is OnChangeSyncUnsupported answer other fails = fails
+refused_is InvalidTrigger answer other fails = fails
+refused_is InvalidId answer other fails = fails
+refused_is InvalidReceiver answer other fails = fails
 refused_is InsufficientResources answer other fails = fails
 refused_is Memory answer other fails = absurd (other refl)
 

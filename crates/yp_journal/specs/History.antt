@@ -10,10 +10,10 @@ use Rattle.yp_nacm.specs.declared.policy.Policy.{Policy}
 use Rattle.yp_nacm.specs.Decision.{is_readable}
 use Rattle.yp_nacm.specs.Own.{own_rules}
 use Rattle.yp_nacm.specs.Policies.{opening_policy, IsPolicyOf}
-use Rattle.yp_registry.specs.declared.ask.Ask.{Ask}
-use Rattle.yp_registry.specs.declared.refused.Refused.{Refused}
+use Rattle.yp_terms.specs.declared.ask.Ask.{Ask}
+use Rattle.yp_terms.specs.declared.refused.Refused.{Refused}
 use Rattle.yp_registry.specs.Registry.{Subscriptions, no_subscriptions, established, establish_answer}
-use Rattle.yp_registry.specs.Terms.{HasAnchor}
+use Rattle.yp_terms.specs.Terms.{HasAnchor}
 use Rattle.yp_edit.specs.declared.patch.Edit.{Edit as PatchEdit}
 use Rattle.yp_edit.specs.declared.patch.Patch.{Patch}
 use Rattle.yp_edit.specs.Patches.{RefusedEdit, applied}

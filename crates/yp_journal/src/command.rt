@@ -4,7 +4,7 @@ use yp_base::memory::{Duplicate, NoMemory};
 use yp_base::series::Series;
 use yp_edit::patch::Patch;
 use yp_nacm::policy::Policy;
-use yp_registry::ask::Ask;
+use yp_terms::ask::Ask;
 
 /// A command of the journal.
 #[derive(Drop)]

@@ -5,7 +5,7 @@ use std::alloc::Global;
 use yp_base::memory::{Duplicate, NoMemory};
 use yp_base::txt::Txt;
 use yp_edit::fault::Tag;
-use yp_registry::refused::Refused;
+use yp_terms::refused::Refused;
 
 /// The reply to a command. It never tells that memory ran out.
 #[derive(Drop)]

@@ -6,7 +6,7 @@ ghost use Rattle.yp_edit.specs.Changes.{changed_rows};
 ghost use Rattle.yp_edit.specs.Patches.{applied};
 ghost use Rattle.yp_journal.specs.declared.command.Command.TheVariants.{Edit};
 ghost use Rattle.yp_registry.specs.Registry.{IsRegistryOf};
-ghost use Rattle.yp_registry.specs.Terms.{HasAnchor};
+ghost use Rattle.yp_terms.specs.Terms.{HasAnchor};
 ghost use Rattle.yp_journal.specs.History.{first_state, first_registry, one_further, with_tick, with_policy, after_establish, establish_reply, id_at, next_state, reply_to, is_refusal, MayCome};
 ghost use Rattle.yp_time.specs.Ticks.{tick_limit};
 
@@ -25,10 +25,10 @@ use yp_edit::changed::Changed;
 use yp_edit::fault::EditFault;
 use yp_edit::patch::{Edits, Patch};
 use yp_nacm::policy::Policy;
-use yp_registry::ask::Ask;
-use yp_registry::refused::Refused;
 use yp_registry::registry::Registry;
 use yp_schema::schema::Schema;
+use yp_terms::ask::Ask;
+use yp_terms::refused::Refused;
 use yp_tree::tree::Tree;
 
 /// What the journal's commands left.

@@ -1,5 +1,5 @@
 -- The report of a run, as a value and as a text: the replies by position, then for each receiver what it took, where its queue was full and what it holds, and `end`.
-use Rattle.std.specs.Prelude.{ℕ, ◌+◌, List, [], ◌∷◌, ◌++◌, map, true, Option, Some, None, codes, decimal}
+use Rattle.std.specs.Prelude.{ℕ, ◌+◌, List, [], ◌∷◌, ◌++◌, map, false, true, Option, Some, None, codes, decimal}
 use Rattle.std.specs.List.{flat_map}
 use Rattle.serde_json.specs.Data.{Data, boolean, number, unsigned, string, object, Members, no_members, member}
 use Rattle.serde_json.specs.Written.{compact_text}
@@ -12,8 +12,8 @@ use Rattle.yp_journal.specs.declared.entry.Entry.{Entry}
 use Rattle.yp_journal.specs.declared.receiver.ReceiverInfo.{ReceiverInfo}
 use Rattle.yp_journal.specs.declared.reply.Reply.{Reply}
 use Rattle.yp_journal.specs.declared.reply.Reply.TheVariants.{Id, Done, Registry, Edit}
-use Rattle.yp_registry.specs.declared.refused.Refused.{Refused}
-use Rattle.yp_registry.specs.declared.refused.Refused.TheVariants.{AccessDenied, EncodingUnsupported, DatastoreNotSubscribable, FilterUnsupported, PeriodUnsupported, InsufficientResources, Memory}
+use Rattle.yp_terms.specs.declared.refused.Refused.{Refused}
+use Rattle.yp_terms.specs.declared.refused.Refused.TheVariants.{AccessDenied, EncodingUnsupported, DatastoreNotSubscribable, FilterUnsupported, PeriodUnsupported, NoSuchSubscription, OnChangeSyncUnsupported, InvalidTrigger, InvalidId, InvalidReceiver, InsufficientResources, Memory}
 use Rattle.yp_receiver.specs.Held.{lines_heard}
 use Rattle.yp_serial.specs.Serial.{Served}
 use Rattle.yp_hearing.specs.Hearing.{line_for}
@@ -81,23 +81,34 @@ refusal_word EncodingUnsupported = codes "encoding-unsupported"
 refusal_word DatastoreNotSubscribable = codes "datastore-not-subscribable"
 refusal_word FilterUnsupported = codes "filter-unsupported"
 refusal_word (PeriodUnsupported hint) = codes "period-unsupported"
+refusal_word (NoSuchSubscription false) = codes "no-such-subscription"
+refusal_word (NoSuchSubscription true) = codes "no-such-subscription-resync"
+refusal_word OnChangeSyncUnsupported = codes "on-change-sync-unsupported"
+refusal_word InvalidTrigger = codes "invalid-value"
+refusal_word InvalidId = codes "invalid-value"
+refusal_word InvalidReceiver = codes "invalid-value"
 refusal_word InsufficientResources = codes "insufficient-resources"
 refusal_word Memory = codes "insufficient-resources"
 
--- the shortest period, where the one that was asked for is too short (RFC 8641 section 4.4.2)
-abbrev pub hint_member : Refused → Members
-hint_member AccessDenied = no_members
-hint_member EncodingUnsupported = no_members
-hint_member DatastoreNotSubscribable = no_members
-hint_member FilterUnsupported = no_members
-hint_member (PeriodUnsupported hint) = member (codes "period-hint") (number (unsigned hint)) no_members
-hint_member InsufficientResources = no_members
-hint_member Memory = no_members
+-- what a refusal tells besides: the shortest period, where the one that was asked for is too short (RFC 8641 section 4.4.2), and which member of the command has an invalid value
+abbrev pub refusal_member : Refused → Members
+refusal_member AccessDenied = no_members
+refusal_member EncodingUnsupported = no_members
+refusal_member DatastoreNotSubscribable = no_members
+refusal_member FilterUnsupported = no_members
+refusal_member (PeriodUnsupported hint) = member (codes "period-hint") (number (unsigned hint)) no_members
+refusal_member (NoSuchSubscription resync) = no_members
+refusal_member OnChangeSyncUnsupported = no_members
+refusal_member InvalidTrigger = member (codes "member") (string (codes "trigger")) no_members
+refusal_member InvalidId = member (codes "member") (string (codes "id")) no_members
+refusal_member InvalidReceiver = member (codes "member") (string (codes "receiver")) no_members
+refusal_member InsufficientResources = no_members
+refusal_member Memory = no_members
 
 abbrev pub reply_data : Reply → Data
 reply_data (Id id) = object (member (codes "id") (number (unsigned id)) no_members)
 reply_data Done = object (member (codes "ok") (boolean true) no_members)
-reply_data (Registry refusal) = object (member (codes "error") (string (refusal_word refusal)) (hint_member refusal))
+reply_data (Registry refusal) = object (member (codes "error") (string (refusal_word refusal)) (refusal_member refusal))
 reply_data (Edit edit_id tag path) = object (member (codes "edit-id") (string edit_id) (member (codes "error") (string (tag_word tag)) (path_member path)))
 
 -- the line of a reply

@@ -13,7 +13,7 @@ use std::alloc::{AllocError, Global};
 use yp_base::txt::Txt;
 use yp_edit::fault::Tag;
 use yp_journal::reply::Reply;
-use yp_registry::refused::Refused;
+use yp_terms::refused::Refused;
 
 /// The word of a tag.
 fn word_of(tag: Tag) -> &'static str
@@ -96,6 +96,22 @@ fn push_refusal(text: &mut String, refusal: Refused) -> Result<(), AllocError>
                 text,
                 "{{\"error\":\"period-unsupported\",\"period-hint\":{hint}}}"
             )
+        }
+        Refused::NoSuchSubscription { resync: false } => {
+            text.push_str("{\"error\":\"no-such-subscription\"}")
+        }
+        Refused::NoSuchSubscription { resync: true } => {
+            text.push_str("{\"error\":\"no-such-subscription-resync\"}")
+        }
+        Refused::OnChangeSyncUnsupported => {
+            text.push_str("{\"error\":\"on-change-sync-unsupported\"}")
+        }
+        Refused::InvalidTrigger => {
+            text.push_str("{\"error\":\"invalid-value\",\"member\":\"trigger\"}")
+        }
+        Refused::InvalidId => text.push_str("{\"error\":\"invalid-value\",\"member\":\"id\"}"),
+        Refused::InvalidReceiver => {
+            text.push_str("{\"error\":\"invalid-value\",\"member\":\"receiver\"}")
         }
         Refused::InsufficientResources => text.push_str("{\"error\":\"insufficient-resources\"}"),
         Refused::Memory => text.push_str("{\"error\":\"insufficient-resources\"}"),

@@ -11,7 +11,7 @@ use Rattle.yp_nacm.specs.Decision.{is_readable}
 use Rattle.yp_nacm.specs.Same.{are_same_rules}
 use Rattle.yp_nacm.specs.SameLaws.{same_are_one}
 use Rattle.yp_registry.specs.Registry.{live_at}
-use Rattle.yp_registry.specs.Terms.{Terms}
+use Rattle.yp_terms.specs.Terms.{Terms}
 use Rattle.yp_select.specs.Concealed.{AllReadable}
 use Rattle.yp_select.specs.KeptLaws.{kept_readable}
 use Rattle.yp_touch.specs.Concealed.{IsReadableChange}

@@ -5,7 +5,7 @@ use Rattle.yp_base.specs.declared.row.Row.{Row}
 use Rattle.yp_schema.specs.declared.schema.SchemaNode.{SchemaNode}
 use Rattle.yp_nacm.specs.Same.{are_same_rules}
 use Rattle.yp_registry.specs.Registry.{live_at}
-use Rattle.yp_registry.specs.Terms.{Terms}
+use Rattle.yp_terms.specs.Terms.{Terms}
 use Rattle.yp_select.specs.Selection.{selection}
 use Rattle.yp_journal.specs.declared.command.Command.{Command}
 use Rattle.yp_journal.specs.declared.command.Command.TheVariants.{Tick, Edit, Rules, Establish, Take}

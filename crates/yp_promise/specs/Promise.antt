@@ -2,7 +2,7 @@
 use Rattle.std.specs.Prelude.{◌≡◌, ℕ, ◌≤◌, ◌==◌, ◌&&◌, Bool, true, false, List, [], ◌∷◌, ◌++◌, Some}
 use Rattle.std.specs.List.{AllByRecursion}
 use Rattle.yp_schema.specs.declared.schema.SchemaNode.{SchemaNode}
-use Rattle.yp_registry.specs.declared.ask.Ask.{Ask}
+use Rattle.yp_terms.specs.declared.ask.Ask.{Ask}
 use Rattle.yp_feed.specs.declared.item.Item.TheVariants.{Suspended}
 use Rattle.yp_feed.specs.Machine.{is_mirrored, resyncs}
 use Rattle.yp_journal.specs.declared.command.Command.TheVariants.{Establish}

@@ -12,12 +12,13 @@ use Rattle.yp_filter.specs.Fits.{filter_fits}
 use Rattle.yp_nacm.specs.declared.policy.Policy.{Policy}
 use Rattle.yp_schema.specs.declared.schema.SchemaNode.{SchemaNode}
 use Rattle.yp_time.specs.Ticks.{tick_limit}
-use Rattle.yp_registry.specs.declared.ask.Ask.{Ask}
-use Rattle.yp_registry.specs.declared.refused.Refused.{Refused}
-use Rattle.yp_registry.specs.declared.refused.Refused.TheVariants.{AccessDenied, EncodingUnsupported, DatastoreNotSubscribable, FilterUnsupported, PeriodUnsupported, NoSuchSubscription, OnChangeSyncUnsupported, InvalidTrigger, InvalidId, InvalidReceiver, InsufficientResources, Memory}
-use Rattle.yp_registry.specs.declared.ask.FilterAsk.{FilterAsk}
-use Rattle.yp_registry.specs.Terms.{Terms, AreTermsOf, HasAnchor, IsFollowed, if_read, is_too_short, with_anchor}
-use Rattle.yp_registry.specs.Registry.{Subscriptions, Reason, Fails, first_refusal, reasons_against, or_refused, lacks_room, no_subscriptions, most_feeds, last_id, next_id, feeds, asked_for, terms_for, with_terms, established, after_refusal, establish_answer, IsRegistryOf}
+use Rattle.yp_terms.specs.declared.ask.Ask.{Ask}
+use Rattle.yp_terms.specs.declared.refused.Refused.{Refused}
+use Rattle.yp_terms.specs.declared.refused.Refused.TheVariants.{AccessDenied, EncodingUnsupported, DatastoreNotSubscribable, FilterUnsupported, PeriodUnsupported, NoSuchSubscription, OnChangeSyncUnsupported, InvalidTrigger, InvalidId, InvalidReceiver, InsufficientResources, Memory}
+use Rattle.yp_terms.specs.declared.ask.FilterAsk.{FilterAsk}
+use Rattle.yp_terms.specs.Terms.{Terms, AreTermsOf, HasAnchor, IsFollowed, if_read, is_too_short, with_anchor, asked_for}
+use Rattle.yp_terms.specs.Refusals.{Reason, first_refusal, or_refused, Fails}
+use Rattle.yp_registry.specs.Registry.{Subscriptions, reasons_against, lacks_room, no_subscriptions, most_feeds, last_id, next_id, feeds, terms_for, with_terms, established, after_refusal, establish_answer, IsRegistryOf}
 use Rattle.yp_registry.proofs.Feeds.{feeds_pushed}
 
 -- ---- answers

@@ -5,15 +5,17 @@ use Rattle.std.proofs.lemmas.Bool.{or_parts, not-false}
 use Rattle.yp_nacm.specs.declared.policy.Policy.{Policy}
 use Rattle.yp_schema.specs.declared.schema.SchemaNode.{SchemaNode}
 use Rattle.yp_time.specs.Ticks.{tick_limit}
-use Rattle.yp_registry.specs.declared.ask.Amend.{Amend}
-use Rattle.yp_registry.specs.declared.ask.Ask.{Ask}
-use Rattle.yp_registry.specs.declared.refused.Refused.{Refused}
+use Rattle.yp_terms.specs.declared.ask.Amend.{Amend}
+use Rattle.yp_terms.specs.declared.ask.Ask.{Ask}
+use Rattle.yp_terms.specs.declared.refused.Refused.{Refused}
 use Rattle.yp_base.specs.declared.notice.Trigger.{Trigger}
 use Rattle.yp_filter.specs.Filters.{Asked}
-use Rattle.yp_registry.specs.Terms.{Terms, HasAnchor, is_too_short, with_anchor}
-use Rattle.yp_registry.specs.Registry.{Subscriptions, IsRegistryOf, asked_for, first_refusal, live_at, or_refused}
-use Rattle.yp_registry.specs.Calls.{delete_answer, delete_reasons, done_unless, has_sync, if_meant, is_established_by, kill_answer, kill_reasons, lacks_sync, left_unless, resync_answer, resync_reasons, unconfigure_answer, unconfigure_reasons, with_end}
-use Rattle.yp_registry.specs.Amending.{HasGivenAnchor, amended_terms, with_given, given_filter, is_given_short, is_other_kind, modified_by, modify_answer, modify_reasons, reconfigure_answer, reconfigure_reasons, reconfigured, with_change}
+use Rattle.yp_terms.specs.Terms.{Terms, HasAnchor, is_too_short, with_anchor, asked_for, is_established_by, has_sync}
+use Rattle.yp_terms.specs.Refusals.{first_refusal, or_refused}
+use Rattle.yp_registry.specs.Registry.{Subscriptions, IsRegistryOf, live_at}
+use Rattle.yp_registry.specs.Calls.{delete_answer, delete_reasons, done_unless, if_meant, kill_answer, kill_reasons, lacks_sync, left_unless, resync_answer, resync_reasons, unconfigure_answer, unconfigure_reasons, with_end}
+use Rattle.yp_terms.specs.Amends.{given_filter, is_given_short, HasGivenAnchor, is_other_kind, with_given, amended_terms}
+use Rattle.yp_registry.specs.Amending.{modified_by, modify_answer, modify_reasons, reconfigure_answer, reconfigure_reasons, reconfigured, with_change}
 use Rattle.yp_registry.specs.Configuring.{configure_answer, configure_reasons, configured_terms, exceeds_feeds, is_configurable, is_id_taken, newly_configured, numbers_named, with_configured}
 use Rattle.yp_registry.specs.Ids.{HasRisingIds}
 use Rattle.yp_registry.proofs.Establishing.{AskedFiltersFit, none_holds, not_refused}

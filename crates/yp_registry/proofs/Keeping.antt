@@ -14,13 +14,14 @@ use Rattle.yp_filter.specs.Filters.{Asked}
 use Rattle.yp_filter.specs.Fits.{filter_fits}
 use Rattle.yp_schema.specs.declared.schema.SchemaNode.{SchemaNode}
 use Rattle.yp_time.specs.Ticks.{tick_limit}
-use Rattle.yp_registry.specs.declared.ask.Amend.{Amend}
-use Rattle.yp_registry.specs.declared.ask.Ask.{Ask}
-use Rattle.yp_registry.specs.declared.ask.FilterAsk.{FilterAsk}
-use Rattle.yp_registry.specs.Terms.{Terms, AreTermsOf, HasAnchor, IsFollowed, is_too_short}
+use Rattle.yp_terms.specs.declared.ask.Amend.{Amend}
+use Rattle.yp_terms.specs.declared.ask.Ask.{Ask}
+use Rattle.yp_terms.specs.declared.ask.FilterAsk.{FilterAsk}
+use Rattle.yp_terms.specs.Terms.{Terms, AreTermsOf, HasAnchor, IsFollowed, is_too_short}
 use Rattle.yp_registry.specs.Registry.{Subscriptions, IsRegistryOf, feeds, most_feeds, next_id}
 use Rattle.yp_registry.specs.Calls.{with_end, live_without}
-use Rattle.yp_registry.specs.Amending.{HasGivenAnchor, amended_terms, amended_trigger, changed_terms, given_filter, has_period, is_given_short, with_change}
+use Rattle.yp_terms.specs.Amends.{given_filter, is_given_short, HasGivenAnchor, amended_trigger, amended_terms}
+use Rattle.yp_registry.specs.Amending.{changed_terms, with_change}
 use Rattle.yp_registry.specs.Configuring.{configured_terms, exceeds_feeds, in_order, is_asked, is_configurable, is_id_taken, numbers_named, with_configured}
 use Rattle.yp_registry.specs.Ids.{HasRisingIds}
 use Rattle.yp_registry.proofs.Establishing.{AskedFiltersFit, followed}
@@ -102,14 +103,6 @@ followed_amended now (Some (Periodic period anchored)) (OnChange dampening sync 
 followed_amended now (Some (OnChange dampening sync excluded)) (Periodic period (Some anchored)) long anchor late is = is
 followed_amended now (Some (OnChange dampening sync excluded)) (Periodic period None) long anchor late is = is
 followed_amended now (Some (OnChange dampening sync excluded)) (OnChange before had kinds) long anchor late is = is
-
--- and it stays of its kind
-pub kind_stays : (now : ℕ) (given : Option Trigger) (kept : Trigger) → has_period (amended_trigger now given kept) ≡ has_period kept
-kind_stays now None kept = refl
-kind_stays now (Some (Periodic period anchored)) (Periodic before had) = refl
-kind_stays now (Some (Periodic period anchored)) (OnChange dampening sync excluded) = refl
-kind_stays now (Some (OnChange dampening sync excluded)) (Periodic period anchored) = refl
-kind_stays now (Some (OnChange dampening sync excluded)) (OnChange before had kinds) = refl
 
 module _ (fit : AskedFiltersFit) (nodes : List SchemaNode) (registry : Subscriptions) (amend : Amend) (now : ℕ) where
   amended_fits : is_given_short amend.trigger ≡ false → HasGivenAnchor amend.trigger → now ≤ tick_limit → (terms : Terms) → AreTermsOf nodes (length registry.users) terms → AreTermsOf nodes (length registry.users) (amended_terms nodes amend now terms)

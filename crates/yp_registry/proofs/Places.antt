@@ -3,7 +3,7 @@ use Rattle.std.proofs.Common.{◌≡◌, ℕ, suc, ◌+◌, ◌<◌, ◌≤◌, 
 use Rattle.std.specs.Prelude.{cond, nat_eq, nat_lt}
 use Rattle.std.specs.List.{insert, position, position_or_len}
 use Rattle.std.proofs.lemmas.Bool.{ltb-true, ltb-false}
-use Rattle.yp_registry.specs.Terms.{Terms}
+use Rattle.yp_terms.specs.Terms.{Terms}
 use Rattle.yp_registry.specs.Amending.{changed_terms}
 use Rattle.yp_registry.specs.Configuring.{in_order}
 

@@ -8,10 +8,11 @@ use Rattle.std.proofs.lemmas.List.{get_or_append_left, length_push, map-append}
 use Rattle.std.proofs.lemmas.List.Elements.{All-map, All-push, All-tail, All-weaker}
 use Rattle.yp_nacm.specs.declared.policy.Policy.{Policy}
 use Rattle.yp_schema.specs.declared.schema.SchemaNode.{SchemaNode}
-use Rattle.yp_registry.specs.declared.ask.Ask.{Ask}
-use Rattle.yp_registry.specs.declared.refused.Refused.{Refused}
-use Rattle.yp_registry.specs.Terms.{Terms}
-use Rattle.yp_registry.specs.Registry.{Subscriptions, no_subscriptions, live_at, next_id, first_refusal, reasons_against, or_refused, terms_for, with_terms, after_refusal, established, establish_answer}
+use Rattle.yp_terms.specs.declared.ask.Ask.{Ask}
+use Rattle.yp_terms.specs.declared.refused.Refused.{Refused}
+use Rattle.yp_terms.specs.Terms.{Terms}
+use Rattle.yp_terms.specs.Refusals.{first_refusal, or_refused}
+use Rattle.yp_registry.specs.Registry.{Subscriptions, no_subscriptions, live_at, next_id, reasons_against, terms_for, with_terms, after_refusal, established, establish_answer}
 use Rattle.yp_registry.specs.Configuring.{is_configurable, is_id_taken}
 use Rattle.yp_registry.specs.Ids.{HasRisingIds}
 use Rattle.yp_registry.proofs.Establishing.{not_refused, given_state}

@@ -1,16 +1,14 @@
 -- What each further call is refused for, and what it leaves (RFC 8639 sections 2.4.4, 2.4.5 and 2.5.4, RFC 8641 sections 4.4.3 and 4.4.4).
-use Rattle.std.specs.Prelude.{ℕ, ◌==◌, List, [], ◌∷◌, filter, Bool, true, false, not, ◌&&◌, nat_eq, Option, Some, None, is_none, Result, if◌then◌else◌}
-use Rattle.std.specs.List.{list_any}
-use Rattle.yp_base.specs.declared.notice.Trigger.{Trigger}
-use Rattle.yp_base.specs.declared.notice.Trigger.TheVariants.{Periodic, OnChange}
+use Rattle.std.specs.Prelude.{ℕ, List, [], ◌∷◌, filter, Bool, true, false, not, nat_eq, Option, Some, None, Result, if◌then◌else◌}
 use Rattle.yp_nacm.specs.declared.policy.Policy.{Policy}
 use Rattle.yp_nacm.specs.declared.execute.Operation.{Operation}
 use Rattle.yp_nacm.specs.declared.execute.Operation.TheVariants.{Delete, Kill, Resync}
 use Rattle.yp_nacm.specs.Decision.{may_call}
-use Rattle.yp_registry.specs.declared.refused.Refused.{Refused}
-use Rattle.yp_registry.specs.declared.refused.Refused.TheVariants.{AccessDenied, NoSuchSubscription, OnChangeSyncUnsupported}
-use Rattle.yp_registry.specs.Terms.{Terms}
-use Rattle.yp_registry.specs.Registry.{Subscriptions, Reason, first_refusal, live_at, or_refused, user_at}
+use Rattle.yp_terms.specs.declared.refused.Refused.{Refused}
+use Rattle.yp_terms.specs.declared.refused.Refused.TheVariants.{AccessDenied, OnChangeSyncUnsupported}
+use Rattle.yp_terms.specs.Terms.{Terms, has_sync, is_established_by}
+use Rattle.yp_terms.specs.Refusals.{Reason, first_refusal, missing, or_refused}
+use Rattle.yp_registry.specs.Registry.{Subscriptions, live_at, user_at}
 
 -- ---- which subscription a call is about
 
@@ -18,10 +16,6 @@ use Rattle.yp_registry.specs.Registry.{Subscriptions, Reason, first_refusal, liv
 abbrev pub if_meant : (Terms → Bool) → Option Terms → Option Terms
 if_meant is_meant None = None
 if_meant is_meant (Some terms) = if is_meant terms then Some terms else None
-
--- whether the receiver of this number established a subscription: one receiver is one session
-abbrev pub is_established_by : ℕ → Terms → Bool
-is_established_by by terms = not terms.configured && list_any (λ receiver. receiver == by) terms.receivers
 
 -- the live subscription of an id that the receiver of this number established, where there is one
 abbrev pub own_at : ℕ → ℕ → List Terms → Option Terms
@@ -40,15 +34,6 @@ configured_at id live = if_meant (λ terms. terms.configured) (live_at id live)
 -- the receiver's user may not call the operation (RFC 8341 section 3.4.4)
 abbrev pub denied : Policy → Subscriptions → ℕ → Operation → Reason
 denied policy registry by operation = (not (may_call policy (user_at registry.users by) operation), AccessDenied)
-
--- no live subscription of the id is one that the call may be about; a call to synchronise again has a refusal of its own
-abbrev pub missing : Bool → Option Terms → Reason
-missing resync found = (is_none found, NoSuchSubscription resync)
-
--- whether a trigger is on change with a full update at first (sync-on-start of RFC 8641 section 3.1)
-abbrev pub has_sync : Trigger → Bool
-has_sync (Periodic period anchor) = false
-has_sync (OnChange dampening sync excluded) = sync
 
 -- whether a subscription is there that can't be synchronised again: it is periodic, or without a full update at first
 abbrev pub lacks_sync : Option Terms → Bool

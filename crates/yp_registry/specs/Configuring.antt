@@ -3,11 +3,12 @@ use Rattle.std.specs.Prelude.{ℕ, ◌+◌, ◌==◌, List, [], ◌∷◌, ◌++
 use Rattle.std.specs.List.{list_all, list_any, range_with_len, slice_get}
 use Rattle.yp_base.specs.Types.{is_among}
 use Rattle.yp_schema.specs.declared.schema.SchemaNode.{SchemaNode}
-use Rattle.yp_registry.specs.declared.ask.Ask.{Ask}
-use Rattle.yp_registry.specs.declared.refused.Refused.{Refused}
-use Rattle.yp_registry.specs.declared.refused.Refused.TheVariants.{EncodingUnsupported, DatastoreNotSubscribable, FilterUnsupported, PeriodUnsupported, InvalidId, InvalidReceiver, InsufficientResources}
-use Rattle.yp_registry.specs.Terms.{Terms, asked_by, is_json, is_operational, is_too_short, shortest_period, with_anchor}
-use Rattle.yp_registry.specs.Registry.{Subscriptions, Reason, asked_for, feeds, first_refusal, most_feeds, next_id}
+use Rattle.yp_terms.specs.declared.ask.Ask.{Ask}
+use Rattle.yp_terms.specs.declared.refused.Refused.{Refused}
+use Rattle.yp_terms.specs.declared.refused.Refused.TheVariants.{EncodingUnsupported, DatastoreNotSubscribable, FilterUnsupported, PeriodUnsupported, InvalidId, InvalidReceiver, InsufficientResources}
+use Rattle.yp_terms.specs.Terms.{Terms, asked_by, asked_for, is_json, is_operational, is_too_short, shortest_period, with_anchor}
+use Rattle.yp_terms.specs.Refusals.{Reason, first_refusal}
+use Rattle.yp_registry.specs.Registry.{Subscriptions, feeds, most_feeds, next_id}
 use Rattle.yp_registry.specs.Calls.{done_unless, left_unless}
 
 -- ---- ids

@@ -1,7 +1,7 @@
 -- Ids of subscriptions: they rise, and those that are configured stay taken (RFC 8639 sections 2.4.2 and 2.5).
 use Rattle.std.specs.Prelude.{◌≡◌, ◌<◌, map, true, All}
 use Rattle.std.specs.List.Sorted.{IsStrictlyIncreasing}
-use Rattle.yp_registry.specs.Terms.{Terms}
+use Rattle.yp_terms.specs.Terms.{Terms}
 use Rattle.yp_registry.specs.Registry.{Subscriptions, next_id}
 use Rattle.yp_registry.specs.Configuring.{is_configurable, is_id_taken}
 

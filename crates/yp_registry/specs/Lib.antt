@@ -1,4 +1,3 @@
-pub mod Terms
 pub mod Registry
 pub mod Calls
 pub mod Amending

@@ -2,15 +2,14 @@
 use Rattle.std.specs.Prelude.{◌≡◌, ℕ, ◌+◌, ◌≤◌, List, [], ◌∷◌, ◌++◌, length, find, sum_by, Bool, false, not, ◌||◌, nat_lt, nat_eq, Option, Some, None, is_none, unwrap_or, Result, Ok, Err, if◌then◌else◌}
 use Rattle.std.specs.List.{AllByRecursion, slice_get}
 use Rattle.yp_schema.specs.declared.schema.SchemaNode.{SchemaNode}
-use Rattle.yp_filter.specs.Filters.{Asked, all_rows}
 use Rattle.yp_nacm.specs.declared.policy.Policy.{Policy}
 use Rattle.yp_nacm.specs.declared.execute.Operation.TheVariants.{Establish}
 use Rattle.yp_nacm.specs.Decision.{may_call}
-use Rattle.yp_registry.specs.declared.ask.Ask.{Ask}
-use Rattle.yp_registry.specs.declared.ask.FilterAsk.{FilterAsk}
-use Rattle.yp_registry.specs.declared.refused.Refused.{Refused}
-use Rattle.yp_registry.specs.declared.refused.Refused.TheVariants.{AccessDenied, EncodingUnsupported, DatastoreNotSubscribable, FilterUnsupported, PeriodUnsupported, NoSuchSubscription, OnChangeSyncUnsupported, InvalidTrigger, InvalidId, InvalidReceiver, InsufficientResources, Memory}
-use Rattle.yp_registry.specs.Terms.{Terms, AreTermsOf, is_json, is_operational, asked_by, is_too_short, shortest_period, with_anchor}
+use Rattle.yp_terms.specs.declared.ask.Ask.{Ask}
+use Rattle.yp_terms.specs.declared.refused.Refused.{Refused}
+use Rattle.yp_terms.specs.declared.refused.Refused.TheVariants.{AccessDenied, EncodingUnsupported, DatastoreNotSubscribable, FilterUnsupported, PeriodUnsupported, InsufficientResources}
+use Rattle.yp_terms.specs.Terms.{Terms, AreTermsOf, asked_by, asked_for, is_json, is_operational, is_too_short, shortest_period, with_anchor}
+use Rattle.yp_terms.specs.Refusals.{Fails, Reason, first_refusal, or_refused}
 
 -- the users and the names of the receivers, in the order of their declaration, how many ids were given to dynamic subscriptions so far, the ids that were configured so far, and the live subscriptions, in ascending order of their ids
 pub record Subscriptions : Type 0 where
@@ -62,15 +61,6 @@ free_id registry = if lacks_room registry 1 then None else Some (next_id registr
 
 -- ---- refusals
 
--- a reason to refuse a call, and whether it holds
-abbrev pub Reason : Type 0
-Reason = Bool × Refused
-
--- the refusal of the first reason that holds
-abbrev pub first_refusal : List Reason → Option Refused
-first_refusal [] = None
-first_refusal (reason ∷ reasons) = if reason.0 then Some reason.1 else first_refusal reasons
-
 -- the reasons to refuse the establishment of a subscription (RFC 8639 section 2.4.2, RFC 8641 section 4.4.1), in their order
 abbrev pub reasons_against : List SchemaNode → Policy → Subscriptions → ℕ → Ask → List Reason
 reasons_against nodes policy registry by ask =
@@ -83,10 +73,6 @@ reasons_against nodes policy registry by ask =
     ∷ []
 
 -- ---- calls
-
--- what the filter that is given says
-abbrev pub asked_for : List SchemaNode → FilterAsk → Asked
-asked_for nodes filter = unwrap_or (asked_by nodes filter) all_rows
 
 -- the terms that a receiver is given
 abbrev pub terms_for : List SchemaNode → Subscriptions → ℕ → Ask → ℕ → Terms
@@ -107,11 +93,6 @@ abbrev pub after_refusal : Option Refused → Subscriptions → Terms → Subscr
 after_refusal (Some refusal) registry terms = registry
 after_refusal None registry terms = with_terms registry terms
 
--- a refusal where there is one, and else what is given
-abbrev pub or_refused : {X : Type 0} → Option Refused → X → Result X Refused
-or_refused (Some refusal) given = Err refusal
-or_refused None given = Ok given
-
 -- the registry after the establishment of a subscription by the receiver of this number at this tick, and the answer
 abbrev pub established : List SchemaNode → Policy → Subscriptions → ℕ → Ask → ℕ → Subscriptions
 established nodes policy registry by ask now = after_refusal (first_refusal (reasons_against nodes policy registry by ask)) registry (terms_for nodes registry by ask now)
@@ -120,26 +101,6 @@ abbrev pub establish_answer : List SchemaNode → Policy → Subscriptions → �
 establish_answer nodes policy registry by ask now = or_refused (first_refusal (reasons_against nodes policy registry by ask)) (terms_for nodes registry by ask now).id
 
 -- ---- what a call answers
-
--- a refusal that is answered is the definition's, but where memory ran out
-abbrev pub Fails : {X : Type 0} → Refused → Result X Refused → Type 0
-Fails AccessDenied answer = answer ≡ Err AccessDenied
-Fails EncodingUnsupported answer = answer ≡ Err EncodingUnsupported
-Fails DatastoreNotSubscribable answer = answer ≡ Err DatastoreNotSubscribable
-Fails FilterUnsupported answer = answer ≡ Err FilterUnsupported
-Fails (PeriodUnsupported hint) answer = answer ≡ Err (PeriodUnsupported hint)
-Fails (NoSuchSubscription resync) answer = answer ≡ Err (NoSuchSubscription resync)
-Fails OnChangeSyncUnsupported answer = answer ≡ Err OnChangeSyncUnsupported
-Fails InvalidTrigger answer = answer ≡ Err InvalidTrigger
-Fails InvalidId answer = answer ≡ Err InvalidId
-Fails InvalidReceiver answer = answer ≡ Err InvalidReceiver
-Fails InsufficientResources answer = answer ≡ Err InsufficientResources
-Fails Memory answer = Unit {0}
-
--- what is answered says what the definition gives
-abbrev pub Gives : {A X : Type 0} → (A → X) → Result A Refused → Result X Refused → Type 0
-Gives says (Ok a) answer = answer ≡ Ok (says a)
-Gives says (Err refusal) answer = Fails refusal answer
 
 -- an answer of a call is the definition's, but where memory ran out
 abbrev pub Answers : Result ℕ Refused → Result ℕ Refused → Type 0

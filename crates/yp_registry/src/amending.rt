@@ -1,49 +1,22 @@
 //! The calls that amend a live subscription (RFC 8639 sections 2.4.3 and 2.5.3, RFC 8641 section 4.4.2).
 ghost use Rattle.std.specs.Prelude.{◌≡◌, ◌<◌, ◌≤◌, length, option_copied, option_map, OnErr, OnOk};
 ghost use Rattle.yp_filter.specs.View.{filter_view};
-ghost use Rattle.yp_registry.specs.Amending.{HasGivenAnchor, amend_reasons, given_filter, modified_by, modify_answer, modify_reasons, reconfigure_answer, reconfigure_reasons, reconfigured};
-ghost use Rattle.yp_registry.specs.Registry.{Gives, IsRegistryOf, first_refusal, or_refused};
+ghost use Rattle.yp_terms.specs.Amends.{given_filter, HasGivenAnchor, amend_reasons};
+ghost use Rattle.yp_registry.specs.Amending.{modified_by, modify_answer, modify_reasons, reconfigure_answer, reconfigure_reasons, reconfigured};
+ghost use Rattle.yp_terms.specs.Refusals.{first_refusal, or_refused, Gives};
+ghost use Rattle.yp_registry.specs.Registry.{IsRegistryOf};
 ghost use Rattle.yp_time.specs.Ticks.{tick_limit};
 
-use crate::ask::Amend;
 use crate::laws::an_amendment_keeps_a_registry;
-use crate::reasons::{SHORTEST_PERIOD, is_given_short, is_other_kind, read_given};
-use crate::refused::Refused;
 use crate::registry::Registry;
-use crate::terms::Terms;
 use std::alloc::Global;
 use yp_filter::filter::Filter;
 use yp_nacm::execute::{Operation, may_exec};
 use yp_nacm::policy::Policy;
 use yp_schema::schema::Schema;
-
-/// The filter that the subscription that was found is amended with, where one is given, or the first reason
-/// to refuse the amendment.
-fn admit(
-    alloc: Global,
-    schema: &Schema,
-    amend: &Amend,
-    found: Option<&Terms>,
-) -> Result<Option<Filter>, Refused>
-    ensures { Gives (λ filter. option_map filter_view filter) result (or_refused (first_refusal (amend_reasons schema.now amend.now (option_copied found.entry))) (given_filter schema.now amend.now.filter)) }
-{
-    let filter = read_given(alloc, schema, &amend.filter)?;
-    if is_given_short(&amend.trigger) {
-        return Err(Refused::PeriodUnsupported {
-            hint: SHORTEST_PERIOD,
-        });
-    }
-    match found {
-        None => Err(Refused::NoSuchSubscription { resync: false }),
-        Some(terms) => {
-            if is_other_kind(&amend.trigger, terms) {
-                Err(Refused::InvalidTrigger)
-            } else {
-                Ok(filter)
-            }
-        }
-    }
-}
+use yp_terms::ask::Amend;
+use yp_terms::reasons::admit_amendment;
+use yp_terms::refused::Refused;
 
 impl Registry {
     /// The filter that a modification gives, or the first reason to refuse it.
@@ -62,7 +35,7 @@ impl Registry {
         if !may_exec(policy, self.user(by), Operation::Modify) {
             return Err(Refused::AccessDenied);
         }
-        admit(alloc, schema, amend, self.own_at(by, id))
+        admit_amendment(alloc, schema, amend, self.own_at(by, id))
     }
 
     /// Modifies a subscription of the receiver of this number at this tick (RFC 8639 section 2.4.3, RFC 8641
@@ -106,7 +79,7 @@ impl Registry {
     ) -> Result<Option<Filter>, Refused>
         ensures { Gives (λ filter. option_map filter_view filter) result (or_refused (first_refusal (reconfigure_reasons schema.now self.now id amend.now)) (given_filter schema.now amend.now.filter)) }
     {
-        admit(alloc, schema, amend, self.configured_at(id))
+        admit_amendment(alloc, schema, amend, self.configured_at(id))
     }
 
     /// Modifies a configured subscription at this tick (RFC 8639 section 2.5.3). What is given is taken as by

@@ -5,11 +5,11 @@ ghost use Rattle.yp_schema.specs.declared.schema.SchemaNode.{SchemaNode};
 ghost use Rattle.yp_registry.specs.Calls.{delete_answer, deleted_by, kill_answer, killed_by, resync_answer, unconfigure_answer, unconfigured};
 ghost use Rattle.yp_registry.specs.Registry.{IsRegistryOf};
 
-use crate::refused::Refused;
 use crate::registry::Registry;
-use crate::triggers::has_sync;
 use yp_nacm::execute::{Operation, may_exec};
 use yp_nacm::policy::Policy;
+use yp_terms::refused::Refused;
+use yp_terms::triggers::has_sync;
 
 impl Registry {
     /// Ends a subscription of the receiver of this number (RFC 8639 section 2.4.4). The call is refused where

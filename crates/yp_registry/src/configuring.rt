@@ -3,33 +3,67 @@ ghost use Rattle.std.specs.Prelude.{◌≡◌, ◌<◌, ◌≤◌, ◌^◌, ℕ,
 ghost use Rattle.std.specs.List.{slice_get};
 ghost use Rattle.yp_filter.specs.Filters.{Asked};
 ghost use Rattle.yp_filter.specs.View.{filter_view};
-ghost use Rattle.yp_registry.specs.Configuring.{configure_answer, configure_reasons, is_asked, newly_configured, numbers_named};
-ghost use Rattle.yp_registry.specs.Registry.{Gives, IsRegistryOf, asked_for, first_refusal, or_refused};
-ghost use Rattle.yp_registry.specs.Terms.{HasAnchor};
+ghost use Rattle.yp_base.specs.Types.{is_among};
+ghost use Rattle.yp_registry.specs.Configuring.{are_declared, configure_answer, configure_reasons, is_asked, is_configurable, newly_configured, numbers_named};
+ghost use Rattle.yp_terms.specs.Refusals.{first_refusal, or_refused, Gives};
+ghost use Rattle.yp_terms.specs.Terms.{asked_for, HasAnchor};
+ghost use Rattle.yp_registry.specs.Registry.{IsRegistryOf};
 ghost use Rattle.yp_time.specs.Ticks.{tick_limit};
 
-use crate::ask::Ask;
 use crate::laws::a_configuration_keeps_a_registry;
-use crate::reasons::{
-    SHORTEST_PERIOD, are_declared, are_too_many, is_among, is_configurable, is_json,
-    is_operational, is_too_short, read_filter,
-};
-use crate::refused::Refused;
+use crate::live::are_too_many;
 use crate::registry::Registry;
-use crate::terms::Terms;
-use crate::triggers::with_anchor;
 use std::alloc::Global;
 use yp_base::memory::NoMemory;
 use yp_base::series::Series;
 use yp_base::txt::Txt;
 use yp_filter::filter::Filter;
 use yp_schema::schema::Schema;
+use yp_terms::ask::Ask;
+use yp_terms::reasons::{SHORTEST_PERIOD, is_json, is_operational, is_too_short, read_filter};
+use yp_terms::refused::Refused;
+use yp_terms::terms::Terms;
+use yp_terms::triggers::with_anchor;
+
+/// The last id of configured subscriptions.
+const LAST_CONFIGURED_ID: u32 = 2147483647;
 
 /// What a configured subscription is admitted with: the numbers of its receivers, and its filter.
 #[derive(Drop)]
 struct Granted {
     numbers: Series<u32>,
     filter: Filter,
+}
+
+/// Whether an id is one of configured subscriptions.
+fn is_configurable(id: u32) -> bool
+    ensures { result ≡ is_configurable id }
+{
+    0 < id && id <= LAST_CONFIGURED_ID
+}
+
+/// Whether a text is among others.
+fn is_among(text: &str, others: &[Txt]) -> bool
+    ensures { result ≡ is_among text.now others.now }
+{
+    for other in others {
+        if text == other.as_str() {
+            return true;
+        }
+    }
+    false
+}
+
+/// Whether all these are names of receivers.
+fn are_declared(names: &[Txt], asked: &[Txt]) -> bool
+    ensures { result ≡ are_declared names.now asked.now }
+{
+    for name in asked {
+        if !is_among(name.as_str(), names) {
+            return false;
+        }
+    }
+    true
 }
 
 /// Whether the receiver of this number has one of the names that are asked for.

@@ -3,15 +3,16 @@ ghost use Rattle.std.specs.Prelude.{◌≡◌, ◌≢◌, ◌+◌, ◌<◌, ◌�
 ghost use Rattle.yp_base.specs.declared.notice.Trigger.{Trigger};
 ghost use Rattle.yp_nacm.specs.declared.policy.Policy.{Policy};
 ghost use Rattle.yp_schema.specs.declared.schema.SchemaNode.{SchemaNode};
-ghost use Rattle.yp_registry.specs.declared.ask.Amend.{Amend};
-ghost use Rattle.yp_registry.specs.declared.ask.Ask.{Ask};
-ghost use Rattle.yp_registry.specs.declared.refused.Refused.{Refused};
-ghost use Rattle.yp_registry.specs.Amending.{HasGivenAnchor, amended_terms, amended_trigger, changed_terms, has_period, is_other_kind, modified_by, modify_answer, reconfigure_answer, reconfigured};
-ghost use Rattle.yp_registry.specs.Calls.{delete_answer, deleted_by, done_unless, has_sync, is_established_by, kill_answer, killed_by, left_unless, resync_answer, unconfigure_answer, unconfigured, live_without};
+ghost use Rattle.yp_terms.specs.declared.ask.Amend.{Amend};
+ghost use Rattle.yp_terms.specs.declared.ask.Ask.{Ask};
+ghost use Rattle.yp_terms.specs.declared.refused.Refused.{Refused};
+ghost use Rattle.yp_terms.specs.Amends.{HasGivenAnchor, is_other_kind, amended_trigger, amended_terms};
+ghost use Rattle.yp_terms.specs.Terms.{has_period, is_established_by, has_sync, HasAnchor, Terms};
+ghost use Rattle.yp_registry.specs.Amending.{changed_terms, modified_by, modify_answer, reconfigure_answer, reconfigured};
+ghost use Rattle.yp_registry.specs.Calls.{delete_answer, deleted_by, done_unless, kill_answer, killed_by, left_unless, resync_answer, unconfigure_answer, unconfigured, live_without};
 ghost use Rattle.yp_registry.specs.Configuring.{configure_answer, in_order, is_id_taken, newly_configured};
 ghost use Rattle.yp_registry.specs.Ids.{HasRisingIds};
 ghost use Rattle.yp_registry.specs.Registry.{IsRegistryOf, Subscriptions, establish_answer, established, live_at, next_id, no_subscriptions, terms_for};
-ghost use Rattle.yp_registry.specs.Terms.{HasAnchor, Terms};
 ghost use Rattle.yp_time.specs.Ticks.{tick_limit};
 
 use yp_filter::laws::a_filter_that_is_read_fits;
@@ -161,11 +162,6 @@ pub fn an_amendment_changes_one_subscription()
         → live_at id (changed_terms id (amended_terms nodes amend now) live) ≡ option_map (amended_terms nodes amend now) (live_at id live) }
     ensures others { (nodes : List SchemaNode) (amend : Amend) (now id other : ℕ) (live : List Terms)
         → other ≢ id → live_at other (changed_terms id (amended_terms nodes amend now) live) ≡ live_at other live }
-{}
-
-/// A trigger stays periodic or on change, whatever is given.
-pub fn an_amendment_leaves_the_kind_of_a_trigger()
-    ensures { (now : ℕ) (given : Option Trigger) (kept : Trigger) → has_period (amended_trigger now given kept) ≡ has_period kept }
 {}
 
 /// By the id of a subscription that has ended none is found, and by each other id what was found before.

@@ -1,16 +1,38 @@
-//! Lists of live subscriptions: what is put into one, changed there and taken away.
-ghost use Rattle.std.specs.Prelude.{◌≡◌, ◌≤◌, nat_eq, nat_lt, option_map, OnErr, OnOk};
+//! Lists of live subscriptions: how many feeds they have, and what is put into one, changed there and taken
+//! away.
+ghost use Rattle.std.specs.Prelude.{◌≡◌, ◌+◌, ◌≤◌, length, nat_eq, nat_lt, option_map, OnErr, OnOk};
 ghost use Rattle.std.specs.List.{position};
 ghost use Rattle.yp_filter.specs.View.{filter_view};
-ghost use Rattle.yp_registry.specs.Amending.{with_given, changed_terms};
+ghost use Rattle.yp_terms.specs.Amends.{with_given};
+ghost use Rattle.yp_registry.specs.Amending.{changed_terms};
 ghost use Rattle.yp_registry.specs.Calls.{live_without};
 ghost use Rattle.yp_registry.specs.Configuring.{in_order};
+ghost use Rattle.yp_registry.specs.Registry.{feeds, most_feeds};
 ghost use Rattle.yp_time.specs.Ticks.{tick_limit};
 
-use crate::terms::Terms;
 use yp_base::memory::NoMemory;
 use yp_base::notice::Trigger;
 use yp_filter::filter::Filter;
+use yp_terms::terms::Terms;
+
+/// How many feeds may be live: one for each receiver of each live subscription.
+const MOST_FEEDS: usize = 256;
+
+/// Whether so many feeds more than those of live subscriptions are too many.
+#[tactic(auto, using(crate::proofs::Feeds::feeds_from))]
+pub(crate) fn are_too_many(live: &[Terms], new: usize) -> bool
+    ensures { result ≡ nat_lt most_feeds (feeds live.now + new) }
+{
+    let mut room = MOST_FEEDS;
+    for terms in live {
+        let count = terms.receivers().len();
+        if count > room {
+            return true;
+        }
+        room -= count;
+    }
+    new > room
+}
 
 /// The place of the first that has an id.
 fn place_of(live: &[Terms], id: u32) -> Option<usize>

@@ -3,21 +3,17 @@
 ghost use Rattle.std.specs.Prelude.{◌≡◌, ◌+◌, ◌<◌, ◌≤◌, length, option_copied, option_map, true, IfOk, OnErr, OnOk};
 ghost use Rattle.yp_filter.specs.Fits.{filter_fits};
 ghost use Rattle.yp_filter.specs.View.{filter_view};
-ghost use Rattle.yp_registry.specs.Amending.{with_given, with_change};
+ghost use Rattle.yp_terms.specs.Amends.{with_given};
+ghost use Rattle.yp_registry.specs.Amending.{with_change};
 ghost use Rattle.yp_registry.specs.Calls.{configured_at, dynamic_at, own_at, with_end};
 ghost use Rattle.yp_registry.specs.Configuring.{is_id_taken, with_configured};
-ghost use Rattle.yp_registry.specs.Registry.{Answers, Gives, IsRegistryOf, asked_for, establish_answer, established, first_refusal, free_id, last_id, live_at, next_id, no_subscriptions, or_refused, reasons_against, user_at, with_terms};
-ghost use Rattle.yp_registry.specs.Terms.{HasAnchor, with_anchor};
+ghost use Rattle.yp_terms.specs.Refusals.{first_refusal, or_refused, Gives};
+ghost use Rattle.yp_terms.specs.Terms.{asked_for, HasAnchor, with_anchor};
+ghost use Rattle.yp_registry.specs.Registry.{Answers, IsRegistryOf, establish_answer, established, free_id, last_id, live_at, next_id, no_subscriptions, reasons_against, user_at, with_terms};
 ghost use Rattle.yp_time.specs.Ticks.{tick_limit};
 
-use crate::ask::Ask;
 use crate::live;
-use crate::reasons::{
-    SHORTEST_PERIOD, are_too_many, is_json, is_operational, is_too_short, read_filter,
-};
-use crate::refused::Refused;
-use crate::terms::Terms;
-use crate::triggers::with_anchor;
+use crate::live::are_too_many;
 use std::alloc::Global;
 use std::marker::Model;
 use yp_base::leaf_type::Names;
@@ -29,6 +25,11 @@ use yp_filter::filter::Filter;
 use yp_nacm::execute::{Operation, may_exec};
 use yp_nacm::policy::Policy;
 use yp_schema::schema::Schema;
+use yp_terms::ask::Ask;
+use yp_terms::reasons::{SHORTEST_PERIOD, is_json, is_operational, is_too_short, read_filter};
+use yp_terms::refused::Refused;
+use yp_terms::terms::Terms;
+use yp_terms::triggers::with_anchor;
 
 /// The id of the first dynamic subscription; later ones have the numbers that follow.
 const FIRST_ID: u32 = 2147483648;

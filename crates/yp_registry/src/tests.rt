@@ -1,11 +1,9 @@
 //! Ids to the end of their range, which no script and no case of calls reaches, and each further call where it
 //! is done.
 ghost use Rattle.std.specs.Prelude.{IfOk};
-ghost use Rattle.yp_registry.specs.Amending.{HasGivenAnchor};
-ghost use Rattle.yp_registry.specs.Terms.{HasAnchor};
+ghost use Rattle.yp_terms.specs.Amends.{HasGivenAnchor};
+ghost use Rattle.yp_terms.specs.Terms.{HasAnchor};
 
-use crate::ask::{Amend, Ask, FilterAsk};
-use crate::refused::Refused;
 use crate::registry::Registry;
 use std::alloc::Global;
 use std::test::Fail;
@@ -16,6 +14,8 @@ use yp_base::series::Series;
 use yp_base::txt::Txt;
 use yp_nacm::policy::Policy;
 use yp_schema::schema::Schema;
+use yp_terms::ask::{Amend, Ask, FilterAsk};
+use yp_terms::refused::Refused;
 
 // The last id.
 const LAST_ID: u32 = 4294967295;

@@ -20,9 +20,10 @@ use Rattle.yp_edit.specs.Records.{changed_paths, put_paths, touched_paths}
 use Rattle.std.proofs.lemmas.List.Folds.{find-append}
 use Rattle.std.specs.Option.{option_or}
 use Rattle.yp_nacm.specs.Same.{are_same_rules}
-use Rattle.yp_registry.specs.declared.refused.Refused.{Refused}
-use Rattle.yp_registry.specs.Registry.{live_at, after_refusal, first_refusal, reasons_against, terms_for}
-use Rattle.yp_registry.specs.Terms.{Terms}
+use Rattle.yp_terms.specs.declared.refused.Refused.{Refused}
+use Rattle.yp_terms.specs.Refusals.{first_refusal}
+use Rattle.yp_registry.specs.Registry.{live_at, after_refusal, reasons_against, terms_for}
+use Rattle.yp_terms.specs.Terms.{Terms}
 use Rattle.yp_select.specs.Selection.{selection}
 use Rattle.yp_feed.specs.declared.item.Control.TheVariants.{Rules}
 use Rattle.yp_feed.specs.Machine.{FeedState, controlled, is_on_change, restarts, resyncs}

@@ -4,10 +4,10 @@ use Rattle.std.proofs.lemmas.List.{length-map}
 use Rattle.yp_schema.specs.declared.schema.SchemaNode.{SchemaNode}
 use Rattle.yp_schema.specs.Datastore.{IsDatastore}
 use Rattle.yp_nacm.specs.declared.policy.Policy.{Policy}
-use Rattle.yp_registry.specs.declared.ask.Ask.{Ask}
+use Rattle.yp_terms.specs.declared.ask.Ask.{Ask}
 use Rattle.yp_registry.specs.Ids.{HasRisingIds}
 use Rattle.yp_registry.specs.Registry.{IsRegistryOf, Subscriptions, established, no_subscriptions}
-use Rattle.yp_registry.specs.Terms.{HasAnchor}
+use Rattle.yp_terms.specs.Terms.{HasAnchor}
 use Rattle.yp_time.specs.Ticks.{tick_limit}
 use Rattle.yp_journal.specs.declared.command.Command.{Command}
 use Rattle.yp_journal.specs.declared.command.Command.TheVariants.{Tick, Edit, Rules, Establish, Take}

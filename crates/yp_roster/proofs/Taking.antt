@@ -7,11 +7,11 @@ use Rattle.std.proofs.lemmas.List.Elements.{All-tail}
 use Rattle.yp_base.specs.declared.notice.Trigger.{Trigger}
 use Rattle.yp_schema.specs.declared.schema.SchemaNode.{SchemaNode}
 use Rattle.yp_nacm.specs.declared.policy.Policy.{Policy}
-use Rattle.yp_registry.specs.declared.ask.Ask.{Ask}
-use Rattle.yp_registry.specs.declared.refused.Refused.{Refused}
+use Rattle.yp_terms.specs.declared.ask.Ask.{Ask}
+use Rattle.yp_terms.specs.declared.refused.Refused.{Refused}
 use Rattle.yp_registry.specs.Ids.{HasRisingIds}
 use Rattle.yp_registry.specs.Registry.{Subscriptions, establish_answer, established, next_id}
-use Rattle.yp_registry.specs.Terms.{Terms}
+use Rattle.yp_terms.specs.Terms.{Terms}
 use Rattle.yp_feed.specs.Machine.{FeedState, freezes}
 use Rattle.yp_journal.specs.declared.command.Command.{Command}
 use Rattle.yp_journal.specs.declared.command.Command.TheVariants.{Tick, Edit, Rules, Establish, Take}

@@ -9,12 +9,11 @@ use Rattle.yp_filter.specs.Fits.{filter_fits}
 use Rattle.yp_filter.specs.View.{filter_view}
 use Rattle.yp_nacm.specs.declared.compile.UserRules.{UserRules}
 use Rattle.yp_registry.specs.Registry.{live_at}
-use Rattle.yp_registry.specs.Terms.{Terms}
+use Rattle.yp_terms.specs.Terms.{Terms}
 use Rattle.yp_encode.specs.Lines.{patch_data}
 use Rattle.yp_encode.specs.Sendable.{IsSendableChange}
 use Rattle.yp_select.specs.Selection.{selection}
-use Rattle.yp_touch.specs.Absorbed.{EndsAsRow, all_absorbed, paths_of}
-use Rattle.yp_touch.specs.Absorbed.{recorded as record_of_roots}
+use Rattle.yp_touch.specs.Absorbed.{EndsAsRow, all_absorbed, paths_of, recorded as record_of_roots}
 use Rattle.yp_time.specs.Ticks.{tick_limit}
 use Rattle.yp_feed.specs.declared.item.Item.TheVariants.{Changes}
 use Rattle.yp_feed.specs.Machine.{is_on_change, resyncs}

@@ -9,11 +9,10 @@ use Rattle.yp_edit.specs.declared.patch.Patch.{Patch}
 use Rattle.yp_filter.specs.Filters.{Asked}
 use Rattle.yp_filter.specs.View.{filter_view}
 use Rattle.yp_nacm.specs.declared.policy.Policy.{Policy}
-use Rattle.yp_registry.specs.Registry.{live_at}
-use Rattle.yp_registry.specs.Terms.{Terms}
+use Rattle.yp_registry.specs.Registry.{live_at, IsRegistryOf}
+use Rattle.yp_terms.specs.Terms.{Terms}
 use Rattle.yp_registry.specs.Ids.{HasRisingIds}
-use Rattle.yp_registry.specs.Registry.{IsRegistryOf}
-use Rattle.yp_registry.specs.declared.ask.Ask.{Ask}
+use Rattle.yp_terms.specs.declared.ask.Ask.{Ask}
 use Rattle.yp_journal.specs.declared.command.Command.TheVariants.{Edit, Establish, Rules as Policies}
 use Rattle.yp_journal.specs.declared.entry.Entry.{Entry}
 use Rattle.yp_journal.specs.declared.reply.Reply.TheVariants.{Id}

@@ -5,7 +5,7 @@ ghost use Rattle.yp_schema.specs.WellFormed.{IsSchema};
 ghost use Rattle.yp_journal.specs.declared.receiver.ReceiverInfo.{ReceiverInfo};
 ghost use Rattle.yp_journal.specs.History.{JournalState};
 ghost use Rattle.yp_registry.specs.Registry.{live_at};
-ghost use Rattle.yp_registry.specs.Terms.{AreTermsOf};
+ghost use Rattle.yp_terms.specs.Terms.{AreTermsOf};
 ghost use Rattle.yp_moment.specs.Entries.{act_of, starts_with};
 ghost use Rattle.yp_attempt.specs.Moments.{Moment, MayFollow};
 ghost use Rattle.yp_attempt.specs.Tracks.{Answer, Track};
@@ -39,7 +39,7 @@ use yp_journal::state::State;
 use yp_moment::laws::what_feeds_know_of_selections_is_lawful;
 use yp_nacm::laws::same_rules_are_one;
 use yp_registry::laws::an_id_is_given_once;
-use yp_registry::terms::Terms;
+use yp_terms::terms::Terms;
 use yp_touch::laws::absorbed_roots_are_those_of_the_window;
 
 /// The slots of the feeds of some receivers, what those of a class share, and how many of the first ones were

@@ -2,8 +2,8 @@ use Rattle.std.proofs.Common.{◌≡◌, ℕ, List, ◌++◌, sym, ap, ◌∙◌
 use Rattle.std.specs.Prelude.{Result, Ok, Err, OnOk, is_ok, if◌then◌else◌}
 use Rattle.json.specs.Print.{escape_byte}
 use Rattle.serde_json.specs.Written.{compact_text}
-use Rattle.yp_registry.specs.declared.refused.Refused.{Refused}
-use Rattle.yp_registry.specs.declared.refused.Refused.TheVariants.{AccessDenied, DatastoreNotSubscribable}
+use Rattle.yp_terms.specs.declared.refused.Refused.{Refused}
+use Rattle.yp_terms.specs.declared.refused.Refused.TheVariants.{AccessDenied, DatastoreNotSubscribable}
 use Rattle.yp_journal.specs.declared.reply.Reply.TheVariants.{Registry}
 use Rattle.yp_live.specs.Report.{reply_data}
 use Rattle.yp_live.proofs.replies.push_refusal.Goals as goal

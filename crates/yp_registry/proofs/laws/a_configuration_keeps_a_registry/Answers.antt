@@ -1,6 +1,6 @@
 use Rattle.std.proofs.Common.{refl}
 use Rattle.yp_filter.specs.Reading.{filter_in}
-use Rattle.yp_registry.specs.declared.ask.FilterAsk.TheVariants.{All, Subtree, XPath}
+use Rattle.yp_terms.specs.declared.ask.FilterAsk.TheVariants.{All, Subtree, XPath}
 use Rattle.yp_registry.proofs.Establishing.{AskedFiltersFit, read_fits}
 use Rattle.yp_registry.proofs.Further.{configured_keeps}
 use Rattle.yp_registry.proofs.laws.a_configuration_keeps_a_registry.Goals as goal

@@ -1,5 +1,5 @@
 use Rattle.std.proofs.Common.{refl}
-use Rattle.yp_registry.specs.Amending.{amended_terms}
+use Rattle.yp_terms.specs.Amends.{amended_terms}
 use Rattle.yp_registry.proofs.Finding.{found_changed, others_changed}
 use Rattle.yp_registry.proofs.laws.an_amendment_changes_one_subscription.Goals as goal
 

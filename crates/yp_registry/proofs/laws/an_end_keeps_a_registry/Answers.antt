@@ -1,4 +1,4 @@
-use Rattle.yp_registry.specs.Registry.{first_refusal}
+use Rattle.yp_terms.specs.Refusals.{first_refusal}
 use Rattle.yp_registry.specs.Calls.{delete_reasons, kill_reasons, unconfigure_reasons}
 use Rattle.yp_registry.proofs.Further.{end_keeps}
 use Rattle.yp_registry.proofs.laws.an_end_keeps_a_registry.Goals as goal

@@ -1,6 +1,6 @@
 use Rattle.std.proofs.Common.{refl}
 use Rattle.yp_filter.specs.Reading.{filter_in}
-use Rattle.yp_registry.specs.declared.ask.FilterAsk.TheVariants.{All, Subtree, XPath}
+use Rattle.yp_terms.specs.declared.ask.FilterAsk.TheVariants.{All, Subtree, XPath}
 use Rattle.yp_registry.proofs.Establishing.{AskedFiltersFit, first_kept, read_fits, registry_kept}
 use Rattle.yp_registry.proofs.laws.an_establishment_keeps_a_registry.Goals as goal
 

@@ -1,6 +1,8 @@
 use Rattle.std.proofs.Common.{◌≡◌, refl}
-use Rattle.yp_registry.specs.Registry.{Subscriptions, first_refusal}
-use Rattle.yp_registry.specs.Amending.{amended_terms, modify_reasons, reconfigure_reasons, with_change}
+use Rattle.yp_terms.specs.Refusals.{first_refusal}
+use Rattle.yp_registry.specs.Registry.{Subscriptions}
+use Rattle.yp_terms.specs.Amends.{amended_terms}
+use Rattle.yp_registry.specs.Amending.{modify_reasons, reconfigure_reasons, with_change}
 use Rattle.yp_registry.specs.Calls.{delete_reasons, kill_reasons, unconfigure_reasons, with_end}
 use Rattle.yp_registry.specs.Configuring.{configure_reasons, configured_terms, with_configured}
 use Rattle.yp_registry.proofs.Further.{left_is}

@@ -1,4 +1,4 @@
-use Rattle.yp_registry.specs.Registry.{first_refusal}
+use Rattle.yp_terms.specs.Refusals.{first_refusal}
 use Rattle.yp_registry.specs.Amending.{modify_reasons, reconfigure_reasons}
 use Rattle.yp_registry.specs.Calls.{delete_reasons, kill_reasons, unconfigure_reasons}
 use Rattle.yp_registry.proofs.Further.{change_keeps_rising, configured_keeps_rising, end_keeps_rising}

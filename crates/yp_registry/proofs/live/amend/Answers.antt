@@ -1,8 +1,8 @@
 use Rattle.std.proofs.Common.{◌≡◌, Some, None, nat_eq, option_map, slice_set, ap, sym, ◌∙◌}
 use Rattle.std.specs.List.{position}
 use Rattle.yp_filter.specs.View.{filter_view}
-use Rattle.yp_registry.specs.Terms.{Terms}
-use Rattle.yp_registry.specs.Amending.{with_given}
+use Rattle.yp_terms.specs.Terms.{Terms}
+use Rattle.yp_terms.specs.Amends.{with_given}
 use Rattle.yp_registry.proofs.Places.{changed_none, changed_some}
 use Rattle.yp_registry.proofs.live.amend.Goals as goal
 

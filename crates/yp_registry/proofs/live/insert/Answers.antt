@@ -1,6 +1,6 @@
 use Rattle.std.proofs.Common.{◌≡◌, ℕ, List, Option, Some, None, nat_lt, ap, sym, ◌∙◌}
 use Rattle.std.specs.List.{position}
-use Rattle.yp_registry.specs.Terms.{Terms}
+use Rattle.yp_terms.specs.Terms.{Terms}
 use Rattle.yp_registry.proofs.Places.{inserted_none, inserted_some}
 use Rattle.yp_registry.proofs.live.insert.Goals as goal
 

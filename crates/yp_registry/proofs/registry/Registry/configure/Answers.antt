@@ -2,7 +2,8 @@ use Rattle.std.proofs.Common.{ℕ, List, sym, subst}
 use Rattle.std.proofs.lemmas.Result.{err_from_is_err_and}
 use Rattle.yp_filter.specs.Filters.{Asked}
 use Rattle.yp_registry.specs.Configuring.{configure_reasons}
-use Rattle.yp_registry.specs.Registry.{Subscriptions, IsRegistryOf, first_refusal}
+use Rattle.yp_terms.specs.Refusals.{first_refusal}
+use Rattle.yp_registry.specs.Registry.{Subscriptions, IsRegistryOf}
 use Rattle.yp_registry.proofs.Establishing.{fails_alike}
 use Rattle.yp_registry.proofs.Further.{configured_state, done_answer}
 use Rattle.yp_registry.proofs.registry.Registry.configure.Goals as goal

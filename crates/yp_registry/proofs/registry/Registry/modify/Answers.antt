@@ -1,7 +1,8 @@
 use Rattle.std.proofs.Common.{sym, subst}
 use Rattle.std.proofs.lemmas.Result.{err_from_is_err_and}
 use Rattle.yp_registry.specs.Amending.{modify_reasons}
-use Rattle.yp_registry.specs.Registry.{Subscriptions, IsRegistryOf, first_refusal}
+use Rattle.yp_terms.specs.Refusals.{first_refusal}
+use Rattle.yp_registry.specs.Registry.{Subscriptions, IsRegistryOf}
 use Rattle.yp_registry.proofs.Establishing.{fails_alike}
 use Rattle.yp_registry.proofs.Further.{amended_state, done_answer}
 use Rattle.yp_registry.proofs.registry.Registry.modify.Goals as goal

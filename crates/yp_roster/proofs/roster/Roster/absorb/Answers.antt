@@ -1,7 +1,7 @@
 use Rattle.std.proofs.Common.{◌≡◌, List, arith, length, map, refl, ap, sym, subst, ◌∙◌}
 use Rattle.std.specs.List.{AllByRecursion}
 use Rattle.yp_registry.specs.Registry.{Subscriptions, live_at}
-use Rattle.yp_registry.specs.Terms.{AreTermsOf}
+use Rattle.yp_terms.specs.Terms.{AreTermsOf}
 use Rattle.yp_journal.specs.History.{JournalState}
 use Rattle.yp_attempt.specs.Runs.{first_offer}
 use Rattle.yp_moment.specs.Windows.{recorded}

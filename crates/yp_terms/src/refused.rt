@@ -52,7 +52,7 @@ fn ending(resync: bool) -> &'static str {
 
 impl From<NoMemory> for Refused {
     ghost use Rattle.std.specs.Prelude.{◌≡◌};
-    ghost use Rattle.yp_registry.specs.declared.refused.Refused.TheVariants.{Memory};
+    ghost use Rattle.yp_terms.specs.declared.refused.Refused.TheVariants.{Memory};
 
     ghost from_gives = { λ _ e. e ≡ Memory };
 
@@ -63,7 +63,7 @@ impl From<NoMemory> for Refused {
 
 impl From<AllocError> for Refused {
     ghost use Rattle.std.specs.Prelude.{◌≡◌};
-    ghost use Rattle.yp_registry.specs.declared.refused.Refused.TheVariants.{Memory};
+    ghost use Rattle.yp_terms.specs.declared.refused.Refused.TheVariants.{Memory};
 
     ghost from_gives = { λ _ e. e ≡ Memory };
 
@@ -74,7 +74,7 @@ impl From<AllocError> for Refused {
 
 impl<T: Drop> From<AllocFailed<T>> for Refused {
     ghost use Rattle.std.specs.Prelude.{◌≡◌};
-    ghost use Rattle.yp_registry.specs.declared.refused.Refused.TheVariants.{Memory};
+    ghost use Rattle.yp_terms.specs.declared.refused.Refused.TheVariants.{Memory};
 
     ghost from_gives = { λ _ e. e ≡ Memory };
 

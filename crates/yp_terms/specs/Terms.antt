@@ -1,6 +1,6 @@
 -- What a subscription is asked for and what it is given (RFC 8639 section 2.4.2, RFC 8641 section 4.4.1).
-use Rattle.std.specs.Prelude.{◌≡◌, ◌≤◌, ◌<◌, ℕ, ℤ, pos, List, Bool, true, false, ◌||◌, nat_lt, Option, Some, None, Result, Ok, Err, codes}
-use Rattle.std.specs.List.{AllByRecursion}
+use Rattle.std.specs.Prelude.{◌≡◌, ◌≤◌, ◌<◌, ◌==◌, ℕ, ℤ, pos, List, Bool, true, false, not, ◌&&◌, ◌||◌, nat_lt, Option, Some, None, unwrap_or, Result, Ok, Err, codes}
+use Rattle.std.specs.List.{AllByRecursion, list_any}
 use Rattle.std.specs.List.Sorted.{IsStrictlyIncreasing}
 use Rattle.yp_base.specs.declared.notice.Trigger.{Trigger}
 use Rattle.yp_base.specs.declared.notice.Trigger.TheVariants.{Periodic, OnChange}
@@ -11,8 +11,8 @@ use Rattle.yp_filter.specs.Filters.{Asked, all_rows}
 use Rattle.yp_filter.specs.Fits.{filter_fits}
 use Rattle.yp_filter.specs.Reading.{filter_in}
 use Rattle.yp_time.specs.Ticks.{IsAnchor}
-use Rattle.yp_registry.specs.declared.ask.FilterAsk.{FilterAsk}
-use Rattle.yp_registry.specs.declared.ask.FilterAsk.TheVariants.{All, Subtree, XPath}
+use Rattle.yp_terms.specs.declared.ask.FilterAsk.{FilterAsk}
+use Rattle.yp_terms.specs.declared.ask.FilterAsk.TheVariants.{All, Subtree, XPath}
 
 -- the terms of a live subscription: its id, the numbers of the receivers that it is for, whether it was configured, what its filter says, and its trigger, with the anchor of a periodic one
 pub record Terms : Type 0 where
@@ -21,6 +21,10 @@ pub record Terms : Type 0 where
   pub configured : Bool
   pub asked : Asked
   pub trigger : Trigger
+
+-- whether the receiver of this number established a subscription: one receiver is one session
+abbrev pub is_established_by : ℕ → Terms → Bool
+is_established_by by terms = not terms.configured && list_any (λ receiver. receiver == by) terms.receivers
 
 -- ---- encodings and datastores
 
@@ -45,7 +49,26 @@ asked_by nodes All = Some all_rows
 asked_by nodes (Subtree json) = if_read (filter_in nodes json)
 asked_by nodes XPath = None
 
+-- what the filter that is given says
+abbrev pub asked_for : List SchemaNode → FilterAsk → Asked
+asked_for nodes filter = unwrap_or (asked_by nodes filter) all_rows
+
 -- ---- triggers
+
+-- whether updates are periodic, and not on change
+abbrev pub has_period : Trigger → Bool
+has_period (Periodic period anchor) = true
+has_period (OnChange dampening sync excluded) = false
+
+-- whether one of two triggers is periodic and the other on change
+abbrev pub differ_in_kind : Trigger → Trigger → Bool
+differ_in_kind (Periodic period anchor) other = not (has_period other)
+differ_in_kind (OnChange dampening sync excluded) other = has_period other
+
+-- whether a trigger is on change with a full update at first (sync-on-start of RFC 8641 section 3.1)
+abbrev pub has_sync : Trigger → Bool
+has_sync (Periodic period anchor) = false
+has_sync (OnChange dampening sync excluded) = sync
 
 -- the shortest period, in ticks of a hundredth of a second
 abbrev pub shortest_period : ℕ

@@ -1,8 +1,8 @@
 //! What a subscription is given.
 ghost use Rattle.std.specs.Prelude.{◌≡◌, ◌≤◌, ◌∷◌, [], IfOk, false, option_map, true};
 ghost use Rattle.yp_filter.specs.View.{filter_view};
-ghost use Rattle.yp_registry.specs.Amending.{with_given};
-ghost use Rattle.yp_registry.specs.Calls.{is_established_by};
+ghost use Rattle.yp_terms.specs.Amends.{with_given};
+ghost use Rattle.yp_terms.specs.Terms.{is_established_by};
 ghost use Rattle.yp_time.specs.Ticks.{tick_limit};
 
 use crate::triggers::amended_trigger;
@@ -26,8 +26,8 @@ pub struct Terms {
 
 impl Model for Terms {
     ghost use Rattle.yp_filter.specs.View.{filter_view};
-    ghost use Rattle.yp_registry.specs.Coding.{coded_terms};
-    ghost use Rattle.yp_registry.specs.Terms.{Terms};
+    ghost use Rattle.yp_terms.specs.Coding.{coded_terms};
+    ghost use Rattle.yp_terms.specs.Terms.{Terms};
 
     ghost Value = { Terms };
 
@@ -37,8 +37,9 @@ impl Model for Terms {
 }
 
 impl Terms {
-    /// The terms of a dynamic subscription of one receiver.
-    pub(crate) fn dynamic(
+    /// The terms of a dynamic subscription, for the receiver of this number. It takes memory for the list of
+    /// receivers.
+    pub fn dynamic(
         alloc: Global,
         id: u32,
         receiver: u32,
@@ -58,8 +59,8 @@ impl Terms {
         })
     }
 
-    /// The terms of a configured subscription.
-    pub(crate) fn from_configuration(
+    /// The terms of a configured subscription, for the receivers of these numbers.
+    pub fn from_configuration(
         id: u32,
         receivers: Series<u32>,
         filter: Filter,
@@ -76,8 +77,10 @@ impl Terms {
         }
     }
 
-    /// Amends the terms at this tick by what is given.
-    pub(crate) fn amend(&mut self, filter: Option<Filter>, trigger: Option<Trigger>, now: u64)
+    /// Amends the terms at this tick by what is given (RFC 8641 section 4.4.2). What isn't given stays. A trigger
+    /// stays of its kind: a period that is given is counted from its anchor, or from this tick; of one on change
+    /// the dampening period alone is taken.
+    pub fn amend(&mut self, filter: Option<Filter>, trigger: Option<Trigger>, now: u64)
         requires { now ≤ tick_limit }
         ensures { self.new ≡ with_given now (option_map filter_view filter) trigger self.old }
     {
@@ -87,8 +90,9 @@ impl Terms {
         self.trigger = amended_trigger(now, trigger, self.trigger);
     }
 
-    /// Whether the receiver of this number established the subscription.
-    pub(crate) fn is_established_by(&self, by: u32) -> bool
+    /// Whether the receiver of this number established the subscription: one receiver is one session. None
+    /// established a configured one.
+    pub fn is_established_by(&self, by: u32) -> bool
         ensures { result ≡ is_established_by by self.now }
     {
         !self.configured && self.receivers.items().contains(&by)

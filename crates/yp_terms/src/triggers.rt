@@ -1,14 +1,14 @@
 //! Triggers as they are given and as they are amended.
 ghost use Rattle.std.specs.Prelude.{◌≡◌, ◌≤◌};
-ghost use Rattle.yp_registry.specs.Amending.{amended_trigger, differ_in_kind, has_period, renewed_trigger, with_dampening};
-ghost use Rattle.yp_registry.specs.Calls.{has_sync};
-ghost use Rattle.yp_registry.specs.Terms.{with_anchor};
+ghost use Rattle.yp_terms.specs.Amends.{with_dampening, renewed_trigger, amended_trigger};
+ghost use Rattle.yp_terms.specs.Terms.{has_period, differ_in_kind, has_sync, with_anchor};
 ghost use Rattle.yp_time.specs.Ticks.{tick_limit};
 
 use yp_base::notice::Trigger;
 
-/// The trigger with its anchor, which is the present tick where none is given (RFC 8641 section 4.2).
-pub(crate) fn with_anchor(now: u64, trigger: Trigger) -> Trigger
+/// The trigger with its anchor, which is the present tick where none is given (RFC 8641 section 4.2). One on
+/// change has none.
+pub fn with_anchor(now: u64, trigger: Trigger) -> Trigger
     requires { now ≤ tick_limit }
     ensures { result ≡ with_anchor now trigger }
 {
@@ -40,8 +40,8 @@ pub(crate) fn differ_in_kind(one: &Trigger, other: &Trigger) -> bool
     }
 }
 
-/// Whether a trigger is on change with a full update at first.
-pub(crate) fn has_sync(trigger: &Trigger) -> bool
+/// Whether a trigger is on change with a full update at first (sync-on-start of RFC 8641 section 3.1).
+pub fn has_sync(trigger: &Trigger) -> bool
     ensures { result ≡ has_sync trigger.now }
 {
     match trigger {

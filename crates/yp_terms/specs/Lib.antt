@@ -1,0 +1,4 @@
+pub mod Terms
+pub mod Refusals
+pub mod Amends
+pub mod Coding
