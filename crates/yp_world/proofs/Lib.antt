@@ -1,0 +1,8 @@
+pub mod Elements
+pub mod Belonging
+pub mod Events
+pub mod Doing
+pub mod Numbers
+pub mod Parts
+pub mod Copies
+pub mod Serving

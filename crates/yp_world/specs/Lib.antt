@@ -1,0 +1,4 @@
+pub mod World
+pub mod Holding
+pub mod Headline
+pub mod TakenLaws
