@@ -117,16 +117,25 @@ fn refusal_cause(
     if let Some(value) = member(command, "patch") {
         return patch_refusal(alloc, schema, value, answer, error);
     }
-    let Some(value) = member(command, "establish") else {
-        return Ok(String::from_str(alloc, error)?);
-    };
     if error == "filter-unsupported" {
-        return filter_refusal(alloc, schema, value);
+        if let Some((_, value)) = sole_member(command) {
+            return filter_refusal(alloc, schema, value);
+        }
     }
     Ok(match refused_of(error, answer) {
         Some(refused) => format!(in alloc; "{refused}")?,
         None => String::from_str(alloc, error)?,
     })
+}
+
+/// The refusal of a value, by the name of its member.
+fn refused_value(member: &str) -> Option<Refused> {
+    match member {
+        "trigger" => Some(Refused::InvalidTrigger),
+        "id" => Some(Refused::InvalidId),
+        "receiver" => Some(Refused::InvalidReceiver),
+        _ => None,
+    }
 }
 
 /// The refusal of a name.
@@ -141,6 +150,10 @@ fn refused_of(error: &str, answer: &Json) -> Option<Refused> {
                 hint: u32::try_from(hint).ok()?,
             })
         }
+        "no-such-subscription" => Some(Refused::NoSuchSubscription { resync: false }),
+        "no-such-subscription-resync" => Some(Refused::NoSuchSubscription { resync: true }),
+        "on-change-sync-unsupported" => Some(Refused::OnChangeSyncUnsupported),
+        "invalid-value" => refused_value(text_in(answer, "member")?),
         "insufficient-resources" => Some(Refused::InsufficientResources),
         _ => None,
     }
