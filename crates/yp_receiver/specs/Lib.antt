@@ -1,3 +1,4 @@
+pub mod Compact
 pub mod Held
 pub mod Hearable
 pub mod Holdings

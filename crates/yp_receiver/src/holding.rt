@@ -3,6 +3,7 @@ ghost use Rattle.std.specs.Prelude.{◌≡◌, [], OnOk, OnErr, IfOk};
 ghost use Rattle.yp_base.specs.Rows.{put_rows, rows_without, changed_by};
 ghost use Rattle.yp_receiver.specs.Held.{IsPart};
 
+use crate::compact::CompactRows;
 use std::alloc::Global;
 use std::marker::Model;
 use std::mem::replace;
@@ -15,15 +16,16 @@ use yp_base::steps::Steps;
 use yp_tree::rising::Rising;
 use yp_tree::tree::Tree;
 
-/// How rows are kept: as they were told, or in a tree.
+/// How rows are kept: as they were told, in little room, or in a tree.
 #[derive(Drop)]
 enum Kept {
     Told(Rows),
+    Compact(CompactRows),
     Changed(Tree),
 }
 
 /// The rows that a receiver holds of a subscription. Those of its last full update are kept as this told
-/// them, shared with whatever else it told, and those of a first change update as a list too; only where
+/// them, shared with whatever else it told, and those of a first change update in little room; only where
 /// a change update comes after it are they put into a tree. Contracts see the rows, in the order of their
 /// paths.
 #[derive(Drop)]
@@ -70,6 +72,14 @@ fn all_rows<L: Ledger>(alloc: Global, tree: &Tree, steps: &mut Steps<L>) -> Resu
     Ok(rows)
 }
 
+/// A tree of rows that were kept in little room.
+fn tree_of(alloc: Global, rows: &CompactRows) -> Result<Tree, NoMemory>
+    ensures { IfOk result (λ tree. tree ≡ put_rows rows.now []) }
+{
+    let rows = rows.rows(alloc)?;
+    Tree::of_rows(alloc, &rows)
+}
+
 /// Rows in order, as they are put one after another. Where they come in order they are only appended.
 fn put_in_order(alloc: Global, rows: Rows) -> Result<Rows, NoMemory>
     ensures { IfOk result (λ all. all ≡ put_rows rows []) }
@@ -91,6 +101,14 @@ impl Holding {
         }
     }
 
+    // Copies of rows, in little room.
+    fn compact(alloc: Global, rows: &Rows) -> Result<Holding, NoMemory>
+        ensures { IfOk result (λ held. held ≡ put_rows rows.now []) }
+    {
+        let kept = Kept::Compact(CompactRows::of_rows(alloc, rows.items())?);
+        Ok(Holding { kept })
+    }
+
     /// After a change update that is the first update: its edits, in order, from no rows on.
     #[tactic(auto, using(yp_base::specs::RowLaws::put_to_none))]
     pub fn first(alloc: Global, changes: &[Change]) -> Result<Holding, NoMemory>
@@ -100,7 +118,7 @@ impl Holding {
         hear_changes(alloc, changes, &mut tree)?;
         let _count = tree.len();
         let rows = tree.into_rows(alloc)?;
-        Ok(Holding::told(rows))
+        Holding::compact(alloc, &rows)
     }
 
     // A tree of the rows, which is to be given back. After `NoMemory` they are as they were.
@@ -114,6 +132,13 @@ impl Holding {
                 let tree = Tree::of_rows(alloc, &rows);
                 if tree.is_err() {
                     self.kept = Kept::Told(rows);
+                }
+                tree
+            }
+            Kept::Compact(rows) => {
+                let tree = tree_of(alloc, &rows);
+                if tree.is_err() {
+                    self.kept = Kept::Compact(rows);
                 }
                 tree
             }
@@ -138,6 +163,7 @@ impl Holding {
     {
         match &self.kept {
             Kept::Told(rows) => put_in_order(alloc, rows.copy(alloc)?),
+            Kept::Compact(rows) => put_in_order(alloc, rows.rows(alloc)?),
             Kept::Changed(tree) => all_rows(alloc, tree, steps),
         }
     }
@@ -149,6 +175,7 @@ impl Holding {
         let Holding { kept } = self;
         match kept {
             Kept::Told(rows) => put_in_order(alloc, rows),
+            Kept::Compact(rows) => put_in_order(alloc, rows.rows(alloc)?),
             Kept::Changed(tree) => tree.into_rows(alloc),
         }
     }
