@@ -6,7 +6,7 @@ use Rattle.yp_schema.specs.Datastore.{IsDatastore}
 use Rattle.yp_edit.specs.Patches.{RefusedEdit, applied}
 use Rattle.yp_edit.specs.PatchLaws.{PatchesKeepDatastores}
 use Rattle.yp_journal.specs.declared.command.Command.{Command}
-use Rattle.yp_journal.specs.declared.command.Command.TheVariants.{Tick, Edit, Rules, Establish, Take}
+use Rattle.yp_journal.specs.declared.command.Command.TheVariants.{Tick, Edit, Rules, Establish, Modify, Delete, Kill, Resync, Configure, Reconfigure, Unconfigure, Take}
 use Rattle.yp_journal.specs.declared.entry.Entry.{Entry}
 use Rattle.yp_journal.specs.History.{JournalState, rows_after, next_state, state_of}
 
@@ -21,6 +21,13 @@ module _ (patch_keeps : PatchesKeepDatastores) where
       ] refl
   command_keeps nodes state (Rules policy) datastore = datastore
   command_keeps nodes state (Establish by ask) datastore = datastore
+  command_keeps nodes state (Modify by id amend) datastore = datastore
+  command_keeps nodes state (Delete by id) datastore = datastore
+  command_keeps nodes state (Kill by id) datastore = datastore
+  command_keeps nodes state (Resync by id) datastore = datastore
+  command_keeps nodes state (Configure id receivers ask) datastore = datastore
+  command_keeps nodes state (Reconfigure id amend) datastore = datastore
+  command_keeps nodes state (Unconfigure id) datastore = datastore
   command_keeps nodes state (Take receiver count) datastore = datastore
 
   -- and so do the entries of a journal

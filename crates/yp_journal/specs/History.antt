@@ -12,6 +12,10 @@ use Rattle.yp_nacm.specs.Own.{own_rules}
 use Rattle.yp_nacm.specs.Policies.{opening_policy, IsPolicyOf}
 use Rattle.yp_terms.specs.declared.ask.Ask.{Ask}
 use Rattle.yp_terms.specs.declared.refused.Refused.{Refused}
+use Rattle.yp_terms.specs.Amends.{HasGivenAnchor}
+use Rattle.yp_registry.specs.Amending.{modified_by, modify_answer, reconfigured, reconfigure_answer}
+use Rattle.yp_registry.specs.Calls.{deleted_by, delete_answer, killed_by, kill_answer, resync_answer, unconfigured, unconfigure_answer}
+use Rattle.yp_registry.specs.Configuring.{newly_configured, configure_answer}
 use Rattle.yp_registry.specs.Registry.{Subscriptions, no_subscriptions, established, establish_answer}
 use Rattle.yp_terms.specs.Terms.{HasAnchor}
 use Rattle.yp_edit.specs.declared.patch.Edit.{Edit as PatchEdit}
@@ -20,7 +24,7 @@ use Rattle.yp_edit.specs.Patches.{RefusedEdit, applied}
 use Rattle.yp_edit.specs.Shapes.{ids_of, patch_in}
 use Rattle.yp_time.specs.Ticks.{tick_limit}
 use Rattle.yp_journal.specs.declared.command.Command.{Command}
-use Rattle.yp_journal.specs.declared.command.Command.TheVariants.{Tick, Edit, Rules, Establish, Take}
+use Rattle.yp_journal.specs.declared.command.Command.TheVariants.{Tick, Edit, Rules, Establish, Modify, Delete, Kill, Resync, Configure, Reconfigure, Unconfigure, Take}
 use Rattle.yp_journal.specs.declared.entry.Entry.{Entry}
 use Rattle.yp_journal.specs.declared.receiver.ReceiverInfo.{ReceiverInfo}
 use Rattle.yp_journal.specs.declared.reply.Reply.{Reply}
@@ -103,6 +107,11 @@ abbrev pub reply_by : Result ℕ Refused → Reply
 reply_by (Ok id) = Id id
 reply_by (Err refusal) = Registry refusal
 
+-- the reply to a call that gives nothing
+abbrev pub call_reply : Result Unit Refused → Reply
+call_reply (Ok done) = Done
+call_reply (Err refusal) = Registry refusal
+
 -- the state after the establishment of a subscription, and the reply (RFC 8639 section 2.4.2, RFC 8641 section 4.4.1)
 abbrev pub after_establish : List SchemaNode → JournalState → ℕ → Ask → JournalState
 after_establish nodes state by ask = with_registry state (established nodes state.policy state.registry by ask state.stamp)
@@ -119,6 +128,15 @@ accepted nodes state (Edit patch) =
     (record (one_further state) { rows = rows_after state.rows (applied nodes state.rows patch) }, patch_reply patch (applied nodes state.rows patch))
 accepted nodes state (Rules policy) = (with_policy state policy, Done)
 accepted nodes state (Establish by ask) = (after_establish nodes state by ask, establish_reply nodes state by ask)
+accepted nodes state (Modify by id amend) =
+    (with_registry state (modified_by nodes state.policy state.registry by id amend state.stamp), call_reply (modify_answer nodes state.policy state.registry by id amend))
+accepted nodes state (Delete by id) = (with_registry state (deleted_by state.policy state.registry by id), call_reply (delete_answer state.policy state.registry by id))
+accepted nodes state (Kill by id) = (with_registry state (killed_by state.policy state.registry by id), call_reply (kill_answer state.policy state.registry by id))
+accepted nodes state (Resync by id) = (one_further state, call_reply (resync_answer state.policy state.registry by id))
+accepted nodes state (Configure id receivers ask) =
+    (with_registry state (newly_configured nodes state.registry id receivers ask state.stamp), call_reply (configure_answer nodes state.registry id receivers ask))
+accepted nodes state (Reconfigure id amend) = (with_registry state (reconfigured nodes state.registry id amend state.stamp), call_reply (reconfigure_answer nodes state.registry id amend))
+accepted nodes state (Unconfigure id) = (with_registry state (unconfigured state.registry id), call_reply (unconfigure_answer state.registry id))
 accepted nodes state (Take receiver count) = (one_further state, Done)
 
 abbrev pub next_state : List SchemaNode → JournalState → Command → JournalState
@@ -176,6 +194,13 @@ MayCome nodes receivers (Tick tick) = tick ≤ tick_limit
 MayCome nodes receivers (Edit patch) = IsRead patch
 MayCome nodes receivers (Rules policy) = IsPolicyOf nodes policy
 MayCome nodes receivers (Establish by ask) = (by < length receivers) × HasAnchor ask.trigger
+MayCome nodes receivers (Modify by id amend) = (by < length receivers) × HasGivenAnchor amend.trigger
+MayCome nodes receivers (Delete by id) = by < length receivers
+MayCome nodes receivers (Kill by id) = by < length receivers
+MayCome nodes receivers (Resync by id) = by < length receivers
+MayCome nodes receivers (Configure id asked ask) = (length receivers < 2 ^ 32) × HasAnchor ask.trigger
+MayCome nodes receivers (Reconfigure id amend) = HasGivenAnchor amend.trigger
+MayCome nodes receivers (Unconfigure id) = Unit {0}
 MayCome nodes receivers (Take receiver count) = IsTakeOf receivers receiver count
 
 -- an entry that may follow where the journal has this state: its command may come, and its reply and its stamp are those of the fold

@@ -8,6 +8,7 @@
 //! by the registry of `yp_registry`.
 #![tactic(auto)]
 
+mod calls;
 pub mod command;
 pub mod entry;
 pub mod laws;

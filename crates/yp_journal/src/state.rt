@@ -35,10 +35,10 @@ use yp_tree::tree::Tree;
 #[derive(Drop)]
 pub struct State {
     tree: Tree,
-    policy: Policy,
-    stamp: u64,
+    pub(crate) policy: Policy,
+    pub(crate) stamp: u64,
     position: u64,
-    registry: Registry,
+    pub(crate) registry: Registry,
     receivers: Receivers,
 }
 
@@ -122,7 +122,7 @@ fn first_registry(alloc: Global, receivers: &[ReceiverInfo]) -> Result<Registry,
     Ok(Registry::new(alloc, Series::from_vec(users), Series::from_vec(names)))
 }
 
-fn no_changes(alloc: Global) -> Changed
+pub(crate) fn no_changes(alloc: Global) -> Changed
     ensures { result ≡ [] }
 {
     Series::from_vec(Vec::new(alloc))
@@ -214,12 +214,21 @@ impl State {
             Command::Edit(patch) => self.edit(alloc, schema, patch),
             Command::Rules(policy) => self.govern(alloc, policy),
             Command::Establish { by, ask } => self.establish(alloc, schema, *by, ask),
+            Command::Modify { by, id, amend } => self.modify(alloc, schema, *by, *id, amend),
+            Command::Delete { by, id } => self.delete(alloc, *by, *id),
+            Command::Kill { by, id } => self.kill(alloc, *by, *id),
+            Command::Resync { by, id } => self.resync(alloc, *by, *id),
+            Command::Configure { id, receivers, ask } => {
+                self.configure(alloc, schema, *id, receivers.items(), ask)
+            }
+            Command::Reconfigure { id, amend } => self.reconfigure(alloc, schema, *id, amend),
+            Command::Unconfigure { id } => self.unconfigure(alloc, *id),
             Command::Take { .. } => Ok(self.advance(Reply::Done, no_changes(alloc))),
         }
     }
 
     /// Goes one position further, and tells a reply and changed rows.
-    fn advance(&mut self, reply: Reply, changed: Changed) -> Outcome
+    pub(crate) fn advance(&mut self, reply: Reply, changed: Changed) -> Outcome
         requires { self.old.position < 2 ^ 63 }
         ensures state { self.new ≡ one_further self.old }
         ensures outcome { result ≡ record { stamp = self.old.stamp; reply = reply; changed = changed } }
@@ -275,34 +284,5 @@ impl State {
     {
         self.policy = policy.copy(alloc)?;
         Ok(self.advance(Reply::Done, no_changes(alloc)))
-    }
-
-    /// Asks the registry for a subscription.
-    fn establish(
-        &mut self,
-        alloc: Global,
-        schema: &Schema,
-        by: u32,
-        ask: &Ask,
-    ) -> Result<Outcome, NoMemory>
-        requires receiver { by < length self.old.receivers }
-        requires anchor { HasAnchor ask.now.trigger }
-        requires position { self.old.position < 2 ^ 63 }
-        ensures state { OnOk result (self.new ≡ after_establish schema.now self.old by ask.now) }
-        ensures outcome { IfOk result (λ outcome. outcome ≡ record { stamp = self.old.stamp; reply = establish_reply schema.now self.old by ask.now; changed = [] }) }
-        ensures unchanged { OnErr result (self.new ≡ self.old) }
-        ensures kept { IsRegistryOf schema.now self.old.registry → IsRegistryOf schema.now self.new.registry }
-    {
-        let stamp = self.stamp;
-        match self
-            .registry
-            .establish(alloc, schema, &self.policy, by, ask, stamp)
-        {
-            Ok(id) => Ok(self.advance(Reply::Id(id), no_changes(alloc))),
-            Err(refusal) => match refusal {
-                Refused::Memory => Err(NoMemory),
-                _ => Ok(self.advance(Reply::Registry(refusal), no_changes(alloc))),
-            },
-        }
     }
 }

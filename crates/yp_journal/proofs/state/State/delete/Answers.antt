@@ -1,0 +1,8 @@
+use Rattle.std.proofs.Common.{ap}
+use Rattle.yp_journal.specs.History.{JournalState}
+use Rattle.yp_journal.proofs.Answering.{kept}
+use Rattle.yp_journal.proofs.state.State.delete.Goals as goal
+
+pub returns-clause-kept : goal.returns-clause-kept
+returns-clause-kept c = λ nodes.
+    kept nodes c.args.self.now.registry c.self.inside.registry c.delete-answer.new.self c.answer.new.self.registry (ap (λ (s : JournalState). s.registry) c.self.view_is) (c.delete-answer.ensures.kept nodes) c.answer.ensures.registry
