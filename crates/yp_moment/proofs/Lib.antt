@@ -1,5 +1,9 @@
 pub mod Recording
 pub mod Telling
+pub mod Registries
+pub mod Doing
+pub mod Ids
+pub mod Ended
 pub mod Starting
 pub mod Leading
 pub mod Naming

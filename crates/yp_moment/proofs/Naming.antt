@@ -29,7 +29,7 @@ use Rattle.yp_mirror.specs.Stories.{Story, Steady, IsWantedBetween, story_of}
 use Rattle.yp_moment.specs.Concealed.{NamesReadable}
 use Rattle.yp_moment.specs.Entries.{selected_by, selected_at, moments_of}
 use Rattle.yp_moment.specs.Windows.{recorded}
-use Rattle.yp_moment.proofs.Telling.{wanted, changed}
+use Rattle.yp_moment.proofs.Telling.{wanted, steady_rules}
 
 -- what a subscription selects may be read
 module _ (nodes : List SchemaNode) (state : JournalState) (receiver : ℕ) where
@@ -52,7 +52,7 @@ module _ (nodes : List SchemaNode) (receivers : List ReceiverInfo) (entries : Li
 
   stays_at : (id n : ℕ) (b : Bool) → nat_le (n + 1) (length entries) ≡ b → story.changes id (n + 1) ≡ false → own n ≡ own (n + 1)
   stays_at id n true is steady =
-      same_are_one (own n) (own (n + 1)) (not-false (are_same_rules (own n) (own (n + 1))) (sym (changed nodes receivers entries receiver id n (leb-true (n + 1) (length entries) is)) ∙ steady))
+      same_are_one (own n) (own (n + 1)) (not-false (are_same_rules (own n) (own (n + 1))) (steady_rules nodes receivers entries receiver id n (leb-true (n + 1) (length entries) is) steady))
   stays_at id n false is steady =
       let last : length entries < n + 1 = leb-false (n + 1) (length entries) is in
       ap (λ (es : List Entry). rules_at (state_of nodes (first_state receivers) es) receiver) (take_all n entries (omega (arith, last)) ∙ sym (take_all (n + 1) entries (omega (arith, last))))

@@ -1,4 +1,6 @@
 pub mod Windows
+pub mod Ids
 pub mod Entries
+pub mod Followed
 pub mod Concealed
 pub mod Notices

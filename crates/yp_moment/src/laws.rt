@@ -1,34 +1,37 @@
 //! Laws of what legal journals make for receivers; nothing runs.
-ghost use Rattle.std.specs.Prelude.{◌≡◌, ℕ, ◌+◌, ◌≤◌, ◌==◌, ◌++◌, not, false, List, [], ◌∷◌, length};
-ghost use Rattle.std.specs.List.{list_any};
+ghost use Rattle.std.specs.Prelude.{◌≡◌, ℕ, ◌+◌, ◌≤◌, ◌++◌, ◌||◌, not, List, [], ◌∷◌, length};
 ghost use Rattle.yp_schema.specs.declared.schema.SchemaNode.{SchemaNode};
 ghost use Rattle.yp_schema.specs.WellFormed.{IsSchema};
 ghost use Rattle.yp_nacm.specs.Same.{are_same_rules};
 ghost use Rattle.yp_terms.specs.declared.ask.Ask.{Ask};
-ghost use Rattle.yp_terms.specs.Terms.{with_anchor};
-ghost use Rattle.yp_journal.specs.declared.command.Command.TheVariants.{Establish};
 ghost use Rattle.yp_journal.specs.declared.entry.Entry.{Entry};
 ghost use Rattle.yp_journal.specs.declared.receiver.ReceiverInfo.{ReceiverInfo};
-ghost use Rattle.yp_journal.specs.declared.reply.Reply.TheVariants.{Id};
-ghost use Rattle.yp_journal.specs.History.{first_state, state_of, state_at, rules_at, may_read, IsLegal};
+ghost use Rattle.yp_journal.specs.History.{first_state, next_state, state_of, state_at, rules_at, may_read, IsLegal};
 ghost use Rattle.yp_feed.specs.Machine.{is_mirrored, resyncs};
 ghost use Rattle.yp_attempt.specs.Attempts.{replay};
 ghost use Rattle.yp_attempt.specs.Content.{IsLawful};
-ghost use Rattle.yp_attempt.specs.Moments.{Starts, AllMayFollow};
+ghost use Rattle.yp_attempt.specs.Moments.{AllMayFollow};
 ghost use Rattle.yp_attempt.specs.Runs.{first_run};
 ghost use Rattle.yp_attempt.specs.Tracks.{Answer, Attempt};
 ghost use Rattle.yp_mirror.specs.Links.{IsRunOf, IsAttemptOf};
-ghost use Rattle.yp_mirror.specs.Stories.{story_of, Leads};
+ghost use Rattle.yp_mirror.specs.Stories.{is_control_of, story_of, Leads};
 ghost use Rattle.yp_moment.specs.Concealed.{NamesReadable};
-ghost use Rattle.yp_moment.specs.Entries.{selected_at, moment_of, moments_of};
+ghost use Rattle.yp_moment.specs.Entries.{Grants, selected_at, moment_of, moments_of};
 ghost use Rattle.yp_moment.specs.Windows.{recorded};
 
+use crate::acts::{
+    a_configuration_starts_its_subscription, a_legal_journal_keeps_its_registry,
+    an_establishment_starts_its_subscription, no_id_is_given_twice,
+};
 use yp_journal::laws::a_journal_keeps_a_datastore;
 use yp_mirror::laws::{
     a_journal_tells_its_story, every_attempt_tells_of_what_was_selected,
     nothing_else_changes_while_an_attempt_waits, what_a_journal_makes_is_a_run_of_its_story,
 };
-use yp_registry::laws::{an_establishment_adds_one_subscription, an_id_is_given_once, ids_rise};
+use yp_registry::laws::{
+    a_call_is_done_or_leaves_the_registry, a_configuration_adds_one_subscription,
+    an_establishment_adds_one_subscription, an_id_is_configured_once, an_id_is_given_once,
+};
 use yp_touch::laws::{a_record_leads_from_the_first_to_the_last, a_window_conceals};
 
 /// In one selection alone no place changed. And where no kind of edits is excluded, the record of a window
@@ -45,7 +48,11 @@ pub fn entries_of_a_legal_journal_may_follow()
 {
     an_establishment_adds_one_subscription();
     an_id_is_given_once();
-    ids_rise();
+    a_call_is_done_or_leaves_the_registry();
+    an_id_is_configured_once();
+    a_configuration_adds_one_subscription();
+    a_legal_journal_keeps_its_registry();
+    no_id_is_given_twice();
 }
 
 /// One entry more is one moment more.
@@ -55,50 +62,31 @@ pub fn one_entry_more_is_one_moment_more()
         → moments_of nodes receivers (entries ++ entry ∷ []) ≡ moments_of nodes receivers entries ++ moment_of nodes (state_of nodes (first_state receivers) entries) entry ∷ [] }
 {}
 
-/// A legal journal tells a receiver of a subscription: at each position what the subscription selects there,
-/// by each entry whether the own rules of the receiver's user change, and whether the receiver's copy is to be
-/// what is selected, and whether it resynchronises, by the trigger that was asked for.
+/// A legal journal tells a receiver of a subscription: at each position what the subscription selects there;
+/// by each entry whether it modifies, synchronises again or ends the subscription, or the own rules of the
+/// receiver's user change; and whether the receiver's copy is to be what is selected, and whether it
+/// resynchronises, by the trigger that was asked for.
 pub fn a_legal_journal_tells_what_is_selected()
     ensures want { (nodes : List SchemaNode) (receivers : List ReceiverInfo) (entries : List Entry) (receiver id n : ℕ)
         → n ≤ length entries → (story_of (moments_of nodes receivers entries) receiver).want id n ≡ selected_at nodes (state_at nodes receivers entries n) id receiver }
-    ensures changes { (nodes : List SchemaNode) (receivers : List ReceiverInfo) (entries : List Entry) (receiver id n : ℕ)
-        → n + 1 ≤ length entries → (story_of (moments_of nodes receivers entries) receiver).changes id (n + 1)
-        ≡ not (are_same_rules (rules_at (state_at nodes receivers entries n) receiver) (rules_at (state_at nodes receivers entries (n + 1)) receiver)) }
+    ensures changes { (nodes : List SchemaNode) (receivers : List ReceiverInfo) (entries : List Entry) (receiver id : ℕ)
+        → (before : List Entry) (entry : Entry) (after : List Entry) → entries ≡ before ++ entry ∷ after
+        → (story_of (moments_of nodes receivers entries) receiver).changes id (length before + 1)
+        ≡ (is_control_of id (moment_of nodes (state_of nodes (first_state receivers) before) entry).act
+        || not (are_same_rules (rules_at (state_of nodes (first_state receivers) before) receiver) (rules_at (next_state nodes (state_of nodes (first_state receivers) before) entry.command) receiver))) }
     ensures mirrored { (nodes : List SchemaNode) (receivers : List ReceiverInfo) (entries : List Entry) (receiver : ℕ)
         → IsSchema nodes → IsLegal nodes (first_state receivers) entries
-        → (before : List Entry) (entry : Entry) (after : List Entry) (by id : ℕ) (ask : Ask) → entries ≡ before ++ entry ∷ after
-        → entry.command ≡ Establish by ask → entry.reply ≡ Id id
-        → (story_of (moments_of nodes receivers entries) receiver).mirrored id ≡ is_mirrored ask.trigger }
+        → (before : List Entry) (entry : Entry) (after : List Entry) (id : ℕ) (ask : Ask) → entries ≡ before ++ entry ∷ after
+        → Grants entry id ask → (story_of (moments_of nodes receivers entries) receiver).mirrored id ≡ is_mirrored ask.trigger }
     ensures resyncing { (nodes : List SchemaNode) (receivers : List ReceiverInfo) (entries : List Entry) (receiver : ℕ)
         → IsSchema nodes → IsLegal nodes (first_state receivers) entries
-        → (before : List Entry) (entry : Entry) (after : List Entry) (by id : ℕ) (ask : Ask) → entries ≡ before ++ entry ∷ after
-        → entry.command ≡ Establish by ask → entry.reply ≡ Id id
-        → (story_of (moments_of nodes receivers entries) receiver).resyncing id ≡ resyncs ask.trigger }
+        → (before : List Entry) (entry : Entry) (after : List Entry) (id : ℕ) (ask : Ask) → entries ≡ before ++ entry ∷ after
+        → Grants entry id ask → (story_of (moments_of nodes receivers entries) receiver).resyncing id ≡ resyncs ask.trigger }
 {
     a_journal_tells_its_story();
-    an_establishment_adds_one_subscription();
-    an_id_is_given_once();
-    ids_rise();
-}
-
-/// An establishment that is given an id starts the subscription of this id: with the trigger that was asked
-/// for, a periodic one with its anchor, for the receiver that asked and no other, and not as a configured
-/// one. And each moment has the stamp of its entry.
-pub fn an_establishment_starts_its_subscription()
-    ensures starts { (nodes : List SchemaNode) (receivers : List ReceiverInfo) (entries : List Entry)
-        → IsSchema nodes → IsLegal nodes (first_state receivers) entries
-        → (before : List Entry) (entry : Entry) (after : List Entry) (by id : ℕ) (ask : Ask) → entries ≡ before ++ entry ∷ after
-        → entry.command ≡ Establish by ask → entry.reply ≡ Id id
-        → (moment_of nodes (state_of nodes (first_state receivers) before) entry).act
-        ≡ Starts id (with_anchor (state_of nodes (first_state receivers) before).stamp ask.trigger) false (λ receiver. list_any (λ other. other == receiver) (by ∷ [])) }
-    ensures stamp { (nodes : List SchemaNode) (receivers : List ReceiverInfo) (entries : List Entry)
-        → IsSchema nodes → IsLegal nodes (first_state receivers) entries
-        → (before : List Entry) (entry : Entry) (after : List Entry) → entries ≡ before ++ entry ∷ after
-        → (moment_of nodes (state_of nodes (first_state receivers) before) entry).stamp ≡ entry.stamp }
-{
-    an_establishment_adds_one_subscription();
-    an_id_is_given_once();
-    ids_rise();
+    entries_of_a_legal_journal_may_follow();
+    an_establishment_starts_its_subscription();
+    a_configuration_starts_its_subscription();
 }
 
 /// Where no kind of edits is excluded, a record of what a subscription selected at some positions of a legal

@@ -1,8 +1,11 @@
 //! Moments: what the entries of a journal are to feeds, and what is promised of the attempts that they make.
 //!
 //! Nothing runs here. Contracts see what feeds know of selections (`specs/Windows.antt`), what an entry is to
-//! feeds (`specs/Entries.antt`), and what an attempt names (`specs/Concealed.antt`). It follows RFC 8639
-//! section 2.4 and RFC 8641 sections 3.3, 3.7 and 3.9. `laws` says what holds of legal journals.
+//! feeds (`specs/Entries.antt`), which ids were given (`specs/Ids.antt`), what feeds can follow
+//! (`specs/Followed.antt`), and what an attempt names (`specs/Concealed.antt`). It follows RFC 8639 sections
+//! 2.4, 2.5 and 2.7, and RFC 8641 sections 3.3, 3.7, 3.9 and 4.4. `acts` says what the entries of legal
+//! journals do to subscriptions, and `laws` what receivers are told by them.
 #![tactic(auto)]
 
+pub mod acts;
 pub mod laws;
