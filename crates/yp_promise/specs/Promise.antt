@@ -5,32 +5,28 @@ use Rattle.yp_schema.specs.declared.schema.SchemaNode.{SchemaNode}
 use Rattle.yp_terms.specs.declared.ask.Ask.{Ask}
 use Rattle.yp_feed.specs.declared.item.Item.TheVariants.{Suspended}
 use Rattle.yp_feed.specs.Machine.{is_mirrored, resyncs}
-use Rattle.yp_journal.specs.declared.command.Command.TheVariants.{Establish}
 use Rattle.yp_journal.specs.declared.entry.Entry.{Entry}
 use Rattle.yp_journal.specs.declared.receiver.ReceiverInfo.{ReceiverInfo}
-use Rattle.yp_journal.specs.declared.reply.Reply.TheVariants.{Id}
 use Rattle.yp_journal.specs.History.{may_read, state_at}
 use Rattle.yp_attempt.specs.Tracks.{Attempt, All, Notice}
 use Rattle.yp_attempt.specs.Attempts.{Notification, answers_in, attempts, taken_of}
 use Rattle.yp_mirror.specs.FullQueues.{HasFull, HasEightFull}
 use Rattle.yp_mirror.specs.Heard.{is_full_update, is_incomplete_update, is_update, of_sub, told_by, IsTakenUpdate}
 use Rattle.yp_moment.specs.Concealed.{NamesReadable}
-use Rattle.yp_moment.specs.Entries.{moments_of, selected_at}
+use Rattle.yp_moment.specs.Entries.{Grants, moments_of, selected_at}
 use Rattle.yp_moment.specs.Windows.{recorded}
 use Rattle.yp_receiver.specs.Held.{held_of}
 use Rattle.yp_promise.specs.Received.{received}
 
 -- ---- subscriptions
 
--- a journal gives a subscription of this id by what was asked for
+-- a journal gives a subscription of this id by what was asked for: a receiver established it, or it was configured
 pub record Gives (entries : List Entry) (id : ℕ) (ask : Ask) : Type 0 where
   pub before : List Entry
   pub entry : Entry
   pub after : List Entry
-  pub by : ℕ
   pub parts : entries ≡ before ++ entry ∷ after
-  pub command : entry.command ≡ Establish by ask
-  pub reply : entry.reply ≡ Id id
+  pub grants : Grants entry id ask
 
 -- whether a notification is an update of a subscription
 abbrev pub is_update_of : ℕ → Notification → Bool

@@ -3,7 +3,7 @@ use Rattle.std.specs.Prelude.{◌≡◌, ℕ, zero, suc, ◌==◌, List, length,
 use Rattle.std.specs.List.{slice_get}
 use Rattle.yp_schema.specs.declared.schema.SchemaNode.{SchemaNode}
 use Rattle.yp_journal.specs.declared.command.Command.{Command}
-use Rattle.yp_journal.specs.declared.command.Command.TheVariants.{Tick, Edit, Rules, Establish, Take}
+use Rattle.yp_journal.specs.declared.command.Command.TheVariants.{Tick, Edit, Rules, Establish, Modify, Delete, Kill, Resync, Configure, Reconfigure, Unconfigure, Take}
 use Rattle.yp_journal.specs.declared.entry.Entry.{Entry}
 use Rattle.yp_journal.specs.declared.receiver.ReceiverInfo.{ReceiverInfo}
 use Rattle.yp_journal.specs.History.{first_state, state_of}
@@ -43,6 +43,13 @@ taken_by (Tick tick) number = 0
 taken_by (Edit patch) number = 0
 taken_by (Rules policy) number = 0
 taken_by (Establish by ask) number = 0
+taken_by (Modify by id amend) number = 0
+taken_by (Delete by id) number = 0
+taken_by (Kill by id) number = 0
+taken_by (Resync by id) number = 0
+taken_by (Configure id receivers ask) number = 0
+taken_by (Reconfigure id amend) number = 0
+taken_by (Unconfigure id) number = 0
 taken_by (Take receiver count) number = if receiver == number then count else 0
 
 -- and by an entry

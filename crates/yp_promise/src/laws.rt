@@ -29,11 +29,11 @@ use yp_mirror::laws::{
     only_full_queues_suspend, positions_never_fall,
     the_next_resynchronisation_carries_its_own_positions_selection,
 };
+use yp_moment::acts::what_feeds_are_handed_can_be_followed;
 use yp_moment::laws::{
-    a_legal_journal_tells_what_is_selected, an_establishment_starts_its_subscription,
-    attempts_name_nothing_unreadable, entries_of_a_legal_journal_may_follow,
-    one_entry_more_is_one_moment_more, what_a_legal_journal_makes_is_a_run_of_its_story,
-    what_feeds_know_of_selections_is_lawful,
+    a_legal_journal_tells_what_is_selected, attempts_name_nothing_unreadable,
+    entries_of_a_legal_journal_may_follow, one_entry_more_is_one_moment_more,
+    what_a_legal_journal_makes_is_a_run_of_its_story, what_feeds_know_of_selections_is_lawful,
 };
 use yp_serial::laws::{
     a_serial_run_is_a_run, a_serial_run_offers_until_nothing_is_offered,
@@ -72,7 +72,7 @@ pub fn a_serial_run_goes_on_offer_by_offer()
     the_first_offer_is_found();
     one_entry_more_is_one_moment_more();
     entries_of_a_legal_journal_may_follow();
-    an_establishment_starts_its_subscription();
+    what_feeds_are_handed_can_be_followed();
     an_anchored_trigger_has_due_ticks();
     due_ticks_stay();
     a_serial_run_is_a_run();
@@ -94,7 +94,7 @@ pub fn a_receivers_part_of_a_serial_run_is_its_own_run()
 {
     what_feeds_know_of_selections_is_lawful();
     entries_of_a_legal_journal_may_follow();
-    an_establishment_starts_its_subscription();
+    what_feeds_are_handed_can_be_followed();
     an_anchored_trigger_has_due_ticks();
     a_serial_run_is_a_run();
     a_receivers_part_of_a_run_is_its_own_run();

@@ -1,7 +1,8 @@
 use Rattle.std.proofs.Common.{refl}
+use Rattle.yp_moment.specs.Entries.{moments_of}
 use Rattle.yp_moment.specs.Windows.{recorded}
 use Rattle.yp_promise.proofs.Going.{ServingLaws, entered_serving, none_serving, serving_ends, settled_fewer, settled_serving, weights_most}
-use Rattle.yp_promise.proofs.Ticks.{journal_due}
+use Rattle.yp_promise.proofs.Ticks.{all_due}
 use Rattle.yp_promise.proofs.laws.a_serial_run_goes_on_offer_by_offer.Goals as goal
 
 pub returns : goal.returns
@@ -14,7 +15,7 @@ returns c =
       finds = c.the_first_offer_is_found.ensures;
       moments = c.one_entry_more_is_one_moment_more.ensures;
       may = c.entries_of_a_legal_journal_may_follow.ensures;
-      due = journal_due c.an_anchored_trigger_has_due_ticks.ensures c.an_establishment_starts_its_subscription.ensures.starts;
+      due = λ nodes receivers entries schema legal. all_due c.an_anchored_trigger_has_due_ticks.ensures (moments_of nodes receivers entries) (c.what_feeds_are_handed_can_be_followed.ensures nodes receivers entries legal);
       reaches = runs.reaches;
       idle = runs.idle;
       goes_on = offers.goes_on;

@@ -26,8 +26,8 @@ returns c nodes receivers entries receiver schema legal there =
     let accepted : taken_of offered ≡ got ++ waiting = sym (take-append-drop (count_taken receiver served) (taken_of offered)) in
     let rows = own_rows nodes receivers entries receiver c.every_attempt_tells_of_what_was_selected.ensures.made c.a_journal_keeps_a_datastore.ensures.entries of in
     let goes : GoesByAsk nodes receivers entries receiver = (λ id ask gives. (
-      tells.mirrored nodes receivers entries receiver schema legal gives.before gives.entry gives.after gives.by id ask gives.parts gives.command gives.reply,
-      tells.resyncing nodes receivers entries receiver schema legal gives.before gives.entry gives.after gives.by id ask gives.parts gives.command gives.reply,
+      tells.mirrored nodes receivers entries receiver schema legal gives.before gives.entry gives.after id ask gives.parts gives.grants,
+      tells.resyncing nodes receivers entries receiver schema legal gives.before gives.entry gives.after id ask gives.parts gives.grants,
     )) in
     let copies : CopyLaws = record {
       fresh = c.a_receivers_copy_is_fresh_after_each_update.ensures;
