@@ -16,8 +16,8 @@ use Rattle.yp_attempt.specs.Tracks.{Answer, Took, Full, Attempt, Track, attempt}
 use Rattle.yp_attempt.specs.Runs.{Found}
 use Rattle.yp_serial.specs.Posts.{Post, answer_by, after_offer, after_take}
 use Rattle.yp_serial.specs.Serial.{Served, found_answer, served_settled}
-use Rattle.yp_roster.specs.declared.settling.Settled.TheVariants as settled
-use Rattle.yp_roster.specs.Steps.{answer_of}
+use Rattle.yp_slot.specs.declared.settling.Settled.TheVariants as settled
+use Rattle.yp_slot.specs.Steps.{answer_of}
 use Rattle.yp_worker.specs.Packets.{packet_of}
 use Rattle.yp_promise.specs.Posts.{HasPost}
 use Rattle.yp_promise.specs.Received.{received}

@@ -10,8 +10,8 @@ use Rattle.yp_attempt.specs.Runs.{Found, Reaches, Run as AttemptRun, waits}
 use Rattle.yp_attempt.specs.Tracks.{Answer, Attempt, attempt}
 use Rattle.yp_moment.specs.Entries.{moments_of}
 use Rattle.yp_moment.specs.Windows.{recorded}
-use Rattle.yp_roster.specs.declared.settling.Settled.{Settled}
-use Rattle.yp_roster.specs.Steps.{answer_of}
+use Rattle.yp_slot.specs.declared.settling.Settled.{Settled}
+use Rattle.yp_slot.specs.Steps.{answer_of}
 use Rattle.yp_serial.specs.Serial.{Served, found_answer, served_settled}
 use Rattle.yp_serial.specs.Weights.{weights}
 use Rattle.yp_worker.specs.declared.offering.Sent.{Sent}

@@ -8,8 +8,8 @@ use Rattle.yp_encode.specs.Lines.{line_of}
 use Rattle.yp_journal.specs.declared.receiver.ReceiverInfo.{ReceiverInfo}
 use Rattle.yp_queue.specs.declared.packet.Packet.{Packet}
 use Rattle.yp_queue.specs.Queues.{QueueState, has_room, with_packets}
-use Rattle.yp_roster.specs.declared.settling.Settled.{Settled}
-use Rattle.yp_roster.specs.declared.settling.Settled.TheVariants as answers
+use Rattle.yp_slot.specs.declared.settling.Settled.{Settled}
+use Rattle.yp_slot.specs.declared.settling.Settled.TheVariants as answers
 use Rattle.yp_attempt.specs.Tracks.{Answer, Took, Full, Attempt}
 use Rattle.yp_serial.specs.Serial.{Served}
 use Rattle.yp_worker.specs.Packets.{kind_of, packet_of}

@@ -20,8 +20,8 @@ use yp_journal::receiver::ReceiverInfo;
 use yp_queue::local::LocalQueue;
 use yp_queue::packet::{Offered, Packet, PacketKind};
 use yp_receiver::holdings::Holdings;
-use yp_roster::settling::Settled;
 use yp_schema::schema::Schema;
+use yp_slot::settling::Settled;
 use yp_worker::offering::Sent;
 
 /// What is kept of an offer.

@@ -10,9 +10,10 @@ use Rattle.yp_terms.specs.Terms.{Terms}
 use Rattle.yp_journal.specs.History.{JournalState}
 use Rattle.yp_attempt.specs.Moments.{Moment, new_track}
 use Rattle.yp_attempt.specs.Tracks.{Track}
-use Rattle.yp_roster.specs.declared.slot.Slot.{Slot}
-use Rattle.yp_roster.specs.Slots.{AreSlotsOf, IsSlotOf}
-use Rattle.yp_roster.specs.Steps.{names_of, new_tracks}
+use Rattle.yp_slot.specs.declared.slot.Slot.{Slot}
+use Rattle.yp_roster.specs.Ordered.{AreSlotsOf}
+use Rattle.yp_slot.specs.Slots.{IsSlotOf}
+use Rattle.yp_roster.specs.Passed.{names_of, new_tracks}
 
 -- ---- subscriptions that are found
 

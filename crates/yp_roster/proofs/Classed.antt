@@ -4,69 +4,24 @@ use Rattle.std.specs.Prelude.{slice_set, ◌||◌}
 use Rattle.std.specs.List.{AllByRecursion, slice_get}
 use Rattle.std.proofs.lemmas.Bool.{or_right}
 use Rattle.std.proofs.lemmas.List.{drop_more}
-use Rattle.yp_base.specs.declared.notice.Kinds.{Kinds}
-use Rattle.yp_base.specs.declared.notice.Change.{Change}
 use Rattle.yp_schema.specs.declared.schema.SchemaNode.{SchemaNode}
-use Rattle.yp_filter.specs.View.{filter_view}
-use Rattle.yp_nacm.specs.Decision.{is_readable}
-use Rattle.yp_select.specs.Selection.{selection}
 use Rattle.yp_touch.specs.declared.root.Root.{Root}
-use Rattle.yp_touch.specs.Absorbed.{absorbed}
-use Rattle.yp_touch.specs.Absorbed.{recorded as record_of_roots}
 use Rattle.yp_journal.specs.History.{JournalState, rules_at}
-use Rattle.yp_attempt.specs.Tracks.{excluded_kinds}
-use Rattle.yp_roster.specs.declared.classes.Class.{Class}
-use Rattle.yp_roster.specs.declared.records.Told.{Told}
+use Rattle.yp_slot.specs.declared.classes.Class.{Class}
 use Rattle.yp_roster.specs.declared.roster.Roster.{Roster}
-use Rattle.yp_roster.specs.declared.slot.Slot.{Slot}
-use Rattle.yp_roster.specs.Classes.{AreClasses, AreClassedTo, AreClassesOf, HasClass, HaveClasses, IsClassOf, KeepNumbers, Member, follow, member_of}
-use Rattle.yp_roster.specs.Records.{AreTold, IsRecord, IsTold, record_for}
+use Rattle.yp_slot.specs.declared.slot.Slot.{Slot}
+use Rattle.yp_slot.specs.Classes.{AreClasses, HasClass, IsClassOf, KeepNumbers, Member, follow, member_of}
+use Rattle.yp_roster.specs.Ordered.{AreClassedTo, AreClassesOf, HaveClasses}
+use Rattle.yp_slot.specs.Records.{AreTold}
 use Rattle.yp_roster.specs.Rosters.{AreQuietTo, IsClassed}
-use Rattle.yp_roster.specs.Slots.{record_at}
-use Rattle.yp_roster.specs.Steps.{AreStepsOf, IsStepOf, step_of}
+use Rattle.yp_roster.specs.Passed.{AreStepsOf}
+use Rattle.yp_slot.specs.Steps.{IsStepOf}
 
 -- ---- lists
 
 -- what holds of all that is left holds of the next one, and of all after it
 pub next_of : {X : Type 0} (P : X → Type 0) (xs : List X) (i : ℕ) (x : X) → i < length xs → x ≡ get_or xs i x → AllByRecursion P (drop i xs) → P x × AllByRecursion P (drop (i + 1) xs)
 next_of P xs i x less is all = subst (AllByRecursion P) (drop_more xs i x less ∙ ap (λ y. y ∷ drop (i + 1) xs) (sym is)) all
-
--- what is added has the next number
-pub added_last : {X : Type 0} (xs : List X) (x : X) → slice_get (xs ++ x ∷ []) (length xs) ≡ Some x
-added_last [] x = refl
-added_last (y ∷ xs) x = added_last xs x
-
--- a number at which there is one is within the list
-pub within_is : {X : Type 0} (xs : List X) (number : ℕ) (x : X) → slice_get xs number ≡ Some x → number < length xs
-within_is [] number x there = absurd cc
-within_is (y ∷ xs) zero x there = omega arith
-within_is (y ∷ xs) (suc number) x there = let less = within_is xs number x there in omega (arith, less)
-
--- what holds of all holds of the one at a number
-pub one_of : {X : Type 0} (P : X → Type 0) (xs : List X) (number : ℕ) (x : X) → AllByRecursion P xs → slice_get xs number ≡ Some x → P x
-one_of P [] number x all there = absurd cc
-one_of P (y ∷ xs) zero x all there = let one : y ≡ x = cc in subst P one all.0
-one_of P (y ∷ xs) (suc number) x all there = one_of P xs number x all.1 there
-
-pub one_some : {X : Type 0} (a b : X) → Some a ≡ Some b → a ≡ b
-one_some a b e = cc
-
--- the one at a place
-pub get_there : {X : Type 0} (xs : List X) (i : ℕ) (x : X) → i < length xs → x ≡ get_or xs i x → slice_get xs i ≡ Some x
-get_there [] i x within is = absurd (omega (arith, within))
-get_there (y ∷ xs) zero x within is = ap (λ z. Some z) (sym is)
-get_there (y ∷ xs) (suc i) x within is = get_there xs i x (omega (arith, within)) is
-
-pub was_there : {X : Type 0} (xs : List X) (i : ℕ) (x y : X) → x ≡ get_or xs i x → slice_get xs i ≡ Some y → x ≡ y
-was_there [] i x y is there = absurd cc
-was_there (z ∷ xs) zero x y is there = let one : z ≡ y = cc in is ∙ one
-was_there (z ∷ xs) (suc i) x y is there = was_there xs i x y is there
-
--- what was there keeps its place where one is added
-pub keep_more : (classes : List Class) (class : Class) → KeepNumbers classes (classes ++ class ∷ [])
-keep_more [] class number other there = absurd cc
-keep_more (c ∷ classes) class zero other there = there
-keep_more (c ∷ classes) class (suc number) other there = keep_more classes class number other there
 
 -- ---- members
 
@@ -172,39 +127,7 @@ module _ (nodes : List SchemaNode) (before after : JournalState) (rules : (numbe
     each = members_alike classes (map member_of slots) are.each;
   }
 
--- ---- the records of classes
-
--- the record of a class is that of each of its slots with the same places, without the same kinds of edits
-pub record_shared : (nodes : List SchemaNode) (state : JournalState) (class : Class) (slot : Slot) (excluded : Kinds) (roots : List Root) → IsClassOf state class (member_of slot)
-    → record_for nodes state (filter_view class.filter) class.first excluded roots ≡ record_for nodes state (filter_view slot.filter) slot.feed.receiver excluded roots
-record_shared nodes state class slot excluded roots shares = λ i. record_of_roots excluded roots (selection nodes (shares.filter i) (λ path. is_readable nodes (shares.rules i) path) state.rows)
-
--- a record that a class was told is that of a slot of it with the same places, without the same kinds of edits
-module _ (nodes : List SchemaNode) (state : JournalState) (classes : List Class) (slot : Slot) (has : HasClass state classes (member_of slot)) (one : Told) (number : one.class ≡ slot.class) (kinds : one.excluded ≡ excluded_kinds slot.feed.trigger) (places : one.touched ≡ slot.touched) where
-  pub told_again : IsTold nodes state classes one → IsRecord nodes state.position (record_at nodes state slot) one.made
-  told_again told =
-      let same : told.class ≡ has.class = one_some told.class has.class (sym told.there ∙ ap (slice_get classes) number ∙ has.there) in
-      let made : record_for nodes state (filter_view told.class.filter) told.class.first one.excluded one.touched ≡ record_at nodes state slot =
-      (λ i. record_for nodes state (filter_view (same i).filter) (same i).first (kinds i) (places i)) ∙ record_shared nodes state has.class slot (excluded_kinds slot.feed.trigger) slot.touched has.shared in
-      subst (λ (changes : List Change). IsRecord nodes state.position changes one.made) made told.record_is
-
-  pub told_first : IsRecord nodes state.position (record_at nodes state slot) one.made → IsTold nodes state classes one
-  told_first is =
-      let made : record_for nodes state (filter_view has.class.filter) has.class.first one.excluded one.touched ≡ record_at nodes state slot =
-      (λ i. record_for nodes state (filter_view has.class.filter) has.class.first (kinds i) (places i)) ∙ record_shared nodes state has.class slot (excluded_kinds slot.feed.trigger) slot.touched has.shared in
-      record {
-        class = has.class;
-        there = ap (slice_get classes) number ∙ has.there;
-        record_is = subst (λ (changes : List Change). IsRecord nodes state.position changes one.made) (sym made) is;
-      }
-
 -- ---- the steps of classes
-
--- the step of a class is that of each of its slots
-pub step_shared : (nodes : List SchemaNode) (before after : JournalState) (class : Class) (slot : Slot) → IsClassOf after class (member_of slot)
-    → step_of nodes before after (filter_view class.filter) class.first ≡ step_of nodes before after (filter_view slot.filter) slot.feed.receiver
-step_shared nodes before after class slot shares =
-    λ i. absorbed [] (selection nodes (shares.filter i) (λ path. is_readable nodes (shares.rules i) path) before.rows) (selection nodes (shares.filter i) (λ path. is_readable nodes (shares.rules i) path) after.rows)
 
 module _ (nodes : List SchemaNode) (before after : JournalState) where
   -- the step of the class of a number

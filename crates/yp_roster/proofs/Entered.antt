@@ -1,12 +1,14 @@
 -- Slots that went on by an entry, one after another.
 use Rattle.std.proofs.Common.{◌≡◌, ℕ, zero, suc, ◌+◌, ◌<◌, ◌≤◌, sym, subst, List, [], ◌∷◌, map, length, get_or, arith}
 use Rattle.std.specs.Prelude.{slice_set}
-use Rattle.yp_journal.specs.History.{JournalState}
+use Rattle.yp_journal.specs.History.{JournalState, rules_at}
 use Rattle.yp_attempt.specs.Tracks.{Track}
-use Rattle.yp_roster.specs.declared.following.Entered.{Entered}
-use Rattle.yp_roster.specs.declared.slot.Slot.{Slot}
-use Rattle.yp_roster.specs.Slots.{AreSlotsOf, IsSlotOf}
-use Rattle.yp_roster.specs.Steps.{AreEnteredTo, entered_track}
+use Rattle.yp_slot.specs.declared.following.Entered.{Entered}
+use Rattle.yp_slot.specs.declared.slot.Slot.{Slot}
+use Rattle.yp_roster.specs.Ordered.{AreSlotsOf}
+use Rattle.yp_slot.specs.Slots.{IsSlotOf}
+use Rattle.yp_roster.specs.Passed.{AreEnteredTo}
+use Rattle.yp_slot.specs.Steps.{IsEntered, entered_track}
 
 module _ (e : Entered) (before : JournalState) where
   -- the slot at the place stands for a track still
@@ -45,3 +47,18 @@ module _ (e : Entered) (before : JournalState) where
   entered_all (suc place) [] (track ∷ tracks) are past_all = absurd are
   entered_all (suc place) (first ∷ slots) [] are past_all = absurd are
   entered_all (suc place) (first ∷ slots) (track ∷ tracks) are past_all = (are.0, entered_all place slots tracks are.1 (omega (arith, past_all)))
+
+-- ---- entries that leave all slots
+
+-- the law of them that is rested on
+abbrev pub QuietEntriesLeave : Type 0
+QuietEntriesLeave = (e : Entered) (before : JournalState) → IsEntered e before → e.present.state.now.rows ≡ before.rows → ((number : ℕ) → rules_at e.present.state.now number ≡ rules_at before number)
+    → (slot : Slot) (track : Track) → IsSlotOf e.present.schema.now before slot track → IsSlotOf e.present.schema.now e.present.state.now slot (entered_track e before track)
+
+-- an entry that leaves the rows and the rules leaves each slot
+pub pass_quietly : QuietEntriesLeave → (e : Entered) (before : JournalState) → IsEntered e before → e.present.state.now.rows ≡ before.rows → ((number : ℕ) → rules_at e.present.state.now number ≡ rules_at before number)
+    → (slots : List Slot) (tracks : List Track) → AreSlotsOf e.present.schema.now before slots tracks → AreSlotsOf e.present.schema.now e.present.state.now slots (map (entered_track e before) tracks)
+pass_quietly law e before entered rows rules [] [] are = tt
+pass_quietly law e before entered rows rules [] (track ∷ tracks) are = absurd are
+pass_quietly law e before entered rows rules (slot ∷ slots) [] are = absurd are
+pass_quietly law e before entered rows rules (slot ∷ slots) (track ∷ tracks) are = (law e before entered rows rules slot track are.0, pass_quietly law e before entered rows rules slots tracks are.1)

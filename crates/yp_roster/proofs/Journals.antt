@@ -8,10 +8,10 @@ use Rattle.yp_journal.specs.History.{JournalState, IsLegal, first_state, next_st
 use Rattle.yp_attempt.specs.Moments.{Moment, AllMayFollow, MayFollow}
 use Rattle.yp_attempt.specs.Tracks.{Answer}
 use Rattle.yp_moment.specs.Entries.{moment_between, moment_of, moments_of}
-use Rattle.yp_roster.specs.declared.following.Entered.{Entered}
-use Rattle.yp_roster.specs.declared.slot.Slot.{Slot}
+use Rattle.yp_slot.specs.declared.following.Entered.{Entered}
+use Rattle.yp_slot.specs.declared.slot.Slot.{Slot}
 use Rattle.yp_roster.specs.Rosters.{IsRosterAt, IsRosterOf}
-use Rattle.yp_roster.specs.Steps.{IsEntered, entered_moment}
+use Rattle.yp_slot.specs.Steps.{IsEntered, entered_moment}
 
 -- the laws of journals that are rested on
 pub record JournalsGoOn : Type 0 where

@@ -1,11 +1,5 @@
-pub mod Numbers
-pub mod Results
 pub mod Classed
-pub mod Standing
-pub mod Looks
-pub mod Going
 pub mod Quiet
-pub mod Entering
 pub mod Placing
 pub mod Offering
 pub mod Entered

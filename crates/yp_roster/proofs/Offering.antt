@@ -12,10 +12,11 @@ use Rattle.yp_attempt.specs.Tracks.{Answer, Track}
 use Rattle.yp_attempt.specs.Workers.{Stands, all_ready, answered_alone, puts, ready}
 use Rattle.yp_moment.specs.Windows.{recorded}
 use Rattle.yp_roster.specs.declared.roster.Offer.{Offer}
-use Rattle.yp_roster.specs.declared.slot.Looked.{Looked}
-use Rattle.yp_roster.specs.declared.slot.Slot.{Slot}
+use Rattle.yp_slot.specs.declared.slot.Looked.{Looked}
+use Rattle.yp_slot.specs.declared.slot.Slot.{Slot}
 use Rattle.yp_roster.specs.Rosters.{ready_at, standing_at, IsFoundAt, IsIdleAt, IsLookedTo, IsRosterAt, IsTurnOf}
-use Rattle.yp_roster.specs.Slots.{AreSlotsOf, IsSlotOf}
+use Rattle.yp_roster.specs.Ordered.{AreSlotsOf}
+use Rattle.yp_slot.specs.Slots.{IsSlotOf}
 use Rattle.yp_roster.proofs.Placing.{as_many_slots, slot_put, slot_gone, none_offered, first_found}
 
 -- the laws of looks and answers that are rested on

@@ -10,10 +10,11 @@ use Rattle.yp_attempt.specs.ListLaws.{all_append}
 use Rattle.yp_attempt.specs.Runs.{found_in, first_offer}
 use Rattle.yp_attempt.specs.Tracks.{Track, offered_item}
 use Rattle.yp_moment.specs.Windows.{recorded}
-use Rattle.yp_roster.specs.declared.slot.Looked.{Looked}
-use Rattle.yp_roster.specs.declared.slot.Slot.{Slot}
+use Rattle.yp_slot.specs.declared.slot.Looked.{Looked}
+use Rattle.yp_slot.specs.declared.slot.Slot.{Slot}
 use Rattle.yp_roster.specs.Rosters.{ready_at, IsLookedTo, IsTurnOf}
-use Rattle.yp_roster.specs.Slots.{AreSlotsOf, IsSlotOf, IsLook}
+use Rattle.yp_roster.specs.Ordered.{AreSlotsOf}
+use Rattle.yp_slot.specs.Slots.{IsSlotOf, IsLook}
 
 module _ (nodes : List SchemaNode) (state : JournalState) where
   -- there are as many slots as tracks

@@ -12,42 +12,37 @@ use Rattle.yp_terms.specs.declared.refused.Refused.{Refused}
 use Rattle.yp_registry.specs.Ids.{HasRisingIds}
 use Rattle.yp_registry.specs.Registry.{Subscriptions, establish_answer, established, next_id}
 use Rattle.yp_terms.specs.Terms.{Terms}
-use Rattle.yp_feed.specs.Machine.{FeedState, freezes}
+use Rattle.yp_feed.specs.Machine.{FeedState}
 use Rattle.yp_journal.specs.declared.command.Command.{Command}
 use Rattle.yp_journal.specs.declared.command.Command.TheVariants.{Tick, Edit, Rules, Establish, Take}
 use Rattle.yp_journal.specs.declared.entry.Entry.{Entry}
 use Rattle.yp_journal.specs.declared.reply.Reply.TheVariants.{Id}
 use Rattle.yp_journal.specs.History.{JournalState, next_state, reply_by, reply_to}
-use Rattle.yp_attempt.specs.ListLaws.{by_bool, filter_fail, filter_pass}
+use Rattle.yp_attempt.specs.ListLaws.{filter_fail, filter_pass}
 use Rattle.yp_attempt.specs.Moments.{Moment, Act, Quiet, Starts, after_moment, is_kept_by, new_track}
 use Rattle.yp_attempt.specs.Runs.{Standing, with_started}
 use Rattle.yp_attempt.specs.TrackLaws.{moment_same}
-use Rattle.yp_attempt.specs.Tracks.{Answer, Track, freeze_tried, rebased, roots_in}
+use Rattle.yp_attempt.specs.Tracks.{Answer, Track, freeze_tried, rebased}
 use Rattle.yp_attempt.specs.Workers.{Stands, takes}
 use Rattle.yp_moment.specs.Windows.{recorded}
-use Rattle.yp_roster.specs.declared.following.Entered.{Entered}
-use Rattle.yp_roster.specs.declared.slot.Slot.{Slot}
+use Rattle.yp_slot.specs.declared.following.Entered.{Entered}
+use Rattle.yp_slot.specs.declared.slot.Slot.{Slot}
 use Rattle.yp_roster.specs.Rosters.{ready_at, standing_at, IsIdleAt, IsRosterAt}
-use Rattle.yp_roster.specs.Slots.{AreSlotsOf}
-use Rattle.yp_roster.specs.Steps.{IsEntered, IsGivenBy, entered_moment, entered_track, names_of, new_tracks}
+use Rattle.yp_roster.specs.Ordered.{AreSlotsOf}
+use Rattle.yp_slot.specs.Steps.{IsEntered, entered_moment, entered_track}
+use Rattle.yp_roster.specs.Passed.{IsGivenBy, names_of, new_tracks}
 use Rattle.yp_roster.proofs.Begun.{found_id, found_has}
-use Rattle.yp_roster.proofs.Looks.{tried_as}
-use Rattle.yp_roster.proofs.Quiet.{frozen_stays}
 use Rattle.yp_roster.proofs.Offering.{LooksChangeNothing}
 
 -- ---- a record is set aside once
 
-tried_twice : (n stamp : ℕ) (t : Track) → freeze_tried recorded n stamp (freeze_tried recorded n stamp t) ≡ freeze_tried recorded n stamp t
-tried_twice n stamp t =
-    by_bool (freezes t.feed (roots_in recorded t))
-    (λ e.
-    let here : freeze_tried recorded n stamp t ≡ tried_as n stamp t true = ap (tried_as n stamp t) e in
-    ap (freeze_tried recorded n stamp) here ∙ ap (tried_as n stamp (tried_as n stamp t true)) (frozen_stays t.feed (roots_in recorded t)) ∙ sym here)
-    (λ e. let here : freeze_tried recorded n stamp t ≡ t = ap (tried_as n stamp t) e in ap (freeze_tried recorded n stamp) here)
+-- the law of it that is rested on
+abbrev pub RecordsAreSetAsideOnce : Type 0
+RecordsAreSetAsideOnce = (n stamp : ℕ) (t : Track) → freeze_tried recorded n stamp (freeze_tried recorded n stamp t) ≡ freeze_tried recorded n stamp t
 
 -- the next look sets it aside, if it was not
-ready_again : (state : JournalState) (t : Track) → ready_at state (freeze_tried recorded state.position state.stamp t) ≡ ready_at state t
-ready_again state t = ap (rebased recorded state.position state.stamp) (tried_twice state.position state.stamp t)
+ready_again : RecordsAreSetAsideOnce → (state : JournalState) (t : Track) → ready_at state (freeze_tried recorded state.position state.stamp t) ≡ ready_at state t
+ready_again once state t = ap (rebased recorded state.position state.stamp) (once state.position state.stamp t)
 
 -- ---- picked tracks
 
@@ -111,11 +106,11 @@ with_act act m = record m { act = act }
 abbrev tracks_by : Moment → ℕ → List ℕ → Act → List Track → List Track
 tracks_by m n mine act tracks = with_started (with_act act m) n act mine (map (after_moment recorded (with_act act m) n) (filter (is_kept_by act) tracks))
 
-module _ (e : Entered) (before : JournalState) where
+module _ (once : RecordsAreSetAsideOnce) (e : Entered) (before : JournalState) where
   quiet_same : (tracks : List Track) → map (ready_at e.present.state.now) (map (entered_track e before) tracks)
       ≡ map (ready_at e.present.state.now) (map (after_moment recorded (with_act Quiet (entered_moment e before)) e.present.state.now.position) (filter (is_kept_by Quiet) tracks))
   quiet_same [] = refl
-  quiet_same (track ∷ tracks) = λ i. sym (ready_again e.present.state.now (entered_track e before track)) i ∷ quiet_same tracks i
+  quiet_same (track ∷ tracks) = λ i. sym (ready_again once e.present.state.now (entered_track e before track)) i ∷ quiet_same tracks i
 
   module _ (sub : ℕ) (trigger : Trigger) (configured : Bool) (names : ℕ → Bool) where
     abbrev moved : List Track → List Track
@@ -123,7 +118,7 @@ module _ (e : Entered) (before : JournalState) where
 
     starting_same : (tracks : List Track) → map (ready_at e.present.state.now) (map (entered_track e before) tracks) ≡ map (ready_at e.present.state.now) (moved tracks)
     starting_same [] = refl
-    starting_same (track ∷ tracks) = λ i. sym (ready_again e.present.state.now (entered_track e before track)) i ∷ starting_same tracks i
+    starting_same (track ∷ tracks) = λ i. sym (ready_again once e.present.state.now (entered_track e before track)) i ∷ starting_same tracks i
 
     moved_lower : (tracks : List Track) → AllByRecursion (λ track. track.feed.sub < sub) tracks → AllByRecursion (λ track. nat_lt track.feed.sub sub ≡ true) (moved tracks)
     moved_lower [] all = tt

@@ -1,6 +1,3 @@
-pub mod Readers
-pub mod Slots
-pub mod Classes
-pub mod Records
-pub mod Steps
+pub mod Ordered
+pub mod Passed
 pub mod Rosters

@@ -1,5 +1,5 @@
 -- A roster of the feeds of some receivers: the entries of a journal and the answers that it stands for, and what it offers next.
-use Rattle.std.specs.Prelude.{◌≡◌, ℕ, ◌≤◌, ◌∷◌, ◌++◌, List, length, map, min, take, false, Option, Some, None}
+use Rattle.std.specs.Prelude.{◌≡◌, ℕ, ◌≤◌, ◌∷◌, ◌++◌, List, length, map, take, Option, Some, None}
 use Rattle.std.specs.List.{AllByRecursion}
 use Rattle.yp_schema.specs.declared.schema.SchemaNode.{SchemaNode}
 use Rattle.yp_schema.specs.WellFormed.{IsSchema}
@@ -10,7 +10,6 @@ use Rattle.yp_time.specs.Ticks.{tick_limit}
 use Rattle.yp_journal.specs.declared.entry.Entry.{Entry}
 use Rattle.yp_journal.specs.declared.receiver.ReceiverInfo.{ReceiverInfo}
 use Rattle.yp_journal.specs.History.{JournalState, first_state, state_of, IsLegal}
-use Rattle.yp_feed.specs.Machine.{freezes, offer_of}
 use Rattle.yp_attempt.specs.Moments.{Moment}
 use Rattle.yp_attempt.specs.Runs.{Standing, first_offer}
 use Rattle.yp_attempt.specs.Tracks.{Answer, Track, offered_item}
@@ -19,11 +18,11 @@ use Rattle.yp_moment.specs.Entries.{moments_of}
 use Rattle.yp_moment.specs.Windows.{recorded}
 use Rattle.yp_roster.specs.declared.roster.Offer.{Offer}
 use Rattle.yp_roster.specs.declared.roster.Roster.{Roster}
-use Rattle.yp_roster.specs.declared.slot.Looked.{Looked}
-use Rattle.yp_roster.specs.declared.slot.Slot.{Slot}
-use Rattle.yp_roster.specs.Classes.{AreClassesOf}
-use Rattle.yp_roster.specs.Records.{AreTold}
-use Rattle.yp_roster.specs.Slots.{AreSlotsOf, IsOfferOf}
+use Rattle.yp_slot.specs.declared.slot.Looked.{Looked}
+use Rattle.yp_slot.specs.declared.slot.Slot.{Slot}
+use Rattle.yp_roster.specs.Ordered.{AreClassesOf, AreSlotsOf}
+use Rattle.yp_slot.specs.Records.{AreTold}
+use Rattle.yp_slot.specs.Slots.{IsOfferOf, IsQuiet}
 
 -- a track that was looked at, at a state
 abbrev pub ready_at : JournalState → Track → Track
@@ -48,11 +47,6 @@ pub record IsRosterOf (nodes : List SchemaNode) (receivers : List ReceiverInfo) 
   pub stands : IsRosterAt nodes (state_of nodes (first_state receivers) entries) mine (moments_of nodes receivers entries) answers slots
 
 -- ---- how its slots share, and which were looked at
-
--- a slot that was looked at and offers nothing: it has nothing to set aside, and would offer nothing even if the record of its places had an edit
-pub record IsQuiet (state : JournalState) (slot : Slot) : Type 0 where
-  pub thawed : freezes slot.feed (min (length slot.touched) 4294967295) ≡ false
-  pub none : offer_of slot.feed (min (length slot.touched) 4294967295) 1 state.stamp ≡ None
 
 -- so many of some slots are
 abbrev pub AreQuietTo : JournalState → ℕ → List Slot → Type 0

@@ -8,12 +8,12 @@ ghost use Rattle.yp_journal.specs.History.{IsLegal, JournalState, first_state, s
 ghost use Rattle.yp_attempt.specs.Moments.{MayFollow, Moment};
 ghost use Rattle.yp_attempt.specs.Tracks.{Answer};
 ghost use Rattle.yp_moment.specs.Entries.{moments_of};
-ghost use Rattle.yp_roster.specs.declared.following.Entered.{Entered};
+ghost use Rattle.yp_slot.specs.declared.following.Entered.{Entered};
 ghost use Rattle.yp_roster.specs.declared.roster.Offer.{Offer};
-ghost use Rattle.yp_roster.specs.declared.slot.Slot.{Slot};
+ghost use Rattle.yp_slot.specs.declared.slot.Slot.{Slot};
 ghost use Rattle.yp_roster.specs.Rosters.{IsFoundAt, IsIdleAt, IsRosterAt, IsRosterOf, IsSound};
-ghost use Rattle.yp_roster.specs.Slots.{IsSlotOf};
-ghost use Rattle.yp_roster.specs.Steps.{IsEntered, entered_moment};
+ghost use Rattle.yp_slot.specs.Slots.{IsSlotOf};
+ghost use Rattle.yp_slot.specs.Steps.{IsEntered, entered_moment};
 
 use yp_journal::laws::{
     a_journal_goes_on_entry_by_entry, a_journal_keeps_a_datastore, a_journal_keeps_users_and_names,

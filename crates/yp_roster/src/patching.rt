@@ -1,25 +1,23 @@
 //! What a patch makes of slots, by their classes.
-ghost use Rattle.std.specs.Prelude.{◌≡◌, ◌+◌, ◌<◌, ℕ, [], List, length, map, true, is_some, Some, IfOk, OnOk};
+ghost use Rattle.std.specs.Prelude.{◌≡◌, ◌+◌, ◌<◌, [], List, length, map, true, is_some, Some, IfOk, OnOk};
 ghost use Rattle.std.specs.List.{AllByRecursion, slice_get};
 ghost use Rattle.yp_filter.specs.View.{filter_view};
 ghost use Rattle.yp_journal.specs.History.{JournalState};
 ghost use Rattle.yp_attempt.specs.Tracks.{Track};
-ghost use Rattle.yp_roster.specs.declared.classes.Class.{Class as ClassThere};
-ghost use Rattle.yp_roster.specs.Classes.{AreClasses, AreClassesOf, HaveClasses, IsClass, member_of};
-ghost use Rattle.yp_roster.specs.Slots.{AreSlotsOf};
-ghost use Rattle.yp_roster.specs.Steps.{AreEnteredTo, AreStepsOf, HasTree, IsEnteredByPatch, IsStepOf, entered_track, step_of};
+ghost use Rattle.yp_slot.specs.declared.classes.Class.{Class as ClassThere};
+ghost use Rattle.yp_slot.specs.Classes.{AreClasses, IsClass, member_of};
+ghost use Rattle.yp_roster.specs.Ordered.{AreClassesOf, HaveClasses, AreSlotsOf};
+ghost use Rattle.yp_roster.specs.Passed.{AreEnteredTo, AreStepsOf, HasTree};
+ghost use Rattle.yp_slot.specs.Steps.{IsEnteredByPatch, IsStepOf, entered_track, step_of};
 
-use crate::classes::Class;
-use crate::following::Entered;
-use crate::slot::Slot;
 use std::alloc::Global;
 use std::sync::ledger::Ledger;
 use yp_base::memory::NoMemory;
 use yp_base::steps::Steps;
-use yp_nacm::laws::same_rules_are_one;
-use yp_touch::laws::{
-    a_step_without_roots_leaves_the_roots, absorbed_roots_are_those_of_the_window,
-};
+use yp_slot::classes::Class;
+use yp_slot::following::Entered;
+use yp_slot::laws::what_a_patch_makes_of_slots;
+use yp_slot::slot::Slot;
 use yp_touch::touched::Touched;
 use yp_tree::tree::Tree;
 
@@ -127,7 +125,7 @@ fn join_at(
     ensures entered { OnOk result ((before : JournalState) (classes : List ClassThere) (tracks : List Track) → IsEnteredByPatch entered.now before → AreStepsOf entered.now.present.schema.now before entered.now.present.state.now classes steps.now → HaveClasses before classes slots.old.items
         → AreEnteredTo entered.now before place slots.old.items tracks → AreEnteredTo entered.now before (place + 1) slots.new.items tracks) }
 {
-    same_rules_are_one();
+    what_a_patch_makes_of_slots();
     let slot = &mut slots[place];
     let step = step_at(steps, slot.class);
     slot.join(alloc, step)
@@ -168,9 +166,7 @@ pub(crate) fn enter_patch<L: Ledger>(
         → AreSlotsOf entered.now.present.schema.now before slots.old.items tracks
         → AreSlotsOf entered.now.present.schema.now entered.now.present.state.now slots.new.items (map (entered_track entered.now before) tracks)) }
 {
-    same_rules_are_one();
-    absorbed_roots_are_those_of_the_window();
-    a_step_without_roots_leaves_the_roots();
+    what_a_patch_makes_of_slots();
     let those = steps_of(alloc, entered, classes, steps)?;
     let list = those.as_slice();
     if touch_nothing(list) {

@@ -1,5 +1,5 @@
 //! The roster: the slots of some receivers, in the order in which they are asked for offers.
-ghost use Rattle.std.specs.Prelude.{◌≡◌, ◌+◌, ◌<◌, ◌∷◌, ◌++◌, [], ℕ, List, length, take, None, ◌≤◌, vec_len, IfOk, OnOk, Option, Some, IfSome, map, option_copied};
+ghost use Rattle.std.specs.Prelude.{◌≡◌, ◌+◌, ◌<◌, ◌∷◌, ◌++◌, [], ℕ, List, length, take, None, ◌≤◌, IfOk, OnOk, Option, Some, IfSome, map, option_copied};
 ghost use Rattle.yp_schema.specs.declared.schema.SchemaNode.{SchemaNode};
 ghost use Rattle.yp_schema.specs.WellFormed.{IsSchema};
 ghost use Rattle.yp_journal.specs.declared.receiver.ReceiverInfo.{ReceiverInfo};
@@ -9,20 +9,16 @@ ghost use Rattle.yp_terms.specs.Terms.{AreTermsOf};
 ghost use Rattle.yp_moment.specs.Entries.{act_of, starts_with};
 ghost use Rattle.yp_attempt.specs.Moments.{Moment, MayFollow};
 ghost use Rattle.yp_attempt.specs.Tracks.{Answer, Track};
-ghost use Rattle.yp_roster.specs.declared.records.Record.{Record as RecordThere};
-ghost use Rattle.yp_roster.specs.Classes.{AreClassedTo, AreClassesOf, HaveClasses, follow, member_of};
-ghost use Rattle.yp_roster.specs.Records.{AreTold};
+ghost use Rattle.yp_slot.specs.declared.records.Record.{Record as RecordThere};
+ghost use Rattle.yp_roster.specs.Ordered.{AreClassedTo, AreClassesOf, HaveClasses, AreSlotsOf};
+ghost use Rattle.yp_slot.specs.Classes.{follow, member_of};
+ghost use Rattle.yp_slot.specs.Records.{AreTold};
 ghost use Rattle.yp_roster.specs.Rosters.{AreQuietTo, IsClassed, IsFoundAt, IsIdleAt, IsLookedTo, IsNextAt, IsRosterAt, IsRosterOf, IsTurnOf};
-ghost use Rattle.yp_roster.specs.Slots.{AreSlotsOf, IsPresent};
-ghost use Rattle.yp_roster.specs.Steps.{AreEnteredTo, HasTree, IsEntered, IsEnteredByRules, IsGivenBy, IsMomentAt, answer_of, entered_moment, entered_track, new_tracks};
+ghost use Rattle.yp_slot.specs.Slots.{IsPresent};
+ghost use Rattle.yp_roster.specs.Passed.{AreEnteredTo, HasTree, IsGivenBy, IsMomentAt, new_tracks};
+ghost use Rattle.yp_slot.specs.Steps.{IsEntered, IsEnteredByRules, answer_of, entered_moment, entered_track};
 
-use crate::classes::{Class, Classes, follow, number_of};
-use crate::following::Entered;
 use crate::patching::enter_patch;
-use crate::present::Present;
-use crate::records::Record;
-use crate::settling::Settled;
-use crate::slot::{Looked, Slot};
 use std::alloc::Global;
 use std::sync::ledger::Ledger;
 use yp_attempt::laws::{
@@ -37,10 +33,18 @@ use yp_journal::entry::Entry;
 use yp_journal::reply::Reply;
 use yp_journal::state::State;
 use yp_moment::laws::what_feeds_know_of_selections_is_lawful;
-use yp_nacm::laws::same_rules_are_one;
 use yp_registry::laws::an_id_is_given_once;
 use yp_terms::terms::Terms;
-use yp_touch::laws::absorbed_roots_are_those_of_the_window;
+use yp_slot::classes::{Class, Classes, follow, number_of};
+use yp_slot::following::Entered;
+use yp_slot::laws::{
+    a_quiet_slot_was_looked_at, a_record_is_set_aside_once,
+    an_entry_that_moves_no_selection_leaves_slots, what_a_patch_makes_of_slots,
+};
+use yp_slot::present::Present;
+use yp_slot::records::Record;
+use yp_slot::settling::Settled;
+use yp_slot::slot::{Looked, Slot};
 
 /// The slots of the feeds of some receivers, what those of a class share, and how many of the first ones were
 /// looked at since the last entry and offer nothing.
@@ -244,7 +248,7 @@ impl Roster {
     {
         what_feeds_know_of_selections_is_lawful();
         a_look_changes_nothing();
-        absorbed_roots_are_those_of_the_window();
+        a_quiet_slot_was_looked_at();
         for place in self.looked..self.slots.len() {
             let classes = &mut self.classes;
             let found = look_at(&mut self.slots, place, alloc, present, classes, steps)?;
@@ -278,8 +282,8 @@ impl Roster {
             → AreSlotsOf entered.now.present.schema.now entered.now.present.state.now self.new.slots.items (map (entered_track entered.now before) tracks)) }
         ensures classes { OnOk result (AreClassesOf entered.now.present.schema.now entered.now.present.state.now self.new.classes.all.items self.new.slots.items) }
     {
-        same_rules_are_one();
-        absorbed_roots_are_those_of_the_window();
+        an_entry_that_moves_no_selection_leaves_slots();
+        what_a_patch_makes_of_slots();
         match &entered.entry.command {
             Command::Tick(_) => Ok(()),
             Command::Edit(_) => {
@@ -317,6 +321,7 @@ impl Roster {
         a_look_changes_nothing();
         a_worker_takes_the_next_entry();
         an_id_is_given_once();
+        a_record_is_set_aside_once();
         self.enter(alloc, entered, steps)?;
         self.classes.told = Vec::new(alloc);
         self.looked = 0;

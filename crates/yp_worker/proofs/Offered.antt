@@ -22,9 +22,9 @@ use Rattle.yp_attempt.specs.Workers.{Stands, all_ready, found_rebased, ready}
 use Rattle.yp_moment.specs.Entries.{moments_of}
 use Rattle.yp_moment.specs.Notices.{notice_of}
 use Rattle.yp_moment.specs.Windows.{recorded}
-use Rattle.yp_roster.specs.declared.slot.Slot.{Slot}
+use Rattle.yp_slot.specs.declared.slot.Slot.{Slot}
 use Rattle.yp_roster.specs.Rosters.{standing_at}
-use Rattle.yp_roster.specs.Slots.{AreSlotsOf}
+use Rattle.yp_roster.specs.Ordered.{AreSlotsOf}
 use Rattle.yp_worker.specs.declared.offering.Sent.{Sent}
 use Rattle.yp_worker.specs.declared.worker.Worker.{Worker}
 use Rattle.yp_worker.specs.Packets.{packet_of}

@@ -12,9 +12,10 @@ use Rattle.yp_attempt.specs.Runs.{Reaches, Run, first_run}
 use Rattle.yp_attempt.specs.Tracks.{Track, rebased}
 use Rattle.yp_attempt.specs.Workers.{Stands}
 use Rattle.yp_moment.specs.Windows.{recorded}
-use Rattle.yp_roster.specs.declared.slot.Slot.{Slot}
+use Rattle.yp_slot.specs.declared.slot.Slot.{Slot}
 use Rattle.yp_roster.specs.Rosters.{IsClassed, IsIdleAt, IsRosterAt, ready_at, standing_at}
-use Rattle.yp_roster.specs.Slots.{AreRulesAt, AreSlotsOf}
+use Rattle.yp_slot.specs.Slots.{AreRulesAt}
+use Rattle.yp_roster.specs.Ordered.{AreSlotsOf}
 use Rattle.yp_worker.specs.declared.contents.Selected.{Selected}
 use Rattle.yp_worker.specs.declared.worker.Worker.{Worker}
 use Rattle.yp_worker.specs.Contents.{AreSelected}

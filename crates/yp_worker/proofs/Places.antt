@@ -3,10 +3,11 @@ use Rattle.std.proofs.Common.{◌≡◌, ◌∙◌, sym, ap, subst, ℕ, zero, s
 use Rattle.yp_schema.specs.declared.schema.SchemaNode.{SchemaNode}
 use Rattle.yp_journal.specs.History.{JournalState}
 use Rattle.yp_attempt.specs.Tracks.{Track}
-use Rattle.yp_roster.specs.declared.records.Record.{Record}
+use Rattle.yp_slot.specs.declared.records.Record.{Record}
 use Rattle.yp_roster.specs.declared.roster.Offer.{Offer}
-use Rattle.yp_roster.specs.declared.slot.Slot.{Slot}
-use Rattle.yp_roster.specs.Slots.{AreSlotsOf, IsSlotOf}
+use Rattle.yp_slot.specs.declared.slot.Slot.{Slot}
+use Rattle.yp_roster.specs.Ordered.{AreSlotsOf}
+use Rattle.yp_slot.specs.Slots.{IsSlotOf}
 use Rattle.yp_worker.specs.declared.worker.Out.{Out}
 
 -- a slot is there

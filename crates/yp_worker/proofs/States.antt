@@ -15,10 +15,10 @@ use Rattle.yp_journal.specs.declared.command.Command.{Command}
 use Rattle.yp_journal.specs.declared.command.Command.TheVariants.{Tick, Edit, Rules, Establish, Take}
 use Rattle.yp_journal.specs.declared.receiver.ReceiverInfo.{ReceiverInfo}
 use Rattle.yp_journal.specs.History.{JournalState, next_state, reply_to, user_of}
-use Rattle.yp_roster.specs.declared.following.Entered.{Entered}
-use Rattle.yp_roster.specs.Readers.{rules_of_users}
-use Rattle.yp_roster.specs.Slots.{AreRulesAt}
-use Rattle.yp_roster.specs.Steps.{IsEntered}
+use Rattle.yp_slot.specs.declared.following.Entered.{Entered}
+use Rattle.yp_slot.specs.Readers.{rules_of_users}
+use Rattle.yp_slot.specs.Slots.{AreRulesAt}
+use Rattle.yp_slot.specs.Steps.{IsEntered}
 use Rattle.yp_worker.specs.Workers.{IsStateOf}
 
 -- each command keeps the rise of the ids

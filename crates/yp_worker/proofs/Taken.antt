@@ -10,12 +10,13 @@ use Rattle.yp_journal.specs.History.{JournalState, IsLegal, MayFollow, first_sta
 use Rattle.yp_attempt.specs.Moments.{Moment, MayFollow as FollowsMoments}
 use Rattle.yp_attempt.specs.Tracks.{Answer, Track}
 use Rattle.yp_moment.specs.Entries.{moments_of}
-use Rattle.yp_roster.specs.declared.following.Entered.{Entered}
+use Rattle.yp_slot.specs.declared.following.Entered.{Entered}
 use Rattle.yp_roster.specs.declared.roster.Roster.{Roster}
-use Rattle.yp_roster.specs.declared.slot.Slot.{Slot}
+use Rattle.yp_slot.specs.declared.slot.Slot.{Slot}
 use Rattle.yp_roster.specs.Rosters.{IsClassed, IsIdleAt, IsRosterAt}
-use Rattle.yp_roster.specs.Slots.{AreRulesAt, AreSlotsOf}
-use Rattle.yp_roster.specs.Steps.{IsEntered, entered_moment}
+use Rattle.yp_slot.specs.Slots.{AreRulesAt}
+use Rattle.yp_roster.specs.Ordered.{AreSlotsOf}
+use Rattle.yp_slot.specs.Steps.{IsEntered, entered_moment}
 use Rattle.yp_worker.specs.declared.worker.Worker.{Worker}
 use Rattle.yp_worker.specs.Contents.{AreSelected}
 use Rattle.yp_worker.specs.Workers.{IsFormer, IsIdleWorkerOf, IsStateOf, IsTaking, IsWorkerOf}

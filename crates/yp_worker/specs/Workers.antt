@@ -19,7 +19,7 @@ use Rattle.yp_moment.specs.Notices.{notice_of}
 use Rattle.yp_moment.specs.Windows.{recorded}
 use Rattle.yp_roster.specs.declared.roster.Offer.{Offer}
 use Rattle.yp_roster.specs.Rosters.{IsClassed, IsRosterAt, IsIdleAt, IsFoundAt}
-use Rattle.yp_roster.specs.Slots.{AreRulesAt}
+use Rattle.yp_slot.specs.Slots.{AreRulesAt}
 use Rattle.yp_worker.specs.declared.offering.Sent.{Sent}
 use Rattle.yp_worker.specs.declared.worker.Worker.{Worker}
 use Rattle.yp_worker.specs.Contents.{AreSelected}

@@ -4,7 +4,7 @@ ghost use Rattle.yp_schema.specs.declared.schema.SchemaNode.{SchemaNode};
 ghost use Rattle.yp_filter.specs.Fits.{filter_fits};
 ghost use Rattle.yp_filter.specs.View.{filter_view};
 ghost use Rattle.yp_journal.specs.History.{JournalState};
-ghost use Rattle.yp_roster.specs.Slots.{IsKeptAt, IsPresent};
+ghost use Rattle.yp_slot.specs.Slots.{IsKeptAt, IsPresent};
 ghost use Rattle.yp_worker.specs.Contents.{AreSelected, IsContent, selected};
 
 use std::alloc::Global;
@@ -16,10 +16,10 @@ use yp_base::txt::Txt;
 use yp_encode::contents::contents_text;
 use yp_filter::filter::Filter;
 use yp_filter::same::same_filter;
-use yp_roster::present::Present;
-use yp_roster::slot::Slot;
 use yp_select::laws::filtered_selection_can_be_written;
 use yp_select::select::select_all;
+use yp_slot::present::Present;
+use yp_slot::slot::Slot;
 
 /// Rows that are selected, and the text of them that a full update carries.
 #[derive(Drop)]

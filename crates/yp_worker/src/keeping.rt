@@ -8,7 +8,7 @@ ghost use Rattle.yp_edit.specs.declared.patch.Patch.{Patch};
 ghost use Rattle.yp_edit.specs.Changes.{changed_rows};
 ghost use Rattle.yp_journal.specs.declared.command.Command.TheVariants.{Edit};
 ghost use Rattle.yp_journal.specs.History.{JournalState, next_state};
-ghost use Rattle.yp_roster.specs.Classes.{follow};
+ghost use Rattle.yp_slot.specs.Classes.{follow};
 ghost use Rattle.yp_worker.specs.declared.contents.Selected.{Selected as SelectedThere};
 ghost use Rattle.yp_worker.specs.Contents.{AreSelected};
 ghost use Rattle.yp_worker.specs.Workers.{IsFormer};

@@ -8,7 +8,7 @@ ghost use Rattle.yp_moment.specs.Entries.{moments_of};
 ghost use Rattle.yp_moment.specs.Notices.{notice_of};
 ghost use Rattle.yp_moment.specs.Windows.{recorded};
 ghost use Rattle.yp_roster.specs.Rosters.{IsFoundAt, IsNextAt};
-ghost use Rattle.yp_roster.specs.Slots.{IsPresent};
+ghost use Rattle.yp_slot.specs.Slots.{IsPresent};
 ghost use Rattle.yp_worker.specs.Contents.{AreSelected};
 ghost use Rattle.yp_worker.specs.Packets.{packet_of};
 ghost use Rattle.yp_worker.specs.Workers.{HasFollowed, HasFound, IsWorkerOf, IsAtWork};
@@ -24,9 +24,9 @@ use yp_base::memory::NoMemory;
 use yp_base::notice::Notice;
 use yp_base::steps::Steps;
 use yp_queue::packet::Packet;
-use yp_roster::present::Present;
 use yp_roster::roster::{Offer, Roster};
 use yp_schema::schema::Schema;
+use yp_slot::present::Present;
 use yp_time::start::Start;
 
 /// What is sent: the number of the receiver that it is for, its packet, and the notification of which this has

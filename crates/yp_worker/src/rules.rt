@@ -3,14 +3,14 @@ ghost use Rattle.std.specs.Prelude.{◌≡◌, List, map, IfOk};
 ghost use Rattle.yp_schema.specs.declared.schema.SchemaNode.{SchemaNode};
 ghost use Rattle.yp_nacm.specs.declared.compile.UserRules.{UserRules};
 ghost use Rattle.yp_journal.specs.History.{JournalState, next_state};
-ghost use Rattle.yp_roster.specs.Slots.{AreRulesAt};
+ghost use Rattle.yp_slot.specs.Slots.{AreRulesAt};
 ghost use Rattle.yp_worker.specs.Workers.{rules_left};
 
 use std::alloc::Global;
 use yp_base::memory::NoMemory;
 use yp_journal::command::Command;
 use yp_journal::state::State;
-use yp_roster::readers::Readers;
+use yp_slot::readers::Readers;
 
 /// The own rules of each receiver's user at a state.
 pub(crate) fn readers_at(alloc: Global, state: &State) -> Result<Readers, NoMemory>

@@ -6,7 +6,7 @@ ghost use Rattle.yp_encode.specs.Sendable.{IsSendable};
 ghost use Rattle.yp_time.specs.Ticks.{tick_limit};
 ghost use Rattle.yp_attempt.specs.Tracks.{All, Edits, Notice as NoticeBody, Track, current, item_made, made_frozen, made_here};
 ghost use Rattle.yp_moment.specs.Windows.{recorded};
-ghost use Rattle.yp_roster.specs.Slots.{IsSendableRecord, IsKeptAt, IsOffered, IsOfferOf, IsPresent, IsSlotOf, frozen_of};
+ghost use Rattle.yp_slot.specs.Slots.{IsSendableRecord, IsKeptAt, IsOffered, IsOfferOf, IsPresent, IsSlotOf, frozen_of};
 ghost use Rattle.yp_worker.specs.Contents.{AreSelected};
 ghost use Rattle.yp_worker.specs.Packets.{IsTextOf, said_of};
 ghost use Rattle.yp_moment.specs.Notices.{state_notice};
@@ -21,10 +21,10 @@ use yp_base::steps::Steps;
 use yp_base::txt::Txt;
 use yp_feed::item::Item;
 use yp_queue::packet::PacketKind;
-use yp_roster::present::Present;
-use yp_roster::records::Record;
-use yp_roster::slot::{Frozen, Slot};
 use yp_select::laws::filtered_selection_can_be_written;
+use yp_slot::present::Present;
+use yp_slot::records::Record;
+use yp_slot::slot::{Frozen, Slot};
 
 /// What is said: the position and the tick at which it was made, the kind of its packet, and the notification.
 #[derive(Drop)]

@@ -4,13 +4,13 @@ ghost use Rattle.yp_schema.specs.declared.schema.SchemaNode.{SchemaNode};
 ghost use Rattle.yp_journal.specs.declared.entry.Entry.{Entry};
 ghost use Rattle.yp_journal.specs.declared.receiver.ReceiverInfo.{ReceiverInfo};
 ghost use Rattle.yp_attempt.specs.Tracks.{Answer};
-ghost use Rattle.yp_roster.specs.Steps.{answer_of};
+ghost use Rattle.yp_slot.specs.Steps.{answer_of};
 ghost use Rattle.yp_worker.specs.declared.offering.Sent.{Sent};
 ghost use Rattle.yp_worker.specs.Workers.{HasOffered, IsWorkerOf, IsOffering};
 
 use crate::worker::{Out, Worker};
 use std::alloc::Global;
-use yp_roster::settling::Settled;
+use yp_slot::settling::Settled;
 
 impl Worker {
     /// Takes in what the queue of the receiver answered to the offer that is out.

@@ -7,8 +7,9 @@ ghost use Rattle.yp_journal.specs.History.{JournalState, MayCome, MayFollow, nex
 ghost use Rattle.yp_attempt.specs.Moments.{Moment, MayFollow as FollowsMoments};
 ghost use Rattle.yp_attempt.specs.Tracks.{Answer, Track};
 ghost use Rattle.yp_roster.specs.Rosters.{IsClassed, IsIdleAt, IsRosterAt};
-ghost use Rattle.yp_roster.specs.Slots.{AreSlotsOf};
-ghost use Rattle.yp_roster.specs.Steps.{HasTree, IsEntered, entered_moment};
+ghost use Rattle.yp_roster.specs.Ordered.{AreSlotsOf};
+ghost use Rattle.yp_roster.specs.Passed.{HasTree};
+ghost use Rattle.yp_slot.specs.Steps.{IsEntered, entered_moment};
 ghost use Rattle.yp_worker.specs.Workers.{IsIdle, IsIdleWorkerOf, IsStateOf, IsTaking, IsWorkerOf, TakesEntry};
 
 use crate::keeping::{find_former, follow_with, let_go, tree_of};
@@ -27,12 +28,12 @@ use yp_journal::laws::{
 };
 use yp_journal::state::{Outcome, State};
 use yp_registry::laws::ids_rise;
-use yp_roster::following::Entered;
 use yp_roster::laws::a_roster_follows_a_journal;
-use yp_roster::present::Present;
-use yp_roster::readers::Readers;
 use yp_roster::roster::Roster;
 use yp_schema::schema::Schema;
+use yp_slot::following::Entered;
+use yp_slot::present::Present;
+use yp_slot::readers::Readers;
 use yp_tree::tree::Tree;
 
 /// Takes a command into a state that a journal of the schema left.

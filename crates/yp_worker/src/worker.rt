@@ -4,8 +4,8 @@ ghost use Rattle.std.specs.Prelude.{◌≡◌, length};
 use crate::contents::Selected;
 use yp_feed::item::Item;
 use yp_journal::state::State;
-use yp_roster::readers::Readers;
 use yp_roster::roster::Roster;
+use yp_slot::readers::Readers;
 use yp_time::start::Start;
 use yp_tree::tree::Tree;
 

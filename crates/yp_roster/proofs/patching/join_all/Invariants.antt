@@ -1,10 +1,11 @@
 use Rattle.std.proofs.Common.{◌≡◌, List, length, map}
 use Rattle.yp_journal.specs.History.{JournalState}
 use Rattle.yp_attempt.specs.Tracks.{Track}
-use Rattle.yp_roster.specs.declared.classes.Class.{Class}
-use Rattle.yp_roster.specs.Classes.{HaveClasses, member_of}
-use Rattle.yp_roster.specs.Slots.{AreSlotsOf}
-use Rattle.yp_roster.specs.Steps.{AreEnteredTo, AreStepsOf, IsEnteredByPatch}
+use Rattle.yp_slot.specs.declared.classes.Class.{Class}
+use Rattle.yp_roster.specs.Ordered.{HaveClasses, AreSlotsOf}
+use Rattle.yp_slot.specs.Classes.{member_of}
+use Rattle.yp_roster.specs.Passed.{AreEnteredTo, AreStepsOf}
+use Rattle.yp_slot.specs.Steps.{IsEnteredByPatch}
 use Rattle.yp_roster.proofs.patching.join_all.Given as goal
 
 -- the slots before the place went on, and all are the same as members

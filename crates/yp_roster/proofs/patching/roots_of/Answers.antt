@@ -1,6 +1,6 @@
 use Rattle.yp_filter.specs.View.{filter_view}
 use Rattle.yp_journal.specs.History.{JournalState}
-use Rattle.yp_roster.proofs.Entering.{step_made}
+use Rattle.yp_roster.proofs.Patched.{step_made}
 use Rattle.yp_roster.proofs.patching.roots_of.Goals as goal
 
 pub returns : goal.returns

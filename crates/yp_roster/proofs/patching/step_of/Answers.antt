@@ -1,6 +1,6 @@
 use Rattle.std.proofs.Common.{◌≡◌, true≢false, ap, sym, subst, ◌∙◌}
 use Rattle.std.specs.Prelude.{is_some, IfSome}
-use Rattle.yp_roster.proofs.Results.{when_is_ok}
+use Rattle.yp_slot.specs.ResultLaws.{when_is_ok}
 use Rattle.yp_roster.proofs.patching.step_of.Goals as goal
 
 pub roots_of-requires-clause-entered : goal.roots_of-requires-clause-entered

@@ -2,9 +2,9 @@ use Rattle.std.proofs.Common.{◌+◌, ◌∷◌, ◌++◌, [], List, length, ta
 use Rattle.std.proofs.lemmas.List.{take_all, take_more}
 use Rattle.yp_journal.specs.History.{JournalState}
 use Rattle.yp_touch.specs.declared.root.Root.{Root}
-use Rattle.yp_roster.specs.declared.classes.Class.{Class}
-use Rattle.yp_roster.specs.Classes.{IsClass}
-use Rattle.yp_roster.specs.Steps.{AreStepsOf}
+use Rattle.yp_slot.specs.declared.classes.Class.{Class}
+use Rattle.yp_slot.specs.Classes.{IsClass}
+use Rattle.yp_roster.specs.Passed.{AreStepsOf}
 use Rattle.yp_roster.proofs.Classed.{follows_one, next_of, steps_more}
 use Rattle.yp_roster.proofs.patching.steps_of.Goals as goal
 

@@ -1,7 +1,8 @@
 use Rattle.std.proofs.Common.{drop, take, length}
 use Rattle.yp_journal.specs.History.{JournalState}
-use Rattle.yp_roster.specs.Classes.{AreClasses}
-use Rattle.yp_roster.specs.Steps.{AreStepsOf, IsEnteredByPatch}
+use Rattle.yp_slot.specs.Classes.{AreClasses}
+use Rattle.yp_roster.specs.Passed.{AreStepsOf}
+use Rattle.yp_slot.specs.Steps.{IsEnteredByPatch}
 use Rattle.yp_roster.proofs.patching.steps_of.Given as goal
 
 -- the steps so far are those of the classes so far

@@ -2,9 +2,8 @@ use Rattle.std.proofs.Common.{◌≡◌, List, Some}
 use Rattle.yp_registry.specs.Registry.{live_at}
 use Rattle.yp_attempt.specs.Moments.{Moment}
 use Rattle.yp_attempt.specs.Tracks.{Track}
-use Rattle.yp_roster.specs.Classes.{AreClassesOf}
-use Rattle.yp_roster.specs.Slots.{AreSlotsOf}
-use Rattle.yp_roster.specs.Steps.{IsMomentAt}
+use Rattle.yp_roster.specs.Ordered.{AreClassesOf, AreSlotsOf}
+use Rattle.yp_roster.specs.Passed.{IsMomentAt}
 use Rattle.yp_roster.proofs.Begun.{IsBegun}
 use Rattle.yp_roster.proofs.roster.begin.Given as goal
 

@@ -1,10 +1,10 @@
 use Rattle.std.proofs.Common.{◌≡◌, ◌∷◌, ◌++◌, [], true, List, ap, sym, subst, ◌∙◌}
 use Rattle.std.specs.Prelude.{◌==◌}
 use Rattle.std.specs.List.{list_any}
-use Rattle.yp_roster.specs.declared.slot.Slot.{Slot}
-use Rattle.yp_roster.specs.Classes.{AreClassesOf, HasClass, member_of}
-use Rattle.yp_roster.specs.Slots.{AreSlotsOf}
-use Rattle.yp_roster.specs.Steps.{names_of, new_tracks}
+use Rattle.yp_slot.specs.declared.slot.Slot.{Slot}
+use Rattle.yp_roster.specs.Ordered.{AreClassesOf, AreSlotsOf}
+use Rattle.yp_slot.specs.Classes.{HasClass, member_of}
+use Rattle.yp_roster.specs.Passed.{names_of, new_tracks}
 use Rattle.yp_filter.specs.Fits.{filter_fits}
 use Rattle.yp_roster.proofs.Begun.{begun_one, named_there}
 use Rattle.yp_roster.proofs.Classed.{classed_more}

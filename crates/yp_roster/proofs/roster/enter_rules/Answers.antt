@@ -1,7 +1,7 @@
 use Rattle.std.proofs.Common.{List, subst, ◌∙◌, arith}
 use Rattle.std.proofs.lemmas.List.{take_all}
-use Rattle.yp_roster.specs.declared.slot.Slot.{Slot}
-use Rattle.yp_roster.specs.Classes.{AreClassesOf}
+use Rattle.yp_slot.specs.declared.slot.Slot.{Slot}
+use Rattle.yp_roster.specs.Ordered.{AreClassesOf}
 use Rattle.yp_roster.proofs.Entered.{entered_all}
 use Rattle.yp_roster.proofs.roster.enter_rules.Goals as goal
 

@@ -1,9 +1,9 @@
 use Rattle.std.proofs.Common.{◌≡◌, List, length}
 use Rattle.yp_journal.specs.History.{JournalState}
 use Rattle.yp_attempt.specs.Tracks.{Track}
-use Rattle.yp_roster.specs.Classes.{AreClassedTo}
-use Rattle.yp_roster.specs.Slots.{AreSlotsOf}
-use Rattle.yp_roster.specs.Steps.{AreEnteredTo, IsEnteredByRules}
+use Rattle.yp_roster.specs.Ordered.{AreClassedTo, AreSlotsOf}
+use Rattle.yp_roster.specs.Passed.{AreEnteredTo}
+use Rattle.yp_slot.specs.Steps.{IsEnteredByRules}
 use Rattle.yp_roster.proofs.roster.enter_rules.Given as goal
 
 -- the slots before the place went on, and have their classes

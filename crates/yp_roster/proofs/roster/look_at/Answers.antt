@@ -1,8 +1,8 @@
 use Rattle.std.proofs.Common.{arith}
-use Rattle.yp_roster.specs.Classes.{HasClass}
+use Rattle.yp_slot.specs.Classes.{HasClass}
 use Rattle.yp_roster.proofs.Classed.{member_there, members_put}
 use Rattle.yp_roster.proofs.Placing.{turn_slot, turns}
-use Rattle.yp_roster.proofs.Results.{when_is_ok, when_ok}
+use Rattle.yp_slot.specs.ResultLaws.{when_is_ok, when_ok}
 use Rattle.yp_roster.proofs.Quiet.{put_before, quiet_next}
 use Rattle.yp_roster.proofs.roster.look_at.Goals as goal
 

@@ -1,7 +1,7 @@
 use Rattle.std.proofs.Common.{ap, ◌∙◌}
 use Rattle.yp_journal.specs.History.{JournalState}
 use Rattle.yp_registry.specs.Registry.{Subscriptions}
-use Rattle.yp_roster.specs.Readers.{rules_of_users}
+use Rattle.yp_slot.specs.Readers.{rules_of_users}
 use Rattle.yp_worker.proofs.States.{rules_are}
 use Rattle.yp_worker.proofs.rules.readers_at.Goals as goal
 

@@ -1,6 +1,6 @@
 use Rattle.std.proofs.Common.{ap, sym, subst, ◌∙◌}
 use Rattle.yp_journal.specs.History.{JournalState, next_state}
-use Rattle.yp_roster.specs.Slots.{AreRulesAt}
+use Rattle.yp_slot.specs.Slots.{AreRulesAt}
 use Rattle.yp_worker.proofs.rules.renewed_readers.Goals as goal
 
 pub returns-in-Tick : goal.returns-in-Tick

@@ -4,7 +4,7 @@ use Rattle.yp_feed.specs.declared.item.Item.{Item}
 use Rattle.yp_journal.specs.History.{JournalState}
 use Rattle.yp_attempt.specs.Tracks.{Edits, Frozen, item_made, made_frozen, record_in}
 use Rattle.yp_moment.specs.Windows.{recorded}
-use Rattle.yp_roster.specs.Slots.{edits_of, frozen_of}
+use Rattle.yp_slot.specs.Slots.{edits_of, frozen_of}
 use Rattle.yp_worker.specs.Packets.{said_of}
 use Rattle.yp_worker.proofs.Places.{same_some}
 use Rattle.yp_worker.proofs.Said.{when_has}

@@ -5,13 +5,13 @@ use Rattle.yp_terms.specs.Terms.{AreTermsOf}
 use Rattle.yp_journal.specs.History.{JournalState}
 use Rattle.yp_attempt.specs.Runs.{first_offer}
 use Rattle.yp_moment.specs.Windows.{recorded}
-use Rattle.yp_roster.specs.declared.records.Told.{Told}
-use Rattle.yp_roster.specs.Records.{AreTold}
+use Rattle.yp_slot.specs.declared.records.Told.{Told}
+use Rattle.yp_slot.specs.Records.{AreTold}
 use Rattle.yp_roster.specs.Rosters.{standing_at}
-use Rattle.yp_roster.specs.Steps.{entered_moment, entered_track}
+use Rattle.yp_slot.specs.Steps.{entered_moment, entered_track}
 use Rattle.yp_roster.proofs.Begun.{found_has}
 use Rattle.yp_roster.proofs.Quiet.{quiet_none}
-use Rattle.yp_roster.proofs.Results.{when_ok}
+use Rattle.yp_slot.specs.ResultLaws.{when_ok}
 use Rattle.yp_roster.proofs.Taking.{entered_quietly, entered_starting}
 use Rattle.yp_roster.proofs.roster.Roster.absorb.Goals as goal
 
@@ -33,7 +33,7 @@ returns-in-Some-clause-stands g c = when_ok c.begin.result c.begin.ensures.slots
     let looks = c.a_look_changes_nothing.ensures in
     let live : c.live-live.result.now ≡ after.registry.live = c.live-live.ensures ∙ ap (λ (r : Subscriptions). r.live) c.registry.ensures.registry in
     let taken = c.a_worker_takes_the_next_entry.ensures recorded c.what_feeds_know_of_selections_is_lawful.ensures c.args.mine.now past answers (standing_at before idle.tracks) (entered_moment e before) idle.stands (ap (first_offer recorded before.stamp) idle.looked ∙ idle.none) follows in
-    entered_starting e before (record { looks = looks.looks; looked_twice = looks.looked_twice }) entered c.args.mine.now past answers c.args.self.now.slots.items idle taken c.an_id_is_given_once.ensures.next
+    entered_starting c.a_record_is_set_aside_once.ensures e before (record { looks = looks.looks; looked_twice = looks.looked_twice }) entered c.args.mine.now past answers c.args.self.now.slots.items idle taken c.an_id_is_given_once.ensures.next
     c.begin.new.slots.items terms c.in-Some.ensures.given.0 (c.in-Some.ensures.act after live)
     (begun (entered_moment e before) (map (entered_track e before) idle.tracks) (record { stamp = refl; selection = λ id receiver. refl }) (ap (live_at terms.id) (sym live) ∙ c.in-Some.ensures.given.1)
     (c.in_ok-enter.ensures.slots before idle.tracks entered classed.classes idle.kept)))
@@ -45,7 +45,7 @@ returns-in-None-clause-stands g c = λ before past answers entered classed idle 
     let looks = c.a_look_changes_nothing.ensures in
     let live : c.live-live.result.now ≡ after.registry.live = c.live-live.ensures ∙ ap (λ (r : Subscriptions). r.live) c.registry.ensures.registry in
     let taken = c.a_worker_takes_the_next_entry.ensures recorded c.what_feeds_know_of_selections_is_lawful.ensures c.args.mine.now past answers (standing_at before idle.tracks) (entered_moment e before) idle.stands (ap (first_offer recorded before.stamp) idle.looked ∙ idle.none) follows in
-    entered_quietly e before (record { looks = looks.looks; looked_twice = looks.looked_twice }) entered c.args.mine.now past answers c.args.self.now.slots.items idle taken
+    entered_quietly c.a_record_is_set_aside_once.ensures e before (record { looks = looks.looks; looked_twice = looks.looked_twice }) entered c.args.mine.now past answers c.args.self.now.slots.items idle taken
     c.enter.new.self.slots.items (c.in-None.ensures.act after live) (c.in_ok-enter.ensures.slots before idle.tracks entered classed.classes idle.kept)
 
 pub enter-requires-clause-entered : goal.enter-requires-clause-entered

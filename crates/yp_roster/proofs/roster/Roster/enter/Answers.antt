@@ -1,22 +1,21 @@
 use Rattle.std.proofs.Common.{◌≡◌, List, ap, sym, subst, ◌∙◌}
 use Rattle.yp_journal.specs.declared.command.Command.TheVariants.{Tick, Establish, Take}
 use Rattle.yp_journal.specs.History.{JournalState, next_state, rules_at}
-use Rattle.yp_roster.specs.declared.classes.Class.{Class}
-use Rattle.yp_roster.specs.Classes.{AreClassesOf, HaveClasses}
-use Rattle.yp_roster.specs.Steps.{HasTree}
+use Rattle.yp_slot.specs.declared.classes.Class.{Class}
+use Rattle.yp_roster.specs.Ordered.{AreClassesOf, HaveClasses}
+use Rattle.yp_roster.specs.Passed.{HasTree}
 use Rattle.yp_roster.proofs.Classed.{classes_alike}
-use Rattle.yp_roster.proofs.Entering.{pass_quietly}
+use Rattle.yp_roster.proofs.Entered.{pass_quietly}
 use Rattle.yp_roster.proofs.Patched.{classed_after}
-use Rattle.yp_roster.proofs.Results.{when_ok}
+use Rattle.yp_slot.specs.ResultLaws.{when_ok}
 use Rattle.yp_roster.proofs.roster.Roster.enter.Goals as goal
 
 pub returns-in-Tick-clause-slots : goal.returns-in-Tick-clause-slots
 returns-in-Tick-clause-slots g c = λ before tracks entered classed are.
     let e = c.args.entered.now in
     let nodes = e.present.schema.now in
-    let laws = c.same_rules_are_one.ensures in
     let left : e.present.state.now ≡ next_state nodes before (Tick c.in-Tick.field-0) = entered.after ∙ ap (next_state nodes before) c.in-Tick.is in
-    pass_quietly (record { one = laws.one; itself = laws.itself }) c.absorbed_roots_are_those_of_the_window.ensures.roots e before entered.after
+    pass_quietly c.an_entry_that_moves_no_selection_leaves_slots.ensures e before entered
     (ap (λ (s : JournalState). s.rows) left) (λ number. ap (λ (s : JournalState). rules_at s number) left) c.args.self.now.slots.items tracks are
 
 pub returns-in-Tick-clause-classes : goal.returns-in-Tick-clause-classes
@@ -32,9 +31,8 @@ pub returns-in-Establish-clause-slots : goal.returns-in-Establish-clause-slots
 returns-in-Establish-clause-slots g c = λ before tracks entered classed are.
     let e = c.args.entered.now in
     let nodes = e.present.schema.now in
-    let laws = c.same_rules_are_one.ensures in
     let left : e.present.state.now ≡ next_state nodes before (Establish c.in-Establish.by c.in-Establish.ask) = entered.after ∙ ap (next_state nodes before) c.in-Establish.is in
-    pass_quietly (record { one = laws.one; itself = laws.itself }) c.absorbed_roots_are_those_of_the_window.ensures.roots e before entered.after
+    pass_quietly c.an_entry_that_moves_no_selection_leaves_slots.ensures e before entered
     (ap (λ (s : JournalState). s.rows) left) (λ number. ap (λ (s : JournalState). rules_at s number) left) c.args.self.now.slots.items tracks are
 
 pub returns-in-Establish-clause-classes : goal.returns-in-Establish-clause-classes
@@ -50,9 +48,8 @@ pub returns-in-Take-clause-slots : goal.returns-in-Take-clause-slots
 returns-in-Take-clause-slots g c = λ before tracks entered classed are.
     let e = c.args.entered.now in
     let nodes = e.present.schema.now in
-    let laws = c.same_rules_are_one.ensures in
     let left : e.present.state.now ≡ next_state nodes before (Take c.in-Take.receiver c.in-Take.count) = entered.after ∙ ap (next_state nodes before) c.in-Take.is in
-    pass_quietly (record { one = laws.one; itself = laws.itself }) c.absorbed_roots_are_those_of_the_window.ensures.roots e before entered.after
+    pass_quietly c.an_entry_that_moves_no_selection_leaves_slots.ensures e before entered
     (ap (λ (s : JournalState). s.rows) left) (λ number. ap (λ (s : JournalState). rules_at s number) left) c.args.self.now.slots.items tracks are
 
 pub returns-in-Take-clause-classes : goal.returns-in-Take-clause-classes
@@ -81,7 +78,8 @@ returns-in-Edit-clause-slots g c = when_ok c.enter_patch.result c.enter_patch.en
 
 pub returns-in-Edit-clause-classes : goal.returns-in-Edit-clause-classes
 returns-in-Edit-clause-classes g c = when_ok c.enter_patch.result c.enter_patch.ensures.members (λ same.
-    classed_after c.args.entered.now c.requires.entered.0 (record { patch = c.in-Edit.field-0; command = c.in-Edit.is; entered = c.requires.entered.1 }) c.args.self.now.classes.all.items c.args.self.now.slots.items c.enter_patch.new.slots.items same c.requires.entered.2)
+    let laws = c.what_a_patch_makes_of_slots.ensures in
+    classed_after (record { patch = laws.patch; next = laws.next; unmoved = laws.unmoved }) c.args.entered.now c.requires.entered.0 (record { patch = c.in-Edit.field-0; command = c.in-Edit.is; entered = c.requires.entered.1 }) c.args.self.now.classes.all.items c.args.self.now.slots.items c.enter_patch.new.slots.items same c.requires.entered.2)
 
 pub enter_rules-requires : goal.enter_rules-requires
 enter_rules-requires g c = (c.requires.entered.0, record { policy = c.in-Rules.field-0; command = c.in-Rules.is; entered = c.requires.entered.1 }, c.requires.entered.3)

@@ -1,10 +1,10 @@
 use Rattle.std.proofs.Common.{◌≡◌, List, ap, length, refl, sym, subst, ◌∙◌, arith}
-use Rattle.yp_roster.specs.declared.classes.Class.{Class}
-use Rattle.yp_roster.specs.Classes.{HaveClasses}
+use Rattle.yp_slot.specs.declared.classes.Class.{Class}
+use Rattle.yp_roster.specs.Ordered.{HaveClasses}
 use Rattle.yp_roster.proofs.Classed.{same_members, still_classed}
 use Rattle.std.specs.List.{AllByRecursion}
-use Rattle.yp_roster.specs.declared.slot.Slot.{Slot}
-use Rattle.yp_roster.specs.Rosters.{IsQuiet}
+use Rattle.yp_slot.specs.declared.slot.Slot.{Slot}
+use Rattle.yp_slot.specs.Slots.{IsQuiet}
 use Rattle.yp_roster.proofs.Quiet.{looked_so_far, quiet_fewer}
 use Rattle.yp_roster.proofs.Offering.{found_at, idle_at}
 use Rattle.yp_roster.proofs.Placing.{turn_on}
@@ -68,11 +68,11 @@ returns-clause-classed g c =
 pub loop-place-init : goal.loop-place-init
 loop-place-init g c =
     let present = c.args.present.now in
-    let laws = c.absorbed_roots_are_those_of_the_window.ensures in
+    let laws = c.a_quiet_slot_was_looked_at.ensures in
     let classed = c.requires.classed in
     record {
       count = omega (arith, c.len-place-end.ensures, c.args.self.now.slots.ok);
-      looked = λ tracks are. looked_so_far (record { roots = laws.roots; record_is = laws.recorded }) present.schema.now present.state.now c.args.self.now.looked c.args.self.now.slots.items tracks classed.within classed.quiet are;
+      looked = λ tracks are. looked_so_far (λ nodes state slot track quiet stands. (laws.looked nodes state slot track quiet stands, laws.none nodes state slot track quiet stands)) present.schema.now present.state.now c.args.self.now.looked c.args.self.now.slots.items tracks classed.within classed.quiet are;
       members = refl;
       all = refl;
       quiet = classed.quiet;

@@ -1,9 +1,9 @@
 use Rattle.std.proofs.Common.{◌≡◌, List, length, map}
 use Rattle.yp_attempt.specs.Tracks.{Track}
-use Rattle.yp_roster.specs.Classes.{member_of}
-use Rattle.yp_roster.specs.Records.{AreTold}
+use Rattle.yp_slot.specs.Classes.{member_of}
+use Rattle.yp_slot.specs.Records.{AreTold}
 use Rattle.yp_roster.specs.Rosters.{AreQuietTo, IsLookedTo}
-use Rattle.yp_roster.specs.Slots.{AreSlotsOf}
+use Rattle.yp_roster.specs.Ordered.{AreSlotsOf}
 use Rattle.yp_roster.proofs.roster.Roster.next_offer.Given as goal
 
 -- the slots before the place were looked at, and offer nothing; all are the same as members, and each record that is kept is that of its class

@@ -1,6 +1,6 @@
 use Rattle.std.proofs.Common.{List, arith, sym, subst}
-use Rattle.yp_roster.specs.declared.records.Told.{Told}
-use Rattle.yp_roster.specs.Records.{AreTold}
+use Rattle.yp_slot.specs.declared.records.Told.{Told}
+use Rattle.yp_slot.specs.Records.{AreTold}
 use Rattle.yp_roster.proofs.Classed.{none_classed}
 use Rattle.yp_roster.proofs.Quiet.{quiet_none}
 use Rattle.yp_roster.proofs.roster.Roster.open.Goals as goal

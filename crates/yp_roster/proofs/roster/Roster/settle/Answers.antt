@@ -5,14 +5,14 @@ use Rattle.yp_journal.specs.History.{JournalState}
 use Rattle.yp_attempt.specs.Tracks.{Track}
 use Rattle.yp_attempt.specs.Workers.{answered_alone}
 use Rattle.yp_moment.specs.Windows.{recorded}
-use Rattle.yp_roster.specs.Rosters.{ready_at, standing_at}
-use Rattle.yp_roster.specs.Slots.{IsSlotOf}
-use Rattle.yp_roster.specs.Steps.{answer_of}
-use Rattle.yp_roster.specs.declared.slot.Slot.{Slot}
-use Rattle.yp_roster.specs.Classes.{HasClass, HaveClasses}
+use Rattle.yp_roster.specs.Rosters.{ready_at, standing_at, AreQuietTo}
+use Rattle.yp_slot.specs.Slots.{IsSlotOf, IsQuiet}
+use Rattle.yp_slot.specs.Steps.{answer_of}
+use Rattle.yp_slot.specs.declared.slot.Slot.{Slot}
+use Rattle.yp_slot.specs.Classes.{HasClass}
+use Rattle.yp_roster.specs.Ordered.{HaveClasses}
 use Rattle.yp_roster.proofs.Classed.{members_gone, members_put, same_members, still_classed}
 use Rattle.std.specs.List.{AllByRecursion}
-use Rattle.yp_roster.specs.Rosters.{AreQuietTo, IsQuiet}
 use Rattle.yp_roster.proofs.Quiet.{gone_before, put_before, put_length, quiet_fewer}
 use Rattle.yp_roster.proofs.Offering.{settled_gone, settled_on}
 use Rattle.yp_roster.proofs.Placing.{slot_there}

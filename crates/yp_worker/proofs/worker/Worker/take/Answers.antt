@@ -3,10 +3,10 @@ use Rattle.yp_edit.specs.Changes.{changed_rows}
 use Rattle.yp_nacm.specs.declared.compile.UserRules.{UserRules}
 use Rattle.yp_journal.specs.History.{JournalState, first_state, state_of}
 use Rattle.yp_moment.specs.Entries.{moments_of}
-use Rattle.yp_roster.specs.declared.following.Entered.{Entered}
+use Rattle.yp_slot.specs.declared.following.Entered.{Entered}
 use Rattle.yp_roster.specs.Rosters.{IsClassed, IsIdleAt}
-use Rattle.yp_roster.specs.Slots.{AreRulesAt}
-use Rattle.yp_roster.specs.Steps.{HasTree}
+use Rattle.yp_slot.specs.Slots.{AreRulesAt}
+use Rattle.yp_roster.specs.Passed.{HasTree}
 use Rattle.yp_worker.specs.Workers.{IsFormer}
 use Rattle.yp_worker.proofs.States.{is_entered}
 use Rattle.yp_worker.proofs.Taken.{Enters, IsFoundBy, for_those, went_on}

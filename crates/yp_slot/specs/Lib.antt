@@ -1,0 +1,7 @@
+pub mod Readers
+pub mod Slots
+pub mod Classes
+pub mod Records
+pub mod Steps
+pub mod ListLaws
+pub mod ResultLaws
