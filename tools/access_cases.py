@@ -180,14 +180,15 @@ class Policy:
                 return False
         return True
 
-    def may_subscribe(self, user: str) -> bool:
+    def may_call(self, user: str, operation: str) -> bool:
         if not self.enabled:
             return True
+        module = "ietf-yang-push" if operation == "resync-subscription" else "ietf-subscribed-notifications"
         for rule in self.rules_of(user):
-            is_about = rule.path is None and not rule.has_notification and rule.operation in (None, "*", "establish-subscription")
-            if rule.has("exec") and rule.is_of("ietf-subscribed-notifications") and is_about:
+            is_about = rule.path is None and not rule.has_notification and rule.operation in (None, "*", operation)
+            if rule.has("exec") and rule.is_of(module) and is_about:
                 return rule.action == "permit"
-        return self.execute == "permit"
+        return operation != "kill-subscription" and self.execute == "permit"
 
 
 # ---- texts
@@ -367,7 +368,7 @@ class Drawing:
     def subscribe(self) -> None:
         receiver = self.draw.randrange(len(USERS))
         said = compact({"establish": {"by": USERS[receiver], "datastore": "ietf-datastores:operational", "on-change": {}}})
-        if not self.policy.may_subscribe(USERS[receiver]):
+        if not self.policy.may_call(USERS[receiver], "establish-subscription"):
             self.say(said, '{"error":"access-denied"}')
             return
         number = FIRST_ID + len(self.subscriptions)

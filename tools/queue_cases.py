@@ -20,7 +20,7 @@ SCRIPTS = 80
 MOST_TRIES, MOST_ROOTS, MOST_TAKEN, MOST_LINES = 8, 256, 32, 100_000
 ORDER = ["started", "modified", "incomplete", "suspended", "resumed", "sync", "terminated"]
 BARRED = {"incomplete", "suspended", "resumed", "sync", "terminated"}
-UNSUPPORTABLE = "ietf-subscribed-notifications:unsupportable-volume"
+REASONS = {"suspended": "unsupportable-volume", "terminated": "no-such-subscription"}
 
 
 @dataclass
@@ -214,7 +214,7 @@ class Feed:
         if item == "incomplete":
             assert self.frozen is not None
             return self.frozen
-        reason = {"reason": UNSUPPORTABLE} if item == "suspended" else {}
+        reason = {"reason": f"ietf-subscribed-notifications:{REASONS[item]}"} if item in REASONS else {}
         line = notification(tick, f"subscription-{item}", {"id": self.number, **reason}, "ietf-subscribed-notifications")
         return Packet(self.number, line, item)
 
@@ -251,6 +251,12 @@ class Queued(Subscribing):
         draw = self.draw
         self.desks = [Desk(user, draw.choice([1, 1, 2, 3, 8, 32]), draw.random() < 0.3) for user in USERS]
         self.queued: list[Feed] = []
+        self.given = 0
+
+    def next_number(self) -> int:
+        """An id that was given to no subscription before."""
+        self.given += 1
+        return FIRST_ID + self.given - 1
 
     def selection(self, receiver: int, wanted: dict[str, Any] | None) -> Rows:
         seen = self.want(receiver)
@@ -261,21 +267,33 @@ class Queued(Subscribing):
         while item := feed.item(self.now):
             if self.desks[feed.receiver].offer(feed.packet(item, self.position, self.now), self.position):
                 feed.took(item, self.now)
+                if item == "terminated":
+                    self.queued.remove(feed)
+                    return
             else:
                 feed.met_full(item, self.now)
                 feed.freeze(self.position, self.now)
 
-    def after(self, ruled: set[int] = frozenset(), started: Feed | None = None) -> None:
-        """What a position makes, where the own rules of these receivers' users changed."""
+    def after(self, ruled: set[int] = frozenset(), started: list[Feed] | None = None, anew: int | None = None) -> None:
+        """What a position makes, where the own rules of these receivers' users changed, or a subscription has new terms or is synchronised again."""
         for feed in self.queued:
             feed.window.goes_on(self.selection(feed.receiver, feed.filter))
-            if feed.receiver in ruled:
+            if feed.number == anew or feed.receiver in ruled and "terminated" not in feed.owed:
                 feed.restart()
             feed.freeze(self.position, self.now)
-        if started:
-            self.queued.append(started)
-        for feed in self.queued:
+        self.queued = sorted([*self.queued, *(started or [])], key=lambda feed: (feed.number, feed.receiver))
+        for feed in [*self.queued]:
             self.offer(feed)
+
+    def started(self, number: int, receiver: int, wanted: dict[str, Any] | None, trigger: Trigger) -> Feed:
+        """The feed of a subscription that starts, for one of its receivers."""
+        rows = self.selection(receiver, wanted)
+        feed = Feed(number, receiver, wanted, trigger, Window(rows, rows))
+        if trigger.period:
+            feed.due = least(trigger.anchor, trigger.period, self.now)
+        elif trigger.sync:
+            feed.owed = {"sync"}
+        return feed
 
     # -- commands
 
@@ -321,21 +339,16 @@ class Queued(Subscribing):
         trigger = Trigger(period, anchor)
         if not period:
             asked["on-change"], trigger = self.on_change()
-        refusal = refusal if self.policy.may_subscribe(USERS[receiver]) else "access-denied"
+        refusal = refusal if self.policy.may_call(USERS[receiver], "establish-subscription") else "access-denied"
         said = compact({"establish": {"by": USERS[receiver], **asked}})
         if refusal:
             hint = {"period-hint": SHORTEST_PERIOD} if refusal == "period-unsupported" else {}
             self.say(said, compact({"error": refusal, **hint}))
             self.after()
             return
-        rows = self.selection(receiver, wanted)
-        feed = Feed(FIRST_ID + len(self.queued), receiver, wanted, trigger, Window(rows, rows))
-        if period:
-            feed.due = least(anchor, period, self.now)
-        elif trigger.sync:
-            feed.owed = {"sync"}
+        feed = self.started(self.next_number(), receiver, wanted, trigger)
         self.say(said, given(feed.number))
-        self.after(started=feed)
+        self.after(started=[feed])
 
     def report(self) -> bytes:
         return (self.replies + "".join(desk.report() for desk in self.desks) + "end\n").encode()
@@ -362,14 +375,9 @@ class Written(Queued):
         self.desks = [Desk("ann", places, is_auto)]
 
     def subscribed(self, trigger: Trigger, said: dict[str, Any]) -> None:
-        rows = self.selection(0, None)
-        feed = Feed(FIRST_ID + len(self.queued), 0, None, trigger, Window(rows, rows))
-        if trigger.sync and not trigger.period:
-            feed.owed = {"sync"}
-        if trigger.period:
-            feed.due = least(trigger.anchor, trigger.period, self.now)
+        feed = self.started(self.next_number(), 0, None, trigger)
         self.say(compact({"establish": {"by": "ann", "datastore": "ietf-datastores:operational", **said}}), given(feed.number))
-        self.after(started=feed)
+        self.after(started=[feed])
 
     def edited(self, names: list[str], mtu: int = 1) -> None:
         """One patch that gives each of these ports this mtu."""

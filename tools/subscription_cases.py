@@ -219,7 +219,7 @@ class Subscribing(Drawing):
     def subscribe(self) -> None:
         receiver = self.draw.randrange(len(USERS))
         asked, refusal, wanted, period, anchor = self.ask()
-        refusal = refusal if self.policy.may_subscribe(USERS[receiver]) else "access-denied"
+        refusal = refusal if self.policy.may_call(USERS[receiver], "establish-subscription") else "access-denied"
         said = compact({"establish": {"by": USERS[receiver], **asked}})
         if refusal:
             hint = {"period-hint": SHORTEST_PERIOD} if refusal == "period-unsupported" else {}
