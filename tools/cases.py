@@ -5,7 +5,8 @@ text that the program writes, or NAME.fault, which has the line on standard erro
 them, the script is run once for each line of that file, with that line after it, and each run ends so.
 The scripts that are too large to be kept are made by large_cases.py, random ones with policies by
 access_cases.py, with filters and periods by subscription_cases.py, and with queues that fill by queue_cases.py;
-feed_cases.py has a short one for each rule of feeds and queues. Streams to replay are made by stream_cases.py.
+feed_cases.py has a short one for each rule of feeds and queues, and lifetime_cases.py those of calls about
+subscriptions that are there. Streams to replay are made by stream_cases.py.
 Nothing here comes of a run: each expected text is worked out from the rules of the guides in docs/.
 """
 
@@ -21,6 +22,7 @@ from dataclasses import dataclass
 from access_cases import access_cases
 from feed_cases import feed_cases
 from large_cases import large_cases
+from lifetime_cases import lifetime_cases
 from queue_cases import queue_cases
 from stream_cases import endings, stream_cases
 from subscription_cases import subscription_cases
@@ -77,7 +79,7 @@ def made_cases() -> Iterator[Case]:
     """The large scripts, those with policies, filters and queues, and streams."""
     for name, script, report in access_cases():
         yield Case(name, script, report)
-    for name, script, wanted in itertools.chain(large_cases(), subscription_cases(), feed_cases(), queue_cases()):
+    for name, script, wanted in itertools.chain(large_cases(), subscription_cases(), feed_cases(), queue_cases(), lifetime_cases()):
         if isinstance(wanted, tuple):
             line, fault = wanted
             yield Case(f"made: {name}", script, b"", f"push: line {line}: fault {fault}\n".encode(), 3)
