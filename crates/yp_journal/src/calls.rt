@@ -14,9 +14,9 @@ use crate::state::{Outcome, State, no_changes};
 use std::alloc::Global;
 use yp_base::memory::NoMemory;
 use yp_base::txt::Txt;
+use yp_schema::schema::Schema;
 use yp_terms::ask::{Amend, Ask};
 use yp_terms::refused::Refused;
-use yp_schema::schema::Schema;
 
 impl State {
     /// Asks the registry for a subscription.

@@ -7,3 +7,4 @@ pub mod Ended
 pub mod Starting
 pub mod Leading
 pub mod Naming
+pub mod Visible

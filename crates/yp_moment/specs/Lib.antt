@@ -3,4 +3,5 @@ pub mod Ids
 pub mod Entries
 pub mod Followed
 pub mod Concealed
+pub mod Visible
 pub mod Notices

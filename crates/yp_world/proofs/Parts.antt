@@ -1,11 +1,11 @@
 -- A receiver's part of what its worker did is its own run, whatever other receivers the worker serves.
-use Rattle.std.proofs.Common.{◌≡◌, ℕ, ◌<◌, refl, sym, ap, ◌∙◌, List, [], ◌∷◌, ◌++◌, length}
+use Rattle.std.proofs.Common.{◌≡◌, ℕ, ◌<◌, refl, sym, ap, subst, ◌∙◌, List, [], ◌∷◌, ◌++◌, length}
 use Rattle.yp_attempt.specs.Attempts.{IsOneOf, Replayed, answers_in, of_receiver, own_run, own_tracks, replay, taken_of}
 use Rattle.yp_attempt.specs.Content.{Content}
 use Rattle.yp_attempt.specs.Moments.{Moment}
 use Rattle.yp_attempt.specs.Runs.{Standing, Run, Reaches, first_run}
 use Rattle.yp_attempt.specs.Tracks.{Answer, Attempt}
-use Rattle.yp_world.specs.Holding.{AreOf, Holds, IsDeliveryOf, Serves, absorbed_by}
+use Rattle.yp_world.specs.Holding.{AreOf, Holds, IsDeliveryOf, IsOwnRunOf, Serves, absorbed_by}
 use Rattle.yp_world.specs.World.{Delivery, Setup, World, receivers_of, with_workers, worker_of}
 use Rattle.yp_world.proofs.Numbers.{one_of}
 
@@ -44,6 +44,10 @@ module _ (setup : Setup) (world : World) (h : Holds setup world) (receiver : ℕ
     own_replay =
         ap (λ (answers : List Answer). replay setup.content (receiver ∷ []) first_run (absorbed_by world standing) answers) (sym its_delivery.answers)
         ∙ runs.replays setup.content (receiver ∷ []) (absorbed_by world standing) (answers_in own_attempts) own_part own_reaches
+
+    -- which the definition makes
+    pub own_run_of : IsOwnRunOf setup world receiver delivery standing (replay setup.content (receiver ∷ []) first_run (absorbed_by world standing) delivery.answers).run
+    own_run_of = subst (λ (end : Replayed). IsOwnRunOf setup world receiver delivery standing end.run) (sym own_replay) (record { stands = refl; reaches = own_reaches; delivers = its_delivery })
 
 -- ---- two worlds
 

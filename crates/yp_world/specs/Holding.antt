@@ -1,9 +1,9 @@
 -- What holds of the world at every moment: each worker serves its receivers, and what their queues accepted they took, or it stands there; and which events can be done.
 use Rattle.std.specs.Prelude.{◌≡◌, ℕ, ◌<◌, ◌≤◌, List, [], ◌∷◌, ◌++◌, map, length, take, Some, None}
 use Rattle.std.specs.List.{slice_get}
-use Rattle.yp_attempt.specs.Attempts.{Notification, answers_in, of_receiver, taken_of}
+use Rattle.yp_attempt.specs.Attempts.{Notification, answers_in, of_receiver, own_tracks, taken_of}
 use Rattle.yp_attempt.specs.Moments.{Moment, MayFollow, AllMayFollow}
-use Rattle.yp_attempt.specs.Runs.{Standing, Found, Reaches, first_offer}
+use Rattle.yp_attempt.specs.Runs.{Standing, Found, Run, Reaches, first_offer}
 use Rattle.yp_attempt.specs.Tracks.{Attempt}
 use Rattle.yp_world.specs.World.{Delivery, World, Setup, Event, Append, Absorb, Offer, Take, receivers_of, worker_of}
 
@@ -21,6 +21,12 @@ pub record IsDeliveryOf (delivery : Delivery) (offered : List Attempt) : Type 0 
   pub answers : answers_in offered ≡ delivery.answers
   pub accepted : taken_of offered ≡ delivery.taken ++ delivery.queue
   pub fits : length delivery.queue ≤ delivery.places
+
+-- a receiver's part of what its worker did: with its tracks alone the worker stands where the entries that it absorbed and the receiver's own answers lead, and the delivery is that of its attempts
+pub record IsOwnRunOf (setup : Setup) (world : World) (receiver : ℕ) (delivery : Delivery) (standing : Standing) (run : Run) : Type 0 where
+  pub stands : run.standing ≡ record standing { tracks = own_tracks receiver standing.tracks }
+  pub reaches : Reaches setup.content (receiver ∷ []) (absorbed_by world standing) (answers_in run.done) run
+  pub delivers : IsDeliveryOf delivery run.done
 
 -- a worker serves: it stands where the entries that it absorbed and the answers to its attempts lead, and of these each of its receivers has its delivery
 pub record Serves (setup : Setup) (world : World) (worker : ℕ) (standing : Standing) : Type 0 where

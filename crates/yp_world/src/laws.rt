@@ -1,12 +1,13 @@
 //! Laws of the world; nothing runs.
-ghost use Rattle.std.specs.Prelude.{◌≡◌, ℕ, ◌<◌, ◌++◌, ◌↔◌, List, [], ◌∷◌, length, Some};
+ghost use Rattle.std.specs.Prelude.{◌≡◌, ℕ, ◌<◌, ◌%◌, ◌++◌, ◌↔◌, List, [], ◌∷◌, length, Some};
 ghost use Rattle.std.specs.List.{slice_get};
-ghost use Rattle.yp_attempt.specs.Attempts.{own_tracks, replay};
+ghost use Rattle.yp_attempt.specs.Attempts.{IsOneOf, own_tracks, replay};
 ghost use Rattle.yp_attempt.specs.Content.{IsLawful};
 ghost use Rattle.yp_attempt.specs.Runs.{Standing, Found, first_offer, first_run};
+ghost use Rattle.yp_attempt.specs.Workers.{numbers_of};
 ghost use Rattle.yp_mirror.specs.Stories.{Leads, story_of};
 ghost use Rattle.yp_world.specs.Headline.{IsServed};
-ghost use Rattle.yp_world.specs.Holding.{AreOf, CanBeDone, Holds, absorbed_by};
+ghost use Rattle.yp_world.specs.Holding.{AreOf, CanBeDone, Holds, IsOwnRunOf, absorbed_by};
 ghost use Rattle.yp_world.specs.World.{Accepted, Delivery, Event, MetFull, Nothing, Offer, Setup, World, after_events, first_world, step, with_workers};
 
 use yp_attempt::laws::{
@@ -76,13 +77,19 @@ pub fn a_world_that_holds_serves_its_receivers()
     the_next_resynchronisation_carries_its_own_positions_selection();
 }
 
+/// Each receiver is one of those that its worker serves, and stands among them just once.
+#[tactic(auto, using(crate::proofs::Numbers::one_of))]
+pub fn a_receiver_is_one_of_those_of_its_worker()
+    ensures { (workers receiver count : ℕ) → receiver < count → IsOneOf receiver (numbers_of (receiver % workers) workers count) }
+{}
+
 /// A receiver's part of its worker's run is its own run: where the worker stands, with the tracks of the
 /// receiver alone, is where the entries that it absorbed and the receiver's own answers lead. So the number of
 /// workers doesn't matter: in two worlds with different numbers of workers, a receiver whose workers absorbed
 /// the same entries and whose queue answered the same is sent the same, and its feeds are the same.
 pub fn the_number_of_workers_does_not_matter()
     ensures part { (setup : Setup) (world : World) → Holds setup world → (receiver : ℕ) → receiver < length setup.places → (delivery : Delivery) (standing : Standing) → AreOf setup world receiver delivery standing
-        → (replay setup.content (receiver ∷ []) first_run (absorbed_by world standing) delivery.answers).run.standing ≡ record standing { tracks = own_tracks receiver standing.tracks } }
+        → IsOwnRunOf setup world receiver delivery standing (replay setup.content (receiver ∷ []) first_run (absorbed_by world standing) delivery.answers).run }
     ensures sent { (setup : Setup) (others : ℕ) (one two : World) → Holds setup one → Holds (with_workers setup others) two → (receiver : ℕ) → receiver < length setup.places
         → (first second : Delivery) (here there : Standing) → AreOf setup one receiver first here → AreOf (with_workers setup others) two receiver second there
         → absorbed_by one here ≡ absorbed_by two there → first.answers ≡ second.answers → first.taken ++ first.queue ≡ second.taken ++ second.queue }

@@ -1,6 +1,4 @@
-use Rattle.std.proofs.Common.{ap}
-use Rattle.yp_attempt.specs.Attempts.{Replayed}
-use Rattle.yp_world.proofs.Parts.{RunLaws, own_replay, same_sent, same_tracks}
+use Rattle.yp_world.proofs.Parts.{RunLaws, own_run_of, same_sent, same_tracks}
 use Rattle.yp_world.proofs.laws.the_number_of_workers_does_not_matter.Goals as goal
 
 pub returns : goal.returns
@@ -10,7 +8,7 @@ returns c =
       replays = c.what_is_reached_is_what_replaying_gives.ensures;
     } in
     record {
-      part = λ setup world holds receiver small delivery standing are. ap (λ (end : Replayed). end.run.standing) (own_replay setup world holds receiver delivery standing are runs small);
+      part = λ setup world holds receiver small delivery standing are. own_run_of setup world holds receiver delivery standing are runs small;
       sent = same_sent runs;
       tracks = same_tracks runs;
     }
