@@ -13,7 +13,8 @@ use Rattle.yp_journal.specs.History.{first_state, state_at, IsLegal}
 use Rattle.yp_attempt.specs.Attempts.{Notification}
 use Rattle.yp_moment.specs.Entries.{selected_at}
 use Rattle.yp_moment.specs.Notices.{notice_of}
-use Rattle.yp_promise.specs.Promise.{Gives, is_update_of}
+use Rattle.yp_world.specs.Headline.{is_update_of}
+use Rattle.yp_promise.specs.Promise.{Gives}
 use Rattle.yp_receiver.specs.Held.{held_of, lines_heard}
 use Rattle.yp_texts.specs.Commands.{CommandHasUtf8}
 

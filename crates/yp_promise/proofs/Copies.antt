@@ -20,15 +20,14 @@ use Rattle.yp_mirror.specs.Links.{IsAttemptOf, IsRunOf}
 use Rattle.yp_mirror.specs.Stories.{Story, story_of}
 use Rattle.yp_moment.specs.Entries.{moments_of, selected_at}
 use Rattle.yp_moment.specs.Windows.{recorded}
-use Rattle.yp_promise.specs.Promise.{BeginsFull, Gives, Mirrors, NeverFalls, is_update_of}
+use Rattle.yp_world.specs.Headline.{NeverFalls, is_update_of}
+use Rattle.yp_world.specs.TakenLaws.{IsTakenAt, one_there, sub_parts, taken_at}
+use Rattle.yp_promise.specs.Promise.{BeginsFull, Gives, Mirrors}
 use Rattle.yp_receiver.specs.Held.{held_of}
 use Rattle.yp_promise.specs.Received.{received}
-use Rattle.yp_promise.specs.Serving.{run_of}
-use Rattle.yp_promise.specs.Shown.{offered_to}
 use Rattle.yp_promise.proofs.Bodies.{SaysRows, rows_in_order, wanted}
 use Rattle.yp_promise.proofs.Holding.{SaysInOrder, agree_on, held_received, none_told, received_last, received_of, update_sets}
-use Rattle.yp_promise.proofs.Own.{own_attempt, own_part}
-use Rattle.yp_promise.proofs.Parts.{IsTakenAt, one_there, sub_parts, taken_at}
+use Rattle.yp_promise.proofs.Own.{own_attempt}
 
 -- ---- the laws that are rested on
 
@@ -69,14 +68,14 @@ held_now id front a order here mine taken update =
 
 -- ---- what was taken
 
-module _ (nodes : List SchemaNode) (receivers : List ReceiverInfo) (entries : List Entry) (receiver : ℕ) (got waiting : List Notification) where
+module _ (nodes : List SchemaNode) (receivers : List ReceiverInfo) (entries : List Entry) (receiver : ℕ) (run : Run) (got waiting : List Notification) where
   abbrev offered : List Attempt
-  offered = offered_to receiver (run_of nodes receivers entries)
+  offered = run.done
 
   abbrev story : Story
   story = story_of (moments_of nodes receivers entries) receiver
 
-  module _ (laws : CopyLaws) (of : IsRunOf recorded story receiver (own_part nodes receivers entries receiver)) (goes : GoesByAsk nodes receivers entries receiver)
+  module _ (laws : CopyLaws) (of : IsRunOf recorded story receiver run) (goes : GoesByAsk nodes receivers entries receiver)
       (rows : AllByRecursion (λ a. SaysRows nodes a.made.body) offered) (accepted : taken_of offered ≡ got ++ waiting) where
     -- where one that was taken stands among what was offered
     there : (before : List Notification) (n : Notification) (after : List Notification) → got ≡ before ++ n ∷ after → IsTakenAt offered before n (after ++ waiting)
@@ -95,8 +94,8 @@ module _ (nodes : List SchemaNode) (receivers : List ReceiverInfo) (entries : Li
       taken_update : IsTakenUpdate at.a
       taken_update = record { taken = at.taken; update = (and_parts (at.a.sub == id) (is_update at.a.made.body) said).1 }
 
-      of_it : IsAttemptOf (own_part nodes receivers entries receiver) id (of_sub id at.front) at.a
-      of_it = own_attempt nodes receivers entries receiver at.front at.a at.back at.parts id mine
+      of_it : IsAttemptOf run id (of_sub id at.front) at.a
+      of_it = own_attempt nodes receivers entries receiver run at.front at.a at.back at.parts id mine
 
       abbrev Orderly : Attempt → Type 0
       Orderly a = SaysInOrder a.made.body
@@ -117,13 +116,13 @@ module _ (nodes : List SchemaNode) (receivers : List ReceiverInfo) (entries : Li
         is_fresh : held_of id (received [] (before ++ update ∷ [])) ≡ Some (selected_at nodes (state_at nodes receivers entries update.made.position) id receiver)
         is_fresh =
             told_held
-            ∙ ap (λ (rows : List Row). Some rows) (laws.fresh recorded story receiver (own_part nodes receivers entries receiver) of id (of_sub id at.front) at.a of_it taken_update ((goes id ask gives).0 ∙ mirrored) ∙ wanted nodes receivers entries receiver id at.a.made.position)
+            ∙ ap (λ (rows : List Row). Some rows) (laws.fresh recorded story receiver run of id (of_sub id at.front) at.a of_it taken_update ((goes id ask gives).0 ∙ mirrored) ∙ wanted nodes receivers entries receiver id at.a.made.position)
             ∙ ap (λ (n : Notification). Some (selected_at nodes (state_at nodes receivers entries n.made.position) id receiver)) at.here
 
         is_first_full : AllByRecursion (λ n. is_update_of id n ≡ false) before → is_full_update update.made.body ≡ true
         is_first_full none =
             subst (λ (n : Notification). is_full_update n.made.body ≡ true) at.here
-            (laws.begins recorded story receiver (own_part nodes receivers entries receiver) of id (of_sub id at.front) at.a of_it taken_update ((goes id ask gives).0 ∙ mirrored)
+            (laws.begins recorded story receiver run of id (of_sub id at.front) at.a of_it taken_update ((goes id ask gives).0 ∙ mirrored)
             (none_told id at.front told_nothing refl (subst (λ (ns : List Notification). AllByRecursion (λ n. is_update_of id n ≡ false) ns) (sym at.first) none)))
 
     pub copies_fresh : Mirrors nodes receivers entries receiver got
@@ -143,7 +142,7 @@ module _ (nodes : List SchemaNode) (receivers : List ReceiverInfo) (entries : Li
         ap (λ (xs : List Attempt). of_sub id xs) first.parts ∙ sub_parts id first.front first.a first.back one_said.0
         ∙ ap (λ (xs : List Attempt). of_sub id first.front ++ first.a ∷ xs) (ap (λ (xs : List Attempt). of_sub id xs) second.parts ∙ sub_parts id second.front second.a second.back other_said.0) in
         let low : first.a.made.position ≤ second.a.made.position =
-        laws.rising recorded story receiver (own_part nodes receivers entries receiver) of id (of_sub id first.front) first.a (of_sub id second.front) second.a (of_sub id second.back) parts
+        laws.rising recorded story receiver run of id (of_sub id first.front) first.a (of_sub id second.front) second.a (of_sub id second.back) parts
         (record { taken = first.taken; update = one_said.1 }) (record { taken = second.taken; update = other_said.1 }) in
         subst (λ (n : ℕ). n ≤ other.made.position) (ap (λ (n : Notification). n.made.position) first.here)
         (subst (λ (n : ℕ). first.a.made.position ≤ n) (ap (λ (n : Notification). n.made.position) second.here) low)

@@ -21,7 +21,7 @@ use Rattle.yp_attempt.specs.Tracks.{Body, All, Edits, Marked, Notice, Answer, To
 use Rattle.yp_mirror.specs.Heard.{Told, after_attempt, after_body, after_full, heard_all, is_update, of_sub}
 use Rattle.yp_moment.specs.Notices.{notice_by, notice_of, state_notice}
 use Rattle.yp_moment.specs.Windows.{recorded}
-use Rattle.yp_promise.specs.Promise.{is_update_of}
+use Rattle.yp_world.specs.Headline.{is_update_of}
 use Rattle.yp_receiver.specs.Held.{hears, held_of}
 use Rattle.yp_promise.specs.Received.{received}
 

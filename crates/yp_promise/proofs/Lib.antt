@@ -1,7 +1,6 @@
 pub mod Entering
 pub mod Ticks
 pub mod Going
-pub mod Parts
 pub mod Holding
 pub mod Bodies
 pub mod Own
@@ -9,3 +8,4 @@ pub mod Copies
 pub mod Offers
 pub mod Showing
 pub mod Queues
+pub mod Interleaving

@@ -9,7 +9,7 @@ use Rattle.yp_schema.specs.WellFormed.{IsSchema}
 use Rattle.yp_journal.specs.declared.entry.Entry.{Entry}
 use Rattle.yp_journal.specs.declared.receiver.ReceiverInfo.{ReceiverInfo}
 use Rattle.yp_journal.specs.History.{first_state, may_read, state_at, IsLegal}
-use Rattle.yp_attempt.specs.Attempts.{replay}
+use Rattle.yp_attempt.specs.Attempts.{answers_in, replay}
 use Rattle.yp_attempt.specs.Content.{Content}
 use Rattle.yp_attempt.specs.Runs.{Run, first_run}
 use Rattle.yp_attempt.specs.Tracks.{Answer, Attempt, All, Notice}
@@ -20,13 +20,12 @@ use Rattle.yp_mirror.specs.Stories.{Story, story_of}
 use Rattle.yp_moment.specs.Concealed.{NamesReadable}
 use Rattle.yp_moment.specs.Entries.{moments_of}
 use Rattle.yp_moment.specs.Windows.{recorded}
-use Rattle.yp_promise.specs.Promise.{IsConcealed, LeavesOutAfterFull, Resynchronises, SuspendsAfterEight}
-use Rattle.yp_promise.specs.Serving.{run_of}
-use Rattle.yp_promise.specs.Shown.{offered_to}
+use Rattle.yp_world.specs.Headline.{LeavesOutAfterFull, SuspendsAfterEight}
+use Rattle.yp_world.specs.TakenLaws.{all_there, number_is}
+use Rattle.yp_promise.specs.Promise.{IsConcealed, Resynchronises}
 use Rattle.yp_promise.proofs.Bodies.{wanted}
 use Rattle.yp_promise.proofs.Copies.{GoesByAsk}
-use Rattle.yp_promise.proofs.Own.{own_answers, own_attempt, own_part}
-use Rattle.yp_promise.proofs.Parts.{all_there, number_is}
+use Rattle.yp_promise.proofs.Own.{own_attempt}
 
 -- ---- the laws that are rested on
 
@@ -47,43 +46,37 @@ pub record ConcealLaws : Type 0 where
       → (id : ℕ) (before : List Attempt) (a : Attempt) → IsAttemptOf (replay recorded (receiver ∷ []) first_run (moments_of nodes receivers entries) answers).run id before a
       → NamesReadable (may_read nodes (state_at nodes receivers entries a.at) receiver) a.made.body
 
-module _ (nodes : List SchemaNode) (receivers : List ReceiverInfo) (entries : List Entry) (receiver : ℕ) where
-  abbrev all_offered : List Attempt
-  all_offered = offered_to receiver (run_of nodes receivers entries)
-
+module _ (nodes : List SchemaNode) (receivers : List ReceiverInfo) (entries : List Entry) (receiver : ℕ) (run : Run) where
   abbrev story : Story
   story = story_of (moments_of nodes receivers entries) receiver
 
-  abbrev own : Run
-  own = own_part nodes receivers entries receiver
-
   -- an attempt that was offered is one of its own subscription
-  its_own : (before : List Attempt) (a : Attempt) (after : List Attempt) → all_offered ≡ before ++ a ∷ after → IsAttemptOf own a.sub (of_sub a.sub before) a
-  its_own before a after is = own_attempt nodes receivers entries receiver before a after is a.sub (number_is a.sub)
+  its_own : (before : List Attempt) (a : Attempt) (after : List Attempt) → run.done ≡ before ++ a ∷ after → IsAttemptOf run a.sub (of_sub a.sub before) a
+  its_own before a after is = own_attempt nodes receivers entries receiver run before a after is a.sub (number_is a.sub)
 
-  pub all_concealed : ConcealLaws → IsSchema nodes → IsLegal nodes (first_state receivers) entries → (replay recorded (receiver ∷ []) first_run (moments_of nodes receivers entries) (own_answers nodes receivers entries receiver)).run ≡ own
-      → AllByRecursion (IsConcealed nodes receivers entries receiver) all_offered
+  pub all_concealed : ConcealLaws → IsSchema nodes → IsLegal nodes (first_state receivers) entries → (replay recorded (receiver ∷ []) first_run (moments_of nodes receivers entries) (answers_in run.done)).run ≡ run
+      → AllByRecursion (IsConcealed nodes receivers entries receiver) run.done
   all_concealed laws schema legal same =
-      all_there (IsConcealed nodes receivers entries receiver) all_offered [] all_offered refl
+      all_there (IsConcealed nodes receivers entries receiver) run.done [] run.done refl
       (λ before a after is.
-      let it : IsAttemptOf (replay recorded (receiver ∷ []) first_run (moments_of nodes receivers entries) (own_answers nodes receivers entries receiver)).run a.sub (of_sub a.sub before) a =
-      subst (λ (run : Run). IsAttemptOf run a.sub (of_sub a.sub before) a) (sym same) (its_own before a after is) in
+      let it : IsAttemptOf (replay recorded (receiver ∷ []) first_run (moments_of nodes receivers entries) (answers_in run.done)).run a.sub (of_sub a.sub before) a =
+      subst (λ (it : Run). IsAttemptOf it a.sub (of_sub a.sub before) a) (sym same) (its_own before a after is) in
       record {
-        made = laws.made nodes receivers entries receiver (own_answers nodes receivers entries receiver) schema legal a.sub (of_sub a.sub before) a it;
-        offered = laws.offered nodes receivers entries receiver (own_answers nodes receivers entries receiver) schema legal a.sub (of_sub a.sub before) a it;
+        made = laws.made nodes receivers entries receiver (answers_in run.done) schema legal a.sub (of_sub a.sub before) a it;
+        offered = laws.offered nodes receivers entries receiver (answers_in run.done) schema legal a.sub (of_sub a.sub before) a it;
       })
 
-  module _ (laws : OfferLaws) (of : IsRunOf recorded story receiver own) where
-    pub suspends_after_eight : SuspendsAfterEight all_offered
-    suspends_after_eight before a after is says = laws.suspends recorded story receiver own of a.sub (of_sub a.sub before) a (its_own before a after is) says
+  module _ (laws : OfferLaws) (of : IsRunOf recorded story receiver run) where
+    pub suspends_after_eight : SuspendsAfterEight run.done
+    suspends_after_eight before a after is says = laws.suspends recorded story receiver run of a.sub (of_sub a.sub before) a (its_own before a after is) says
 
-    pub leaves_out_after_full : LeavesOutAfterFull all_offered
-    leaves_out_after_full before a after is says = laws.leaves_out recorded story receiver own of a.sub (of_sub a.sub before) a (its_own before a after is) says
+    pub leaves_out_after_full : LeavesOutAfterFull run.done
+    leaves_out_after_full before a after is says = laws.leaves_out recorded story receiver run of a.sub (of_sub a.sub before) a (its_own before a after is) says
 
-    pub resyncs_carry : GoesByAsk nodes receivers entries receiver → Resynchronises nodes receivers entries receiver all_offered
+    pub resyncs_carry : GoesByAsk nodes receivers entries receiver → Resynchronises nodes receivers entries receiver run.done
     resyncs_carry goes id ask gives resyncing before a after is mine taken awaits =
-        let it : IsAttemptOf own id (of_sub id before) a = own_attempt nodes receivers entries receiver before a after is id (ap (λ (n : ℕ). n == id) mine ∙ number_is id) in
+        let it : IsAttemptOf run id (of_sub id before) a = own_attempt nodes receivers entries receiver run before a after is id (ap (λ (n : ℕ). n == id) mine ∙ number_is id) in
         let told = (goes id ask gives).1 ∙ resyncing in (
-          laws.carries recorded story receiver own of id (of_sub id before) a it taken told awaits ∙ ap (λ (rows : List Row). All rows) (wanted nodes receivers entries receiver id a.at),
-          laws.here recorded story receiver own of id (of_sub id before) a it taken told awaits,
+          laws.carries recorded story receiver run of id (of_sub id before) a it taken told awaits ∙ ap (λ (rows : List Row). All rows) (wanted nodes receivers entries receiver id a.at),
+          laws.here recorded story receiver run of id (of_sub id before) a it taken told awaits,
         )

@@ -22,7 +22,7 @@ use Rattle.yp_moment.specs.Notices.{notice_by, notice_of, state_notice}
 use Rattle.yp_receiver.specs.Held.{hears, held_of}
 use Rattle.yp_promise.specs.Received.{CanBeShown, received}
 use Rattle.yp_promise.proofs.Bodies.{AreRows, CarriesRows, SaysRows}
-use Rattle.yp_promise.proofs.Parts.{all_taken}
+use Rattle.yp_world.specs.TakenLaws.{all_taken}
 
 changed_rows : (nodes : List SchemaNode) (changes : List Change) (rows : List Row) → AllByRecursion (CarriesRows nodes) changes → AreRows nodes rows → AreRows nodes (changed_by changes rows)
 changed_rows nodes [] rows all are = are

@@ -3,3 +3,4 @@ pub mod Shown
 pub mod Received
 pub mod Promise
 pub mod Posts
+pub mod Interleaving

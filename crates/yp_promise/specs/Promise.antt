@@ -1,21 +1,20 @@
 -- What the receiver of a legal journal is promised, by all that was offered to it and all that it took (RFC 8641 sections 3.1, 3.3, 3.7, 3.9 and 3.11, RFC 8639 section 2.7, RFC 8341 section 3.4.5).
-use Rattle.std.specs.Prelude.{◌≡◌, ℕ, ◌≤◌, ◌==◌, ◌&&◌, Bool, true, false, List, [], ◌∷◌, ◌++◌, Some}
+use Rattle.std.specs.Prelude.{◌≡◌, ℕ, true, false, List, [], ◌∷◌, ◌++◌, Some}
 use Rattle.std.specs.List.{AllByRecursion}
 use Rattle.yp_schema.specs.declared.schema.SchemaNode.{SchemaNode}
 use Rattle.yp_terms.specs.declared.ask.Ask.{Ask}
-use Rattle.yp_feed.specs.declared.item.Item.TheVariants.{Suspended}
 use Rattle.yp_feed.specs.Machine.{is_mirrored, resyncs}
 use Rattle.yp_journal.specs.declared.entry.Entry.{Entry}
 use Rattle.yp_journal.specs.declared.receiver.ReceiverInfo.{ReceiverInfo}
 use Rattle.yp_journal.specs.History.{may_read, state_at}
-use Rattle.yp_attempt.specs.Tracks.{Attempt, All, Notice}
+use Rattle.yp_attempt.specs.Tracks.{Attempt, All}
 use Rattle.yp_attempt.specs.Attempts.{Notification, answers_in, attempts, taken_of}
-use Rattle.yp_mirror.specs.FullQueues.{HasFull, HasEightFull}
-use Rattle.yp_mirror.specs.Heard.{is_full_update, is_incomplete_update, is_update, of_sub, told_by, IsTakenUpdate}
+use Rattle.yp_mirror.specs.Heard.{is_full_update, of_sub, told_by, IsTakenUpdate}
 use Rattle.yp_moment.specs.Concealed.{NamesReadable}
 use Rattle.yp_moment.specs.Entries.{Grants, moments_of, selected_at}
 use Rattle.yp_moment.specs.Windows.{recorded}
 use Rattle.yp_receiver.specs.Held.{held_of}
+use Rattle.yp_world.specs.Headline.{LeavesOutAfterFull, NeverFalls, SuspendsAfterEight, is_update_of}
 use Rattle.yp_promise.specs.Received.{received}
 
 -- ---- subscriptions
@@ -27,10 +26,6 @@ pub record Gives (entries : List Entry) (id : ℕ) (ask : Ask) : Type 0 where
   pub after : List Entry
   pub parts : entries ≡ before ++ entry ∷ after
   pub grants : Grants entry id ask
-
--- whether a notification is an update of a subscription
-abbrev pub is_update_of : ℕ → Notification → Bool
-is_update_of id n = (n.sub == id) && is_update n.made.body
 
 -- ---- what it took
 
@@ -46,25 +41,12 @@ BeginsFull entries got = (id : ℕ) (ask : Ask) → Gives entries id ask → is_
     → (before : List Notification) (update : Notification) (after : List Notification) → got ≡ before ++ update ∷ after → is_update_of id update ≡ true
     → AllByRecursion (λ n. is_update_of id n ≡ false) before → is_full_update update.made.body ≡ true
 
--- of two updates of a subscription the later was made at no lower position
-abbrev pub NeverFalls : List Notification → Type 0
-NeverFalls got = (id : ℕ) (before : List Notification) (one : Notification) (between : List Notification) (other : Notification) (after : List Notification)
-    → got ≡ before ++ one ∷ (between ++ other ∷ after) → is_update_of id one ≡ true → is_update_of id other ≡ true → one.made.position ≤ other.made.position
-
 -- ---- what was offered to it
 
 -- nothing is named that its user may not read, neither at the position at which it was made nor at the one at which it was offered
 pub record IsConcealed (nodes : List SchemaNode) (receivers : List ReceiverInfo) (entries : List Entry) (receiver : ℕ) (a : Attempt) : Type 0 where
   pub made : NamesReadable (may_read nodes (state_at nodes receivers entries a.made.position) receiver) a.made.body
   pub offered : NamesReadable (may_read nodes (state_at nodes receivers entries a.at) receiver) a.made.body
-
--- a subscription is told to be suspended only after eight full answers in a row, since which it wasn't told to go on
-abbrev pub SuspendsAfterEight : List Attempt → Type 0
-SuspendsAfterEight offered = (before : List Attempt) (a : Attempt) (after : List Attempt) → offered ≡ before ++ a ∷ after → a.made.body ≡ Notice Suspended → HasEightFull (of_sub a.sub before)
-
--- an incomplete update is offered only after a full answer, since which no update was taken
-abbrev pub LeavesOutAfterFull : List Attempt → Type 0
-LeavesOutAfterFull offered = (before : List Attempt) (a : Attempt) (after : List Attempt) → offered ≡ before ++ a ∷ after → is_incomplete_update a.made.body ≡ true → HasFull (of_sub a.sub before)
 
 -- where all that is selected is awaited, after an incomplete update or eight full answers in a row, the next update of a subscription that resynchronises is just that: what is selected at the position at which it is offered, and made there
 abbrev pub Resynchronises : List SchemaNode → List ReceiverInfo → List Entry → ℕ → List Attempt → Type 0

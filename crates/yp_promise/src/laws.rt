@@ -6,7 +6,7 @@ ghost use Rattle.yp_journal.specs.declared.entry.Entry.{Entry};
 ghost use Rattle.yp_journal.specs.declared.receiver.ReceiverInfo.{ReceiverInfo};
 ghost use Rattle.yp_journal.specs.History.{first_state, IsLegal};
 ghost use Rattle.yp_attempt.specs.Attempts.{answers_in, own_run, replay};
-ghost use Rattle.yp_attempt.specs.Runs.{Found, first_run, waits};
+ghost use Rattle.yp_attempt.specs.Runs.{Found, Reaches, first_run, waits};
 ghost use Rattle.yp_mirror.specs.Links.{IsRunOf};
 ghost use Rattle.yp_mirror.specs.Stories.{story_of};
 ghost use Rattle.yp_moment.specs.Entries.{moments_of};
@@ -18,20 +18,13 @@ ghost use Rattle.yp_promise.specs.Received.{CanBeShown, received};
 ghost use Rattle.yp_promise.specs.Serving.{IsServing, queueing_of, run_entered, run_of};
 ghost use Rattle.yp_promise.specs.Shown.{got_by, offered_to};
 
+use crate::runs::every_run_of_a_receiver_serves_it;
 use yp_attempt::laws::{
     a_receivers_part_of_a_run_is_its_own_run, the_first_offer_is_found,
     what_is_reached_is_what_replaying_gives,
 };
-use yp_journal::laws::a_journal_keeps_a_datastore;
-use yp_mirror::laws::{
-    a_copy_begins_with_a_full_update, a_receivers_copy_is_fresh_after_each_update,
-    every_attempt_tells_of_what_was_selected, incomplete_updates_follow_full_queues,
-    only_full_queues_suspend, positions_never_fall,
-    the_next_resynchronisation_carries_its_own_positions_selection,
-};
 use yp_moment::acts::what_feeds_are_handed_can_be_followed;
 use yp_moment::laws::{
-    a_legal_journal_tells_what_is_selected, attempts_name_nothing_unreadable,
     entries_of_a_legal_journal_may_follow, one_entry_more_is_one_moment_more,
     what_a_legal_journal_makes_is_a_run_of_its_story, what_feeds_know_of_selections_is_lawful,
 };
@@ -39,6 +32,7 @@ use yp_serial::laws::{
     a_serial_run_is_a_run, a_serial_run_offers_until_nothing_is_offered,
     an_anchored_trigger_has_due_ticks, due_ticks_stay, each_answer_leaves_fewer_offers,
 };
+use yp_world::laws::a_receiver_is_one_of_those_of_its_worker;
 
 /// The serial run of a journal begins where nothing was taken and nothing offered. By one entry more receivers
 /// take what they take by it, the worker takes the entry, and offers come until nothing is offered.
@@ -91,12 +85,16 @@ pub fn a_receivers_part_of_a_serial_run_is_its_own_run()
     ensures runs { (nodes : List SchemaNode) (receivers : List ReceiverInfo) (entries : List Entry) (receiver : ℕ)
         → IsSchema nodes → IsLegal nodes (first_state receivers) entries → receiver < length receivers
         → IsRunOf recorded (story_of (moments_of nodes receivers entries) receiver) receiver (own_run receiver (run_of nodes receivers entries).run) }
+    ensures reaches { (nodes : List SchemaNode) (receivers : List ReceiverInfo) (entries : List Entry) (receiver : ℕ)
+        → IsSchema nodes → IsLegal nodes (first_state receivers) entries → receiver < length receivers
+        → Reaches recorded (receiver ∷ []) (moments_of nodes receivers entries) (answers_in (offered_to receiver (run_of nodes receivers entries))) (own_run receiver (run_of nodes receivers entries).run) }
 {
     what_feeds_know_of_selections_is_lawful();
     entries_of_a_legal_journal_may_follow();
     what_feeds_are_handed_can_be_followed();
     an_anchored_trigger_has_due_ticks();
     a_serial_run_is_a_run();
+    a_receiver_is_one_of_those_of_its_worker();
     a_receivers_part_of_a_run_is_its_own_run();
     what_is_reached_is_what_replaying_gives();
     what_a_legal_journal_makes_is_a_run_of_its_story();
@@ -110,16 +108,7 @@ pub fn what_a_serial_run_makes_serves()
         → Serves nodes receivers entries receiver (offered_to receiver (run_of nodes receivers entries)) (got_by receiver (run_of nodes receivers entries)) }
 {
     a_receivers_part_of_a_serial_run_is_its_own_run();
-    a_legal_journal_tells_what_is_selected();
-    a_journal_keeps_a_datastore();
-    every_attempt_tells_of_what_was_selected();
-    a_receivers_copy_is_fresh_after_each_update();
-    a_copy_begins_with_a_full_update();
-    positions_never_fall();
-    attempts_name_nothing_unreadable();
-    only_full_queues_suspend();
-    incomplete_updates_follow_full_queues();
-    the_next_resynchronisation_carries_its_own_positions_selection();
+    every_run_of_a_receiver_serves_it();
 }
 
 /// What a receiver holds by what it took can be written, also where a copy isn't mirrored.
@@ -129,6 +118,5 @@ pub fn what_receivers_hold_can_be_shown()
         → CanBeShown nodes (received [] (got_by receiver (run_of nodes receivers entries))) }
 {
     a_receivers_part_of_a_serial_run_is_its_own_run();
-    a_journal_keeps_a_datastore();
-    every_attempt_tells_of_what_was_selected();
+    every_run_of_a_receiver_serves_it();
 }

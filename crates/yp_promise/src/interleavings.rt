@@ -1,0 +1,37 @@
+//! Laws of legal journals that many workers follow; nothing runs.
+ghost use Rattle.std.specs.Prelude.{ℕ, ◌<◌, List, length};
+ghost use Rattle.yp_schema.specs.declared.schema.SchemaNode.{SchemaNode};
+ghost use Rattle.yp_schema.specs.WellFormed.{IsSchema};
+ghost use Rattle.yp_journal.specs.declared.entry.Entry.{Entry};
+ghost use Rattle.yp_journal.specs.declared.receiver.ReceiverInfo.{ReceiverInfo};
+ghost use Rattle.yp_journal.specs.History.{first_state, IsLegal};
+ghost use Rattle.yp_world.specs.World.{Event};
+ghost use Rattle.yp_promise.specs.Interleaving.{AppendAll, IsServedAfter};
+
+use crate::runs::every_run_of_a_receiver_serves_it;
+use yp_moment::laws::{
+    records_lead_from_selection_to_selection, what_feeds_know_of_selections_is_lawful,
+};
+use yp_world::laws::{
+    a_world_that_holds_serves_its_receivers, every_list_of_events_keeps_what_holds,
+    the_number_of_workers_does_not_matter,
+};
+
+/// However writers, workers and receivers interleave over a legal journal, with at least one worker, each
+/// receiver is served. What its queue accepted is what the definition makes for it of the entries that its
+/// worker absorbed, line by line. After each update of a mirrored subscription it holds fresh selection under
+/// filter and access control at the update's journal position; positions never fall; nothing is named that its
+/// user may not read; suspensions and incomplete updates follow only full queues, and the next
+/// resynchronisation carries its own position's selection.
+pub fn every_interleaving_serves_each_receiver()
+    ensures { (nodes : List SchemaNode) (receivers : List ReceiverInfo) (workers : ℕ) (entries : List Entry) (events : List Event)
+        → IsSchema nodes → IsLegal nodes (first_state receivers) entries → 0 < workers → AppendAll nodes receivers workers entries events
+        → (receiver : ℕ) → receiver < length receivers → IsServedAfter nodes receivers workers entries events receiver }
+{
+    what_feeds_know_of_selections_is_lawful();
+    records_lead_from_selection_to_selection();
+    every_list_of_events_keeps_what_holds();
+    a_world_that_holds_serves_its_receivers();
+    the_number_of_workers_does_not_matter();
+    every_run_of_a_receiver_serves_it();
+}
