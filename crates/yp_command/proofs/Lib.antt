@@ -1,4 +1,5 @@
 pub mod Coming
+pub mod Distinct
 pub mod KeyLaws
 pub mod ListLaws
 pub mod MemberLaws

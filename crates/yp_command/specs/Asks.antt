@@ -24,11 +24,21 @@ use Rattle.yp_command.specs.Words.{is_text, text_at, whole_said}
 
 -- ---- members
 
+-- the members for a filter and a trigger
+abbrev pub terms : List (List ℕ)
+terms = codes "datastore-subtree-filter" ∷ codes "datastore-xpath-filter" ∷ codes "periodic" ∷ codes "on-change" ∷ []
+
 -- the members that a part of the line may have
 abbrev pub members_of : AskPart → List (List ℕ)
-members_of parts.Establish = codes "by" ∷ codes "datastore" ∷ codes "encoding" ∷ codes "datastore-subtree-filter" ∷ codes "datastore-xpath-filter" ∷ codes "periodic" ∷ codes "on-change" ∷ []
+members_of parts.Establish = codes "by" ∷ codes "datastore" ∷ codes "encoding" ∷ terms
+members_of parts.Modify = codes "by" ∷ codes "id" ∷ terms
+members_of parts.Call = codes "by" ∷ codes "id" ∷ []
+members_of parts.Configure = codes "id" ∷ codes "receivers" ∷ codes "datastore" ∷ codes "encoding" ∷ terms
+members_of parts.Reconfigure = codes "id" ∷ terms
+members_of parts.Unconfigure = codes "id" ∷ []
 members_of parts.Periodic = codes "period" ∷ codes "anchor-time" ∷ []
 members_of parts.OnChange = codes "dampening-period" ∷ codes "sync-on-start" ∷ codes "excluded-change" ∷ []
+members_of parts.Dampening = codes "dampening-period" ∷ []
 
 -- whether a part may have each of these members
 abbrev pub may_have_all : AskPart → Members → Bool
@@ -44,11 +54,12 @@ has_only part other = false
 abbrev pub number_said : Data → Said ℕ
 number_said json = whole_said 0 (2 ^ 32 - 1) json
 
--- ---- "periodic":{"period":N,"anchor-time":T}
+-- one that may not be left out
+abbrev pub number_there : Option Data → Said ℕ
+number_there None = Err kinds.Member
+number_there (Some json) = number_said json
 
-abbrev pub period_said : Option Data → Said ℕ
-period_said None = Err kinds.Member
-period_said (Some json) = number_said json
+-- ---- "periodic":{"period":N,"anchor-time":T}
 
 -- the ticks from the start to an anchor; without a start there are none
 abbrev pub anchor_at : Option ℕ → List ℕ → Option ℤ
@@ -63,7 +74,7 @@ anchor_said start (Some other) = Err kinds.Member
 abbrev pub periodic_said : Option ℕ → Data → Said Trigger
 periodic_said start json =
     said_map (λ said. Periodic said.0 said.1)
-    (holding kinds.Member (has_only parts.Periodic json) (both (period_said (member_of (codes "period") json)) (anchor_said start (member_of (codes "anchor-time") json))))
+    (holding kinds.Member (has_only parts.Periodic json) (both (number_there (member_of (codes "period") json)) (anchor_said start (member_of (codes "anchor-time") json))))
 
 -- ---- "on-change":{"dampening-period":N,"sync-on-start":B,"excluded-change":L}
 
@@ -113,23 +124,24 @@ excluded_said None = Ok (kinds_in no_items)
 excluded_said (Some (array ds)) = excluded_by ds
 excluded_said (Some other) = Err kinds.Member
 
-abbrev pub on_change_said : Data → Said Trigger
-on_change_said json =
+-- a trigger on change, which may have the members of a part
+abbrev pub on_change_said : AskPart → Data → Said Trigger
+on_change_said part json =
     said_map (λ said. OnChange said.0 said.1.0 said.1.1)
-    (holding kinds.Member (has_only parts.OnChange json)
+    (holding kinds.Member (has_only part json)
     (both (dampening_said (member_of (codes "dampening-period") json)) (both (sync_said (member_of (codes "sync-on-start") json)) (excluded_said (member_of (codes "excluded-change") json)))))
 
 -- ---- the members of {"establish":E}
 
--- the trigger: just one
-abbrev pub trigger_by : Option ℕ → Option Data → Option Data → Said Trigger
-trigger_by start (Some periodic) None = periodic_said start periodic
-trigger_by start None (Some on_change) = on_change_said on_change
-trigger_by start None None = Err kinds.Member
-trigger_by start (Some periodic) (Some on_change) = Err kinds.Member
+-- the trigger: just one, of which one on change may have the members of a part
+abbrev pub trigger_by : AskPart → Option ℕ → Option Data → Option Data → Said Trigger
+trigger_by part start (Some periodic) None = periodic_said start periodic
+trigger_by part start None (Some on_change) = on_change_said part on_change
+trigger_by part start None None = Err kinds.Member
+trigger_by part start (Some periodic) (Some on_change) = Err kinds.Member
 
-abbrev pub trigger_said : Option ℕ → Data → Said Trigger
-trigger_said start json = trigger_by start (member_of (codes "periodic") json) (member_of (codes "on-change") json)
+abbrev pub trigger_said : AskPart → Option ℕ → Data → Said Trigger
+trigger_said part start json = trigger_by part start (member_of (codes "periodic") json) (member_of (codes "on-change") json)
 
 -- an XPath filter, which is any text, or no filter
 abbrev pub xpath_said : Option Data → Said FilterAsk
@@ -162,7 +174,7 @@ abbrev pub ask_of : (List ℕ × List ℕ) × (FilterAsk × Trigger) → Ask
 ask_of said = record { encoding = said.0.0; datastore = said.0.1; filter = said.1.0; trigger = said.1.1 }
 
 abbrev pub ask_said : Option ℕ → Data → Said Ask
-ask_said start json = said_map ask_of (both (both (encoding_said json) (datastore_said json)) (both (filter_said json) (trigger_said start json)))
+ask_said start json = said_map ask_of (both (both (encoding_said json) (datastore_said json)) (both (filter_said json) (trigger_said parts.OnChange start json)))
 
 -- the number of the receiver that asks
 abbrev pub by_said : List ReceiverInfo → Data → Said ℕ

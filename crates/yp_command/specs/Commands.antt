@@ -1,5 +1,5 @@
 -- What is known of each command that a line asks for.
-use Rattle.std.specs.Prelude.{◌≡◌, ℕ, ◌<◌, ◌≤◌, ◌^◌, ℤ, List, length, Option, Some, None, Ok}
+use Rattle.std.specs.Prelude.{◌≡◌, ℕ, ◌<◌, ◌≤◌, ◌^◌, ℤ, List, length, Option, Some, None, option_and_then, Ok}
 use Rattle.std.specs.Option.{ForSome}
 use Rattle.serde_json.specs.Data.{Data}
 use Rattle.yp_base.specs.declared.notice.Trigger.{Trigger}
@@ -9,7 +9,7 @@ use Rattle.yp_nacm_text.specs.Policies.{policy_in}
 use Rattle.yp_edit.specs.Shapes.{patch_in}
 use Rattle.yp_time.specs.Ticks.{tick_limit, IsAnchor}
 use Rattle.yp_journal.specs.declared.command.Command.{Command}
-use Rattle.yp_journal.specs.declared.command.Command.TheVariants.{Tick, Edit, Rules, Establish, Take}
+use Rattle.yp_journal.specs.declared.command.Command.TheVariants.{Tick, Edit, Rules, Establish, Modify, Delete, Kill, Resync, Configure, Reconfigure, Unconfigure, Take}
 use Rattle.yp_journal.specs.declared.receiver.ReceiverInfo.{ReceiverInfo}
 use Rattle.yp_journal.specs.History.{IsTakeOf, MayCome}
 
@@ -26,6 +26,9 @@ anchor_of (OnChange dampening sync excluded) = None
 -- and that of a command
 abbrev pub asked_anchor : Command → Option ℤ
 asked_anchor (Establish by ask) = anchor_of ask.trigger
+asked_anchor (Modify by id amend) = option_and_then anchor_of amend.trigger
+asked_anchor (Configure id receivers ask) = anchor_of ask.trigger
+asked_anchor (Reconfigure id amend) = option_and_then anchor_of amend.trigger
 asked_anchor other = None
 
 -- fewer edits than there are numbers of 32 bits, and an anchor within the ticks
@@ -38,6 +41,13 @@ IsCommandOf nodes receivers (Tick tick) = tick ≤ tick_limit
 IsCommandOf nodes receivers (Edit patch) = (json : Data) × (patch_in json ≡ Some patch)
 IsCommandOf nodes receivers (Rules policy) = (json : Data) × (policy_in nodes json ≡ Ok policy)
 IsCommandOf nodes receivers (Establish by ask) = by < length receivers
+IsCommandOf nodes receivers (Modify by id amend) = by < length receivers
+IsCommandOf nodes receivers (Delete by id) = by < length receivers
+IsCommandOf nodes receivers (Kill by id) = by < length receivers
+IsCommandOf nodes receivers (Resync by id) = by < length receivers
+IsCommandOf nodes receivers (Configure id names ask) = length receivers < 2 ^ 32
+IsCommandOf nodes receivers (Reconfigure id amend) = Unit {0}
+IsCommandOf nodes receivers (Unconfigure id) = Unit {0}
 IsCommandOf nodes receivers (Take receiver count) = IsTakeOf receivers receiver count
 
 -- such a command within these bounds may come in a journal of its schema and its receivers

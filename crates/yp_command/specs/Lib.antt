@@ -1,4 +1,5 @@
 pub mod Asks
+pub mod Calls
 pub mod CommandLaws
 pub mod Commands
 pub mod Faults

@@ -15,9 +15,10 @@ use Rattle.yp_journal.specs.declared.command.Command.{Command}
 use Rattle.yp_journal.specs.declared.command.Command.TheVariants as commands
 use Rattle.yp_journal.specs.declared.receiver.ReceiverInfo.{ReceiverInfo}
 use Rattle.yp_command.specs.declared.command.Request.{Request}
-use Rattle.yp_command.specs.declared.command.Request.TheVariants.{Tick, Patch, Policy, Establish, Take}
+use Rattle.yp_command.specs.declared.command.Request.TheVariants.{Tick, Patch, Policy, Establish, Modify, Delete, Kill, Resync, Configure, Reconfigure, Unconfigure, Take}
 use Rattle.yp_command.specs.declared.fault.ScriptKind.TheVariants as kinds
 use Rattle.yp_command.specs.Asks.{establish_said}
+use Rattle.yp_command.specs.Calls.{modify_said, delete_said, kill_said, resync_said, configure_said, reconfigure_said, unconfigure_said}
 use Rattle.yp_command.specs.Faults.{Said, said_map}
 use Rattle.yp_command.specs.Takes.{take_said}
 use Rattle.yp_command.specs.Words.{sole_member, whole_said}
@@ -31,8 +32,15 @@ request_named name value =
     else (if same_text name (codes "patch") then Some (Patch value)
     else (if same_text name (codes "policy") then Some (Policy value)
     else (if same_text name (codes "establish") then Some (Establish value)
+    else (if same_text name (codes "modify") then Some (Modify value)
+    else (if same_text name (codes "delete") then Some (Delete value)
+    else (if same_text name (codes "kill") then Some (Kill value)
+    else (if same_text name (codes "resync") then Some (Resync value)
+    else (if same_text name (codes "configure") then Some (Configure value)
+    else (if same_text name (codes "reconfigure") then Some (Reconfigure value)
+    else (if same_text name (codes "unconfigure") then Some (Unconfigure value)
     else (if same_text name (codes "take") then Some (Take value)
-    else None))))
+    else None)))))))))))
 
 -- the command that an object of one member asks for
 abbrev pub request_in : Data → Option (Request Data)
@@ -44,6 +52,13 @@ seen_request (Tick value) = Tick (view value.now)
 seen_request (Patch value) = Patch (view value.now)
 seen_request (Policy value) = Policy (view value.now)
 seen_request (Establish value) = Establish (view value.now)
+seen_request (Modify value) = Modify (view value.now)
+seen_request (Delete value) = Delete (view value.now)
+seen_request (Kill value) = Kill (view value.now)
+seen_request (Resync value) = Resync (view value.now)
+seen_request (Configure value) = Configure (view value.now)
+seen_request (Reconfigure value) = Reconfigure (view value.now)
+seen_request (Unconfigure value) = Unconfigure (view value.now)
 seen_request (Take value) = Take (view value.now)
 
 -- ---- {"tick":T}, {"patch":D} (RFC 8072), {"policy":D} (RFC 8341)
@@ -66,4 +81,11 @@ command_said nodes start receivers (Tick json) = said_map commands.Tick (whole_s
 command_said nodes start receivers (Patch json) = patch_said json
 command_said nodes start receivers (Policy json) = policy_said nodes json
 command_said nodes start receivers (Establish json) = establish_said start receivers json
+command_said nodes start receivers (Modify json) = modify_said start receivers json
+command_said nodes start receivers (Delete json) = delete_said receivers json
+command_said nodes start receivers (Kill json) = kill_said receivers json
+command_said nodes start receivers (Resync json) = resync_said receivers json
+command_said nodes start receivers (Configure json) = configure_said start json
+command_said nodes start receivers (Reconfigure json) = reconfigure_said start json
+command_said nodes start receivers (Unconfigure json) = unconfigure_said json
 command_said nodes start receivers (Take json) = take_said receivers json

@@ -5,7 +5,7 @@ ghost use Rattle.serde_json.specs.Find.{as_str};
 ghost use Rattle.serde_json.specs.View.{view, items_view, members_view};
 ghost use Rattle.yp_base.specs.Types.{is_among};
 ghost use Rattle.yp_time.specs.Ticks.{IsAnchor};
-ghost use Rattle.yp_command.specs.Asks.{members_of, may_have_all, has_only, number_said, period_said, anchor_at, anchor_said, periodic_said, dampening_said, sync_said, holds, operations, is_once, are_operations, kinds_in, excluded_by, excluded_said, on_change_said, trigger_said, xpath_said, filter_said, datastore_said, encoding_said, ask_said, by_said, establish_said};
+ghost use Rattle.yp_command.specs.Asks.{terms, members_of, may_have_all, has_only, number_said, number_there, anchor_at, anchor_said, periodic_said, dampening_said, sync_said, holds, operations, is_once, are_operations, kinds_in, excluded_by, excluded_said, on_change_said, trigger_said, xpath_said, filter_said, datastore_said, encoding_said, ask_said, by_said, establish_said};
 ghost use Rattle.yp_command.specs.Commands.{IsBounded, anchor_of};
 ghost use Rattle.yp_command.specs.Readings.{Tells};
 
@@ -27,15 +27,37 @@ use yp_time::start::Start;
 /// The largest number of 32 bits.
 const MOST: u64 = 4_294_967_295;
 
-/// The objects of a line that asks for a subscription.
+/// The objects of a line that makes a call about a subscription.
 #[derive(Drop, Clone, Copy, PartialEq, Eq)]
 pub enum AskPart {
-    /// The whole call.
+    /// The whole call, where a receiver asks for a subscription.
     Establish,
+    /// Where it modifies one.
+    Modify,
+    /// Where it makes another call about one: it names itself, and the subscription.
+    Call,
+    /// Where a subscription is configured.
+    Configure,
+    /// Where a configured one is modified.
+    Reconfigure,
+    /// Where one is taken away.
+    Unconfigure,
     /// The terms of a periodic subscription.
     Periodic,
     /// The terms of a subscription on change.
     OnChange,
+    /// What of them can be modified.
+    Dampening,
+}
+
+/// Whether a call that gives a filter and a trigger may have a member of this name for one of them.
+fn is_term(name: &str) -> bool
+    ensures { result ≡ is_among name.now terms }
+{
+    name == "datastore-subtree-filter"
+        || name == "datastore-xpath-filter"
+        || name == "periodic"
+        || name == "on-change"
 }
 
 /// Whether a part may have a member of this name.
@@ -44,18 +66,24 @@ fn may_have(part: AskPart, name: &str) -> bool
 {
     match part {
         AskPart::Establish => {
-            name == "by"
+            name == "by" || name == "datastore" || name == "encoding" || is_term(name)
+        }
+        AskPart::Modify => name == "by" || name == "id" || is_term(name),
+        AskPart::Call => name == "by" || name == "id",
+        AskPart::Configure => {
+            name == "id"
+                || name == "receivers"
                 || name == "datastore"
                 || name == "encoding"
-                || name == "datastore-subtree-filter"
-                || name == "datastore-xpath-filter"
-                || name == "periodic"
-                || name == "on-change"
+                || is_term(name)
         }
+        AskPart::Reconfigure => name == "id" || is_term(name),
+        AskPart::Unconfigure => name == "id",
         AskPart::Periodic => name == "period" || name == "anchor-time",
         AskPart::OnChange => {
             name == "dampening-period" || name == "sync-on-start" || name == "excluded-change"
         }
+        AskPart::Dampening => name == "dampening-period",
     }
 }
 
@@ -72,7 +100,7 @@ fn may_have_all(part: AskPart, members: &Map<String, Json>) -> bool
 }
 
 /// Whether it is an object that has no members but those of a part.
-fn has_only(part: AskPart, json: &Json) -> bool
+pub(crate) fn has_only(part: AskPart, json: &Json) -> bool
     ensures { result ≡ has_only part (view json.now) }
 {
     match json {
@@ -88,9 +116,9 @@ fn read_number(json: &Json) -> Result<u32, Halt>
     Ok(whole(json, 0, MOST)? as u32)
 }
 
-/// The period.
-fn read_period(json: Option<&Json>) -> Result<u32, Halt>
-    ensures { Tells result (period_said (option_map (λ json. view json.now) json.entry)) }
+/// One that may not be left out.
+pub(crate) fn read_number_there(json: Option<&Json>) -> Result<u32, Halt>
+    ensures { Tells result (number_there (option_map (λ json. view json.now) json.entry)) }
 {
     match json {
         Some(json) => read_number(json),
@@ -129,7 +157,7 @@ fn read_periodic(start: Option<Start>, json: &Json) -> Result<Trigger, Halt>
     ensures read { Tells result (periodic_said start (view json.now)) }
     ensures anchor { IfOk result (λ trigger. ForSome (anchor_of trigger) IsAnchor) }
 {
-    let period = read_period(member(json, "period"));
+    let period = read_number_there(member(json, "period"));
     let anchor = read_anchor(start, member(json, "anchor-time"));
     let only = has_only(AskPart::Periodic, json);
     let (period, anchor) = holding(ScriptKind::Member, only, both(period, anchor))?;
@@ -235,16 +263,16 @@ fn read_excluded(json: Option<&Json>) -> Result<Kinds, Halt>
     }
 }
 
-/// The trigger of a subscription on change.
-fn read_on_change(json: &Json) -> Result<Trigger, Halt>
-    ensures read { Tells result (on_change_said (view json.now)) }
+/// The trigger of a subscription on change, which may have the members of a part.
+fn read_on_change(part: AskPart, json: &Json) -> Result<Trigger, Halt>
+    ensures read { Tells result (on_change_said part (view json.now)) }
     ensures anchor { IfOk result (λ trigger. ForSome (anchor_of trigger) IsAnchor) }
 {
     let dampening = read_dampening(member(json, "dampening-period"));
     let sync = read_sync(member(json, "sync-on-start"));
     let excluded = read_excluded(member(json, "excluded-change"));
     let terms = both(dampening, both(sync, excluded));
-    let only = has_only(AskPart::OnChange, json);
+    let only = has_only(part, json);
     let (dampening, (sync, excluded)) = holding(ScriptKind::Member, only, terms)?;
     Ok(Trigger::OnChange {
         dampening,
@@ -253,9 +281,13 @@ fn read_on_change(json: &Json) -> Result<Trigger, Halt>
     })
 }
 
-/// The trigger: just one of the two.
-fn read_trigger(start: Option<Start>, json: &Json) -> Result<Trigger, Halt>
-    ensures read { Tells result (trigger_said start (view json.now)) }
+/// The trigger: just one of the two, of which one on change may have the members of a part.
+pub(crate) fn read_trigger(
+    part: AskPart,
+    start: Option<Start>,
+    json: &Json,
+) -> Result<Trigger, Halt>
+    ensures read { Tells result (trigger_said part start (view json.now)) }
     ensures anchor { IfOk result (λ trigger. ForSome (anchor_of trigger) IsAnchor) }
 {
     match member(json, "periodic") {
@@ -264,7 +296,7 @@ fn read_trigger(start: Option<Start>, json: &Json) -> Result<Trigger, Halt>
             None => read_periodic(start, periodic),
         },
         None => match member(json, "on-change") {
-            Some(on_change) => read_on_change(on_change),
+            Some(on_change) => read_on_change(part, on_change),
             None => Err(Halt::Fault(ScriptKind::Member)),
         },
     }
@@ -282,7 +314,7 @@ fn read_xpath(json: Option<&Json>) -> Result<FilterAsk, Halt>
 }
 
 /// The filter: at most one of the two.
-fn read_filter(alloc: Global, json: &Json) -> Result<FilterAsk, Halt>
+pub(crate) fn read_filter(alloc: Global, json: &Json) -> Result<FilterAsk, Halt>
     ensures { Tells result (filter_said (view json.now)) }
 {
     match member(json, "datastore-subtree-filter") {
@@ -318,12 +350,15 @@ fn read_encoding(alloc: Global, json: &Json) -> Result<Txt, Halt>
 }
 
 /// What is asked for.
-fn read_ask(alloc: Global, start: Option<Start>, json: &Json) -> Result<Ask, Halt>
+pub(crate) fn read_ask(alloc: Global, start: Option<Start>, json: &Json) -> Result<Ask, Halt>
     ensures read { Tells result (ask_said start (view json.now)) }
     ensures anchor { IfOk result (λ ask. ForSome (anchor_of ask.trigger) IsAnchor) }
 {
     let names = both(read_encoding(alloc, json), read_datastore(alloc, json));
-    let terms = both(read_filter(alloc, json), read_trigger(start, json));
+    let terms = both(
+        read_filter(alloc, json),
+        read_trigger(AskPart::OnChange, start, json),
+    );
     let ((encoding, datastore), (filter, trigger)) = both(names, terms)?;
     Ok(Ask {
         encoding,
@@ -334,7 +369,7 @@ fn read_ask(alloc: Global, start: Option<Start>, json: &Json) -> Result<Ask, Hal
 }
 
 /// The number of the receiver that asks.
-fn read_by(receivers: &Receivers, json: &Json) -> Result<u32, Halt>
+pub(crate) fn read_by(receivers: &Receivers, json: &Json) -> Result<u32, Halt>
     ensures { Tells result (by_said receivers.now (view json.now)) }
 {
     match text_in(json, "by") {

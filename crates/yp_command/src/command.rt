@@ -6,6 +6,10 @@ ghost use Rattle.yp_command.specs.Readings.{Tells};
 ghost use Rattle.yp_command.specs.Requests.{request_named, request_in, seen_request, patch_said, policy_said, command_said};
 
 use crate::ask::read_establish;
+use crate::calls::{
+    read_configure, read_delete, read_kill, read_modify, read_reconfigure, read_resync,
+    read_unconfigure,
+};
 use crate::fault::ScriptKind;
 use crate::halt::Halt;
 use crate::receivers::Receivers;
@@ -35,6 +39,20 @@ pub enum Request<V> {
     Policy(V),
     /// A subscription is asked for (RFC 8639 section 2.4.2).
     Establish(V),
+    /// A receiver modifies its subscription (RFC 8639 section 2.4.3).
+    Modify(V),
+    /// A receiver deletes its subscription (RFC 8639 section 2.4.4).
+    Delete(V),
+    /// A subscription of any receiver is ended (RFC 8639 section 2.4.5).
+    Kill(V),
+    /// A receiver asks for a full update (RFC 8641 section 4.4.4).
+    Resync(V),
+    /// A subscription is configured (RFC 8639 section 2.5.2).
+    Configure(V),
+    /// A configured subscription is modified (RFC 8639 section 2.5.3).
+    Reconfigure(V),
+    /// A configured subscription is taken away (RFC 8639 section 2.5.4).
+    Unconfigure(V),
     /// A receiver takes packets from its queue.
     Take(V),
 }
@@ -51,6 +69,20 @@ pub fn request_named<'a>(name: &str, value: &'a Json) -> Option<Request<&'a Json
         Some(Request::Policy(value))
     } else if name == "establish" {
         Some(Request::Establish(value))
+    } else if name == "modify" {
+        Some(Request::Modify(value))
+    } else if name == "delete" {
+        Some(Request::Delete(value))
+    } else if name == "kill" {
+        Some(Request::Kill(value))
+    } else if name == "resync" {
+        Some(Request::Resync(value))
+    } else if name == "configure" {
+        Some(Request::Configure(value))
+    } else if name == "reconfigure" {
+        Some(Request::Reconfigure(value))
+    } else if name == "unconfigure" {
+        Some(Request::Unconfigure(value))
     } else if name == "take" {
         Some(Request::Take(value))
     } else {
@@ -108,6 +140,13 @@ pub fn read_command(
         Request::Patch(json) => read_edit(alloc, json),
         Request::Policy(json) => read_rules(alloc, schema, json),
         Request::Establish(json) => read_establish(alloc, start, receivers, json),
+        Request::Modify(json) => read_modify(alloc, start, receivers, json),
+        Request::Delete(json) => read_delete(receivers, json),
+        Request::Kill(json) => read_kill(receivers, json),
+        Request::Resync(json) => read_resync(receivers, json),
+        Request::Configure(json) => read_configure(alloc, start, json),
+        Request::Reconfigure(json) => read_reconfigure(alloc, start, json),
+        Request::Unconfigure(json) => read_unconfigure(json),
         Request::Take(json) => read_take(receivers, json),
     }
 }
