@@ -1,5 +1,5 @@
 -- What each script keeps: receivers of distinct names, and commands of these receivers.
-use Rattle.std.proofs.Common.{◌≡◌, ℕ, ◌+◌, ◌-◌, ◌<◌, ◌≤◌, inl, inr, codes, true, false, not, ◌&&◌, ◌||◌, List, [], ◌∷◌, ◌++◌, length, take, min, get_or, Option, Some, None, option_map, is_some, Result, Ok, Err, refl, sym, ap, ◌∙◌, subst, arith, nat_lt, IfOk, length-append}
+use Rattle.std.proofs.Common.{◌≡◌, ℕ, ◌+◌, ◌-◌, ◌<◌, ◌≤◌, ◌^◌, inl, inr, codes, true, false, not, ◌&&◌, ◌||◌, List, [], ◌∷◌, ◌++◌, length, take, min, get_or, Option, Some, None, option_map, is_some, Result, Ok, Err, refl, sym, ap, ◌∙◌, subst, arith, nat_lt, IfOk, length-append}
 use Rattle.std.specs.List.{All, list_any}
 use Rattle.std.specs.Cmp.Lexicographic.{nat_list_eq_equiv}
 use Rattle.std.proofs.lemmas.Bool.{ltb-true, not-true, cases_lt, and_parts, or_parts}
@@ -106,13 +106,17 @@ receiver_is receivers json =
 
 -- ---- commands
 
-all_more : (nodes : List SchemaNode) (receivers : List ReceiverInfo) (receiver : ReceiverInfo) (gathered : List Command) → All (IsCommandOf nodes receivers) gathered → All (IsCommandOf nodes (receivers ++ receiver ∷ [])) gathered
-all_more nodes receivers receiver gathered are = All-weaker (IsCommandOf nodes receivers) (IsCommandOf nodes (receivers ++ receiver ∷ [])) (of_more nodes receivers receiver) gathered are
+-- receivers are fewer than numbers of 32 bits
+few_are : (receivers : List ReceiverInfo) → AreReceivers receivers → length receivers < 2 ^ 32
+few_are receivers are = omega (arith, are.few)
 
-laned_is : (nodes : List SchemaNode) (start : Option ℕ) (receivers : List ReceiverInfo) (count : ℕ) (place : Data) (request : Request Data) → IfOk (laned_said nodes start receivers count place request) (λ laned. IsCommandOf nodes receivers laned.command)
-laned_is nodes start receivers count place request =
+all_more : (nodes : List SchemaNode) (receivers : List ReceiverInfo) (receiver : ReceiverInfo) (gathered : List Command) → length (receivers ++ receiver ∷ []) < 2 ^ 32 → All (IsCommandOf nodes receivers) gathered → All (IsCommandOf nodes (receivers ++ receiver ∷ [])) gathered
+all_more nodes receivers receiver gathered few are = All-weaker (IsCommandOf nodes receivers) (IsCommandOf nodes (receivers ++ receiver ∷ [])) (λ command is. of_more nodes receivers receiver command few is) gathered are
+
+laned_is : (nodes : List SchemaNode) (start : Option ℕ) (receivers : List ReceiverInfo) (count : ℕ) (place : Data) (request : Request Data) → length receivers < 2 ^ 32 → IfOk (laned_said nodes start receivers count place request) (λ laned. IsCommandOf nodes receivers laned.command)
+laned_is nodes start receivers count place request few =
     together_is (λ lane command. record { lane = lane; command = command }) (whole_said 1 count place) (command_said nodes start receivers request) (IsCommandOf nodes receivers) (λ laned. IsCommandOf nodes receivers laned.command)
-    (command_is nodes start receivers request) (λ lane command is. is)
+    (command_is nodes start receivers request few) (λ lane command is. is)
 
 -- ---- commands come after the schema
 
@@ -190,14 +194,18 @@ abbrev pub ScriptKeeps : Script → Type 0
 ScriptKeeps script = Keeps script.schema script.receivers script.before script.lanes script.after
 
 keeps_receiver : (progress : Progress) (receiver : ReceiverInfo) → Keep progress → MayJoin progress.receivers receiver → Keep (with_receiver progress receiver)
-keeps_receiver progress receiver keeps may = record {
-  receivers = joined progress.receivers receiver keeps.receivers may;
-  before = all_more progress.schema progress.receivers receiver progress.before keeps.before;
-  lanes =
-      All-weaker (All (IsCommandOf progress.schema progress.receivers)) (All (IsCommandOf progress.schema (progress.receivers ++ receiver ∷ []))) (all_more progress.schema progress.receivers receiver) progress.lanes keeps.lanes;
-  after = all_more progress.schema progress.receivers receiver progress.after keeps.after;
-  few = keeps.few;
-}
+keeps_receiver progress receiver keeps may =
+    let are : AreReceivers (progress.receivers ++ receiver ∷ []) = joined progress.receivers receiver keeps.receivers may in
+    let few : length (progress.receivers ++ receiver ∷ []) < 2 ^ 32 = few_are (progress.receivers ++ receiver ∷ []) are in
+    record {
+      receivers = are;
+      before = all_more progress.schema progress.receivers receiver progress.before few keeps.before;
+      lanes =
+          All-weaker (All (IsCommandOf progress.schema progress.receivers)) (All (IsCommandOf progress.schema (progress.receivers ++ receiver ∷ [])))
+          (λ lane are. all_more progress.schema progress.receivers receiver lane few are) progress.lanes keeps.lanes;
+      after = all_more progress.schema progress.receivers receiver progress.after few keeps.after;
+      few = keeps.few;
+    }
 
 -- of another schema, where there are no commands
 keeps_part : (progress : Progress) (part : Data) (nodes : List SchemaNode) → Keep progress → (progress.before ≡ []) × (progress.lanes ≡ []) × (progress.after ≡ []) → Keep (with_part progress part nodes)
@@ -262,7 +270,7 @@ keeps_taken progress (forms.Receiver value) stage leads keeps bare =
     ))
 keeps_taken progress (forms.Command request) stage leads keeps bare =
     map_is (with_command progress) (command_said progress.schema progress.start progress.receivers request) (IsCommandOf progress.schema progress.receivers) (KeepAt stage)
-    (command_is progress.schema progress.start progress.receivers request)
+    (command_is progress.schema progress.start progress.receivers request (few_are progress.receivers keeps.receivers))
     (λ command is.
     let next = with_command progress command in (
       keeps_command progress.stage progress command keeps is,
@@ -283,7 +291,7 @@ keeps_taken progress (forms.Lanes value) stage leads keeps bare =
     ))
 keeps_taken progress (forms.Lane lane request) stage leads keeps bare =
     map_is (with_laned progress) (laned_said progress.schema progress.start progress.receivers (length progress.lanes) lane request) (λ laned. IsCommandOf progress.schema progress.receivers laned.command) (KeepAt stage)
-    (laned_is progress.schema progress.start progress.receivers (length progress.lanes) lane request)
+    (laned_is progress.schema progress.start progress.receivers (length progress.lanes) lane request (few_are progress.receivers keeps.receivers))
     (λ laned is.
     let next = with_laned progress laned in (
       keeps_laned progress laned keeps is,
