@@ -1,6 +1,7 @@
 pub mod CommandLaws
 pub mod Counting
 pub mod Keeping
+pub mod LaneLaws
 pub mod LineLaws
 pub mod OrderLaws
 pub mod PartLaws

@@ -5,7 +5,7 @@ ghost use Rattle.yp_command.specs.Faults.{Said, together};
 ghost use Rattle.yp_command.specs.Readings.{Tells};
 
 use yp_command::fault::ScriptKind;
-use yp_command::halt::{Halt, beside};
+use yp_command::halt::{Halt, both};
 use yp_journal::command::Command;
 
 /// A command of a lane: the lane's number, from 1 on, and the command.
@@ -15,7 +15,16 @@ pub struct Laned {
     pub command: Command,
 }
 
+/// The number of a lane, or what stops it.
+fn number_of(lane: Result<u64, ScriptKind>) -> Result<u64, Halt>
+    ensures read { Tells result lane }
+    ensures same { IfOk result (λ number. lane ≡ Ok number) }
+{
+    Ok(lane?)
+}
+
 /// A command of a lane, from what its number and the command are read as.
+#[tactic(auto, using(crate::proofs::LaneLaws::together_is))]
 pub fn lane_command(
     lane: Result<u64, ScriptKind>,
     command: Result<Command, Halt>,
@@ -24,14 +33,6 @@ pub fn lane_command(
     ensures lane { IfOk result (λ laned. lane ≡ Ok laned.lane) }
     ensures command { IfOk result (λ laned. command ≡ Ok laned.command) }
 {
-    match lane {
-        Ok(lane) => Ok(Laned {
-            lane,
-            command: command?,
-        }),
-        Err(kind) => match command {
-            Ok(_) => Err(Halt::Fault(kind)),
-            Err(halt) => Err(beside(kind, halt)),
-        },
-    }
+    let (lane, command) = both(number_of(lane), command)?;
+    Ok(Laned { lane, command })
 }
