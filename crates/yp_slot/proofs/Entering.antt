@@ -1,13 +1,16 @@
 -- A slot that goes on by an entry: its track has one selection more.
-use Rattle.std.proofs.Common.{◌≡◌, ℕ, ◌<◌, refl, sym, ap, subst, ◌∙◌, Bool, true, false, true≢false, not, List, [], ◌∷◌, ◌++◌, ◌||◌, length, Option, Some, None}
-use Rattle.std.specs.Prelude.{if◌then◌else◌, map, nat_eq}
+use Rattle.std.proofs.Common.{◌≡◌, ℕ, ◌<◌, refl, sym, ap, subst, ◌∙◌, Bool, true, false, true≢false, not, List, [], ◌∷◌, ◌++◌, ◌||◌, length, Some}
+use Rattle.std.specs.Prelude.{if◌then◌else◌, map}
 use Rattle.std.specs.List.{AllByRecursion}
+use Rattle.std.proofs.lemmas.Bool.{eq-eqb}
 use Rattle.yp_base.specs.declared.path.Seg.{Seg}
 use Rattle.yp_base.specs.declared.row.Row.{Row}
 use Rattle.yp_base.specs.Rows.{last_of}
 use Rattle.yp_schema.specs.declared.schema.SchemaNode.{SchemaNode}
 use Rattle.yp_schema.specs.Datastore.{IsDatastore}
+use Rattle.yp_filter.specs.declared.filter.Filter.{Filter}
 use Rattle.yp_filter.specs.Filters.{Asked}
+use Rattle.yp_filter.specs.Fits.{filter_fits}
 use Rattle.yp_filter.specs.View.{filter_view}
 use Rattle.yp_nacm.specs.declared.compile.UserRules.{UserRules}
 use Rattle.yp_nacm.specs.AccessLaws.{readable_above}
@@ -17,35 +20,35 @@ use Rattle.yp_edit.specs.Changes.{changed_rows}
 use Rattle.yp_edit.specs.declared.changed.ChangedRow.{ChangedRow}
 use Rattle.yp_edit.specs.declared.patch.Patch.{Patch}
 use Rattle.yp_edit.specs.Records.{changed_paths, put_paths, touched_paths}
-use Rattle.std.proofs.lemmas.List.Folds.{find-append}
-use Rattle.std.specs.Option.{option_or}
 use Rattle.yp_nacm.specs.Same.{are_same_rules}
-use Rattle.yp_terms.specs.declared.refused.Refused.{Refused}
-use Rattle.yp_terms.specs.Refusals.{first_refusal}
-use Rattle.yp_registry.specs.Registry.{live_at, after_refusal, reasons_against, terms_for}
+use Rattle.yp_registry.specs.Registry.{Subscriptions, live_at}
 use Rattle.yp_terms.specs.Terms.{Terms}
 use Rattle.yp_select.specs.Selection.{selection}
-use Rattle.yp_feed.specs.declared.item.Control.TheVariants.{Rules}
-use Rattle.yp_feed.specs.Machine.{FeedState, controlled, is_on_change, restarts, resyncs}
+use Rattle.yp_feed.specs.declared.item.Control.{Control}
+use Rattle.yp_feed.specs.declared.item.Control.TheVariants.{Modify, Rules, End}
+use Rattle.yp_feed.specs.Machine.{FeedState, controlled, ending, is_on_change, restarts, resyncs}
 use Rattle.yp_touch.specs.declared.root.Root.{Root}
 use Rattle.yp_touch.specs.Absorbed.{AreTopmost, EndsAsRow, absorbed, all_absorbed, paths_of, roots_since}
 use Rattle.yp_touch.specs.Windows.{OneMoreStep, RootsAreOfTheWindow, RootsEndAsRows, StepsWithoutRootsLeave, WindowsStandTopmost}
 use Rattle.yp_journal.specs.declared.command.Command.{Command}
 use Rattle.yp_journal.specs.declared.command.Command.TheVariants.{Tick, Edit, Rules as Policies, Establish, Take}
+use Rattle.yp_journal.specs.declared.command.Command.TheVariants as commands
 use Rattle.yp_journal.specs.declared.entry.Entry.{Entry}
 use Rattle.yp_journal.specs.History.{JournalState, rules_at, may_read, next_state}
 use Rattle.yp_attempt.specs.Tracks.{Track, current}
-use Rattle.yp_attempt.specs.Moments.{after_rules, with_control}
-use Rattle.yp_moment.specs.Entries.{moment_between, selected_at, selected_by}
+use Rattle.yp_attempt.specs.Moments.{Act, Quiet, Starts, Controls, Drops, after_act, after_rules, with_control}
+use Rattle.yp_attempt.specs.TrackLaws.{act_same}
+use Rattle.yp_moment.specs.Entries.{act_of, moment_between, selected_at, selected_by}
+use Rattle.yp_moment.specs.Ids.{was_given}
 use Rattle.yp_slot.specs.declared.classes.Class.{Class}
 use Rattle.yp_slot.specs.declared.following.Entered.{Entered}
 use Rattle.yp_slot.specs.declared.slot.Slot.{Slot}
 use Rattle.yp_slot.specs.Classes.{IsClassOf, member_of}
-use Rattle.yp_slot.specs.Slots.{IsKeptAt, IsRead, IsSlotOf}
-use Rattle.yp_slot.specs.Steps.{ComesAfter, IsEnteredByPatch, IsPatchOf, IsStepOf, gone_on, step_of, with_next}
+use Rattle.yp_slot.specs.Slots.{FollowsTerms, HasEnded, IsRead, IsSlotOf}
+use Rattle.yp_slot.specs.Steps.{ComesAfter, IsEnteredByPatch, IsEnteredByRules, IsPatchOf, IsStepOf, LeavesSelections, StaysAsItIs, entered_moment, entered_track, gone_on, step_of, touches, with_next}
 use Rattle.yp_slot.proofs.Classed.{step_shared}
-use Rattle.yp_slot.proofs.Standing.{selects, kept_again}
-use Rattle.yp_slot.proofs.Going.{StandsBut, goes_on, with_places, renews_on, renewed_unread, renewed_moves}
+use Rattle.yp_slot.proofs.Standing.{follows_again, kept_again, live_unended, selects, unended}
+use Rattle.yp_slot.proofs.Going.{Continues, StandsBut, ending_on, goes_on, modify_continues, with_places}
 
 -- ---- windows with one selection more
 
@@ -71,59 +74,70 @@ SelectionsAreDatastores = (nodes : List SchemaNode) (asked : Asked) (readable : 
 
 -- ---- states after others
 
-kept_after : (nodes : List SchemaNode) (before after : JournalState) (slot : Slot) → ComesAfter before after → IsKeptAt nodes before slot → IsKeptAt nodes after slot
-kept_after nodes before after slot comes kept = record {
-  filter = record { terms = kept.filter.terms; live = comes.live slot.feed.sub kept.filter.terms kept.filter.live; filter = kept.filter.filter; fits = kept.filter.fits };
-  receiver = subst (λ n. slot.feed.receiver < n) (ap length (sym comes.receivers)) kept.receiver;
-  paths = kept.paths;
-  sendable = kept.sendable;
+-- a slot whose subscription stays as it is follows it after another
+follows_after : (nodes : List SchemaNode) (before after : JournalState) (slot : Slot) → StaysAsItIs before after slot.feed.sub → FollowsTerms nodes before slot → FollowsTerms nodes after slot
+follows_after nodes before after slot stays follows = record {
+  fits = follows.fits;
+  lives = λ lives. let here = follows.lives lives in record { terms = here.terms; live = stays.live here.terms here.live; filter = here.filter };
+  ended = λ ended. stays.ended (follows.ended ended);
 }
 
-module _ (nodes : List SchemaNode) (before after : JournalState) (slot : Slot) (track : Track) (comes : ComesAfter before after) (stands : IsSlotOf nodes before slot track) where
-  -- but for the places it stands for the track with the next selection
-  pub next_but : StandsBut nodes after slot (with_next nodes after track)
-  next_but = record {
-    kept = kept_after nodes before after slot comes stands.kept;
-    feed = stands.feed;
-    frozen = stands.frozen;
-    plain = stands.plain;
-    current = last_more track.first track.later (selected_at nodes after track.feed.sub track.feed.receiver);
-  }
+-- but for its filter and its places a slot stands for the track with the next selection
+pub next_but : (nodes : List SchemaNode) (before after : JournalState) (slot : Slot) (track : Track) → after.receivers ≡ before.receivers → IsSlotOf nodes before slot track → StandsBut nodes after slot (with_next nodes after track)
+next_but nodes before after slot track receivers stands = record {
+  receiver = subst (λ n. slot.feed.receiver < n) (ap length (sym receivers)) stands.kept.receiver;
+  paths = stands.kept.paths;
+  sendable = stands.kept.sendable;
+  feed = stands.feed;
+  frozen = stands.frozen;
+  plain = stands.plain;
+  apart = stands.apart;
+  current = last_more track.first track.later (selected_at nodes after track.feed.sub track.feed.receiver);
+}
+
+module _ (nodes : List SchemaNode) (before after : JournalState) (slot : Slot) (track : Track) (receivers : after.receivers ≡ before.receivers) (lasts : StaysAsItIs before after slot.feed.sub) (stands : IsSlotOf nodes before slot track) where
+  but : StandsBut nodes after slot (with_next nodes after track)
+  but = next_but nodes before after slot track receivers stands
+
+  follows : FollowsTerms nodes after slot
+  follows = follows_after nodes before after slot lasts stands.kept.terms
 
   -- where the same is selected, it stands for it
-  pub stays : RootsAreOfTheWindow → selected_at nodes after track.feed.sub track.feed.receiver ≡ selected_at nodes before track.feed.sub track.feed.receiver → IsSlotOf nodes after slot (with_next nodes after track)
-  stays windows same = with_places nodes after slot (with_next nodes after track) next_but (λ read.
-      stands.roots (record { on_change = read.on_change; unowed = read.unowed })
-      ∙ sym (same_again windows track.first track.later (selected_at nodes after track.feed.sub track.feed.receiver) (same ∙ sym stands.current)))
+  pub stays : RootsAreOfTheWindow → (slot.feed.owed.terminated ≡ false → selected_at nodes after track.feed.sub track.feed.receiver ≡ selected_at nodes before track.feed.sub track.feed.receiver) → IsSlotOf nodes after slot (with_next nodes after track)
+  stays windows same = with_places nodes after slot (with_next nodes after track) but follows (λ read.
+      let reads : IsRead track = record { on_change = read.on_change; unowed = read.unowed } in
+      stands.roots reads
+      ∙ sym (same_again windows track.first track.later (selected_at nodes after track.feed.sub track.feed.receiver) (same (unended nodes before slot track stands reads) ∙ sym stands.current)))
 
-  -- where users read alike, what is selected is the same of the same rows
-  live_before : live_at track.feed.sub before.registry.live ≡ Some stands.kept.filter.terms
-  live_before = ap (λ (f : FeedState). live_at f.sub before.registry.live) (sym stands.feed) ∙ stands.kept.filter.live
-
-  live_after : live_at track.feed.sub after.registry.live ≡ Some stands.kept.filter.terms
-  live_after = comes.live track.feed.sub stands.kept.filter.terms live_before
-
-  pub same_selected : after.rows ≡ before.rows → rules_at after track.feed.receiver ≡ rules_at before track.feed.receiver → selected_at nodes after track.feed.sub track.feed.receiver ≡ selected_at nodes before track.feed.sub track.feed.receiver
-  same_selected rows rules =
+  -- where users read alike, what a live one selects is the same of the same rows
+  pub same_selected : after.rows ≡ before.rows → rules_at after track.feed.receiver ≡ rules_at before track.feed.receiver → slot.feed.owed.terminated ≡ false
+      → selected_at nodes after track.feed.sub track.feed.receiver ≡ selected_at nodes before track.feed.sub track.feed.receiver
+  same_selected rows rules lives =
+      let here = stands.kept.terms.lives lives in
+      let live_before : live_at track.feed.sub before.registry.live ≡ Some here.terms = ap (λ (f : FeedState). live_at f.sub before.registry.live) (sym stands.feed) ∙ here.live in
+      let live_after : live_at track.feed.sub after.registry.live ≡ Some here.terms = ap (λ (f : FeedState). live_at f.sub after.registry.live) (sym stands.feed) ∙ lasts.live here.terms here.live in
       ap (selected_by nodes after track.feed.receiver) live_after
-      ∙ (λ i. selection nodes stands.kept.filter.terms.asked (λ path. is_readable nodes (rules i) path) (rows i))
+      ∙ (λ i. selection nodes here.terms.asked (λ path. is_readable nodes (rules i) path) (rows i))
       ∙ ap (selected_by nodes before track.feed.receiver) (sym live_before)
 
-  -- other rules
-  pub renews : (f : FeedState) (n stamp : ℕ) (dropped : Bool) → f ≡ controlled slot.feed Rules n stamp → dropped ≡ not (resyncs f.trigger) → IsSlotOf nodes after (gone_on (record slot { feed = f }) dropped) (with_control n stamp Rules (with_next nodes after track))
-  renews f n stamp dropped is drops =
-      let g = controlled track.feed Rules n stamp in
-      let same : f ≡ g = is ∙ ap (λ (h : FeedState). controlled h Rules n stamp) stands.feed in
-      subst (λ (h : FeedState). IsSlotOf nodes after (gone_on (record slot { feed = h }) dropped) (with_control n stamp Rules (with_next nodes after track))) (sym same)
-      (goes_on nodes after slot (with_next nodes after track) next_but g (restarts track.feed Rules) dropped (renews_on track.feed n stamp)
-      (λ moved. drops ∙ ap (λ (h : FeedState). not (resyncs h.trigger)) same ∙ renewed_moves track.feed n stamp moved)
-      (λ stayed read. absurd (renewed_unread track.feed n stamp stayed read.unowed)))
+  -- what happens to its feed
+  pub renews : (control : Control) (f : FeedState) (n stamp : ℕ) (dropped : Bool) → Continues track.feed control n stamp → f ≡ controlled slot.feed control n stamp → dropped ≡ not (resyncs f.trigger)
+      → IsSlotOf nodes after (gone_on (record slot { feed = f }) dropped) (with_control n stamp control (with_next nodes after track))
+  renews control f n stamp dropped on is drops =
+      let g = controlled track.feed control n stamp in
+      let same : f ≡ g = is ∙ ap (λ (h : FeedState). controlled h control n stamp) stands.feed in
+      subst (λ (h : FeedState). IsSlotOf nodes after (gone_on (record slot { feed = h }) dropped) (with_control n stamp control (with_next nodes after track))) (sym same)
+      (goes_on nodes after slot (with_next nodes after track) but g (restarts track.feed control) dropped on.goes
+      (follows_again nodes after slot (record slot { feed = g }) follows (on.goes.sub ∙ ap (λ (h : FeedState). h.sub) (sym stands.feed)) (on.ends ∙ ap (λ (h : FeedState). h.owed.terminated) (sym stands.feed)) refl)
+      (λ moved. drops ∙ ap (λ (h : FeedState). not (resyncs h.trigger)) same ∙ on.drops moved)
+      (λ stayed read. absurd (on.unread stayed read.unowed)))
 
   -- a patch
-  pub selects_after : (rules : (number : ℕ) → rules_at before number ≡ rules_at after number) → selected_at nodes after track.feed.sub track.feed.receiver ≡ selection nodes (filter_view slot.filter) (may_read nodes after slot.feed.receiver) after.rows
-  selects_after rules =
-      ap (selected_by nodes after track.feed.receiver) live_after
-      ∙ (λ i. selection nodes (sym stands.kept.filter.filter i) (may_read nodes after (sym stands.feed i).receiver) after.rows)
+  pub selects_after : slot.feed.owed.terminated ≡ false → selected_at nodes after track.feed.sub track.feed.receiver ≡ selection nodes (filter_view slot.filter) (may_read nodes after slot.feed.receiver) after.rows
+  selects_after lives =
+      let here = follows.lives lives in
+      ap (selected_by nodes after track.feed.receiver) (ap (λ (f : FeedState). live_at f.sub after.registry.live) (sym stands.feed) ∙ here.live)
+      ∙ (λ i. selection nodes (sym here.filter i) (may_read nodes after (sym stands.feed i).receiver) after.rows)
 
   pub absorbs : OneMoreStep → (rules : (number : ℕ) → rules_at before number ≡ rules_at after number) (touched : List Root)
       → (IsRead track → touched ≡ absorbed slot.touched (selection nodes (filter_view slot.filter) (may_read nodes after slot.feed.receiver) before.rows) (selection nodes (filter_view slot.filter) (may_read nodes after slot.feed.receiver) after.rows))
@@ -131,26 +145,31 @@ module _ (nodes : List SchemaNode) (before after : JournalState) (slot : Slot) (
       → IsSlotOf nodes after (record slot { touched = touched }) (with_next nodes after track)
   absorbs more rules touched is paths =
       let next = selected_at nodes after track.feed.sub track.feed.receiver in
-      let was : selection nodes (filter_view slot.filter) (may_read nodes after slot.feed.receiver) before.rows ≡ current track =
-      (λ i. selection nodes (filter_view slot.filter) (λ path. is_readable nodes (sym (rules slot.feed.receiver) i) path) before.rows) ∙ selects nodes before slot track stands in
       with_places nodes after (record slot { touched = touched }) (with_next nodes after track) (record {
-        kept = kept_again nodes after slot (record slot { touched = touched }) next_but.kept refl refl refl paths stands.kept.sendable;
+        receiver = but.receiver;
+        paths = paths;
+        sendable = stands.kept.sendable;
         feed = stands.feed;
         frozen = stands.frozen;
         plain = stands.plain;
-        current = next_but.current;
-      }) (λ read.
-      is (record { on_change = read.on_change; unowed = read.unowed })
-      ∙ (λ i. absorbed (stands.roots (record { on_change = read.on_change; unowed = read.unowed }) i) (was i) (sym (selects_after rules) i))
+        apart = stands.apart;
+        current = but.current;
+      }) (follows_again nodes after slot (record slot { touched = touched }) follows refl refl refl) (λ read.
+      let reads : IsRead track = record { on_change = read.on_change; unowed = read.unowed } in
+      let lives = unended nodes before slot track stands reads in
+      let was : selection nodes (filter_view slot.filter) (may_read nodes after slot.feed.receiver) before.rows ≡ current track =
+      (λ i. selection nodes (filter_view slot.filter) (λ path. is_readable nodes (sym (rules slot.feed.receiver) i) path) before.rows) ∙ selects nodes before slot track stands lives in
+      is reads
+      ∙ (λ i. absorbed (stands.roots reads i) (was i) (sym (selects_after lives) i))
       ∙ sym (more [] track.first track.later next))
 
   -- of a periodic feed no places are read
   pub passes : is_on_change slot.feed.trigger ≡ false → IsSlotOf nodes after slot (with_next nodes after track)
-  passes off = with_places nodes after slot (with_next nodes after track) next_but (λ read. absurd (true≢false (sym read.on_change ∙ ap (λ (f : FeedState). is_on_change f.trigger) (sym stands.feed) ∙ off)))
+  passes off = with_places nodes after slot (with_next nodes after track) but follows (λ read. absurd (true≢false (sym read.on_change ∙ ap (λ (f : FeedState). is_on_change f.trigger) (sym stands.feed) ∙ off)))
 
   -- nor of one that owes all that it selects
   pub waits : slot.feed.owed.sync ≡ true → IsSlotOf nodes after slot (with_next nodes after track)
-  waits owes = with_places nodes after slot (with_next nodes after track) next_but (λ read.
+  waits owes = with_places nodes after slot (with_next nodes after track) but follows (λ read.
       absurd (true≢false (ap (λ (b : Bool). b || track.feed.owed.terminated) (sym (ap (λ (f : FeedState). f.owed.sync) (sym stands.feed) ∙ owes)) ∙ read.unowed)))
 
   -- a step of its class from nothing
@@ -181,37 +200,89 @@ module _ (nodes : List SchemaNode) (before after : JournalState) (slot : Slot) (
 -- a slot with the number of another class stands for what it stood for
 pub renumbered : (nodes : List SchemaNode) (state : JournalState) (slot : Slot) (track : Track) (number : ℕ) → IsSlotOf nodes state slot track → IsSlotOf nodes state (record slot { class = number }) track
 renumbered nodes state slot track number stands = record {
-  kept = kept_again nodes state slot (record slot { class = number }) stands.kept refl refl refl stands.kept.paths stands.kept.sendable;
+  kept = kept_again nodes state slot (record slot { class = number }) stands.kept refl refl refl refl stands.kept.paths stands.kept.sendable;
   feed = stands.feed;
   frozen = stands.frozen;
   roots = stands.roots;
   plain = stands.plain;
+  apart = stands.apart;
   current = stands.current;
 }
 
+-- a subscription that is amended, by a slot with its new filter
+pub amends : (nodes : List SchemaNode) (before after : JournalState) (slot : Slot) (track : Track) (was terms : Terms) (filter : Filter) (f : FeedState) (notify : Bool) (n stamp : ℕ) (dropped : Bool) → after.receivers ≡ before.receivers → IsSlotOf nodes before slot track
+    → live_at slot.feed.sub before.registry.live ≡ Some was → live_at slot.feed.sub after.registry.live ≡ Some terms → filter_view filter ≡ terms.asked → filter_fits nodes terms.asked ≡ true
+    → f ≡ controlled slot.feed (Modify terms.trigger notify) n stamp → dropped ≡ not (resyncs f.trigger)
+    → IsSlotOf nodes after (gone_on (record slot { feed = f; filter = filter }) dropped) (with_control n stamp (Modify terms.trigger notify) (with_next nodes after track))
+amends nodes before after slot track was terms filter f notify n stamp dropped receivers stands live_before live_after said fits is drops =
+    let control = Modify terms.trigger notify in
+    let lives : slot.feed.owed.terminated ≡ false = live_unended nodes before slot was stands.kept.terms live_before in
+    let on = modify_continues track.feed terms.trigger notify n stamp (ap (λ (h : FeedState). h.owed.terminated) (sym stands.feed) ∙ lives) in
+    let g = controlled track.feed control n stamp in
+    let same : f ≡ g = is ∙ ap (λ (h : FeedState). controlled h control n stamp) stands.feed in
+    let but = next_but nodes before after slot track receivers stands in
+    let ends : g.owed.terminated ≡ false = on.ends ∙ ap (λ (h : FeedState). h.owed.terminated) (sym stands.feed) ∙ lives in
+    let id : g.sub ≡ slot.feed.sub = on.goes.sub ∙ ap (λ (h : FeedState). h.sub) (sym stands.feed) in
+    let amended : Slot = record slot { filter = filter } in
+    subst (λ (h : FeedState). IsSlotOf nodes after (gone_on (record amended { feed = h }) dropped) (with_control n stamp control (with_next nodes after track))) (sym same)
+    (goes_on nodes after amended (with_next nodes after track)
+    (record { receiver = but.receiver; paths = but.paths; sendable = but.sendable; feed = but.feed; frozen = but.frozen; plain = but.plain; apart = but.apart; current = but.current })
+    g (restarts track.feed control) dropped on.goes
+    (record {
+      fits = ap (filter_fits nodes) said ∙ fits;
+      lives = λ _. record { terms = terms; live = ap (λ (k : ℕ). live_at k after.registry.live) id ∙ live_after; filter = said };
+      ended = λ owed. absurd (true≢false (sym owed ∙ ends));
+    })
+    (λ moved. drops ∙ ap (λ (h : FeedState). not (resyncs h.trigger)) same ∙ on.drops moved)
+    (λ stayed read. absurd (on.unread stayed read.unowed)))
+
+-- one that ends
+pub ends_so : (nodes : List SchemaNode) (before after : JournalState) (slot : Slot) (track : Track) (f : FeedState) (n stamp : ℕ) (dropped : Bool) → after.receivers ≡ before.receivers → IsSlotOf nodes before slot track
+    → HasEnded after slot.feed.sub → f ≡ controlled slot.feed End n stamp
+    → IsSlotOf nodes after (gone_on (record slot { feed = f }) dropped) (with_control n stamp End (with_next nodes after track))
+ends_so nodes before after slot track f n stamp dropped receivers stands ended is =
+    let g = ending track.feed in
+    let same : f ≡ g = is ∙ ap ending stands.feed in
+    let but = next_but nodes before after slot track receivers stands in
+    subst (λ (h : FeedState). IsSlotOf nodes after (gone_on (record slot { feed = h }) dropped) (with_control n stamp End (with_next nodes after track))) (sym same)
+    (goes_on nodes after slot (with_next nodes after track) but g false dropped (ending_on track.feed)
+    (record {
+      fits = stands.kept.terms.fits;
+      lives = λ owed. absurd (true≢false owed);
+      ended = λ _. subst (HasEnded after) (ap (λ (h : FeedState). h.sub) stands.feed) ended;
+    })
+    (λ moved. absurd (true≢false (sym moved)))
+    (λ _ read. absurd (true≢false read.unowed)))
+
 -- ---- entries
 
-found_still : (id : ℕ) (live more : List Terms) (terms : Terms) → live_at id live ≡ Some terms → live_at id (live ++ more) ≡ Some terms
-found_still id live more terms is = find-append (λ (other : Terms). nat_eq id other.id) live more ∙ ap (λ (o : Option Terms). option_or o (live_at id more)) is
+-- each command leaves the receivers
+pub same_receivers : (nodes : List SchemaNode) (before : JournalState) (command : Command) → (next_state nodes before command).receivers ≡ before.receivers
+same_receivers nodes before (Tick tick) = refl
+same_receivers nodes before (Edit patch) = refl
+same_receivers nodes before (Policies policy) = refl
+same_receivers nodes before (Establish by ask) = refl
+same_receivers nodes before (commands.Modify by id amend) = refl
+same_receivers nodes before (commands.Delete by id) = refl
+same_receivers nodes before (commands.Kill by id) = refl
+same_receivers nodes before (commands.Resync by id) = refl
+same_receivers nodes before (commands.Configure id names ask) = refl
+same_receivers nodes before (commands.Reconfigure id amend) = refl
+same_receivers nodes before (commands.Unconfigure id) = refl
+same_receivers nodes before (Take receiver count) = refl
 
--- each command leaves the receivers and the subscriptions that are live
-comes_next : (nodes : List SchemaNode) (before : JournalState) (command : Command) → ComesAfter before (next_state nodes before command)
-comes_next nodes before (Tick tick) = record { receivers = refl; live = λ id terms is. is }
-comes_next nodes before (Edit patch) = record { receivers = refl; live = λ id terms is. is }
-comes_next nodes before (Policies policy) = record { receivers = refl; live = λ id terms is. is }
-comes_next nodes before (Take receiver count) = record { receivers = refl; live = λ id terms is. is }
-comes_next nodes before (Establish by ask) = record {
-  receivers = refl;
-  live = λ id terms is.
-      let given = terms_for nodes before.registry by ask before.stamp in
-      elim (first_refusal (reasons_against nodes before.policy before.registry by ask)) as (λ (found : Option Refused). live_at id (after_refusal found before.registry given).live ≡ Some terms) [
-        | Some refusal ↦ is
-        | None ↦ found_still id before.registry.live (given ∷ []) terms is
-      ];
+pub receivers_after : (nodes : List SchemaNode) (before after : JournalState) (command : Command) → after ≡ next_state nodes before command → after.receivers ≡ before.receivers
+receivers_after nodes before after command is = ap (λ (s : JournalState). s.receivers) is ∙ same_receivers nodes before command
+
+-- where the registry stays, so does each subscription
+pub comes_after : (before after : JournalState) → after.receivers ≡ before.receivers → after.registry ≡ before.registry → ComesAfter before after
+comes_after before after receivers registry = record {
+  receivers = receivers;
+  stays = λ id. record {
+    live = λ terms live. ap (λ (r : Subscriptions). live_at id r.live) registry ∙ live;
+    ended = λ ended. record { given = ap (was_given id) registry ∙ ended.given; gone = ap (λ (r : Subscriptions). live_at id r.live) registry ∙ ended.gone };
+  };
 }
-
-pub comes_after : (nodes : List SchemaNode) (before after : JournalState) (command : Command) → after ≡ next_state nodes before command → ComesAfter before after
-comes_after nodes before after command is = subst (ComesAfter before) (sym is) (comes_next nodes before command)
 
 -- the law of rules that is rested on
 pub record SameRulesAreOne : Type 0 where
@@ -220,34 +291,69 @@ pub record SameRulesAreOne : Type 0 where
 
 module _ (laws : SameRulesAreOne) (nodes : List SchemaNode) (before after : JournalState) (entry : Entry) (slot : Slot) (track : Track) where
   ruled_as : Bool → Track
-  ruled_as b = if b then with_control after.position after.stamp Rules (with_next nodes after track) else with_next nodes after track
+  ruled_as b = if b then with_control after.position after.stamp Rules track else track
 
   -- rules that stay have no part
-  pub unruled : rules_at after track.feed.receiver ≡ rules_at before track.feed.receiver → IsSlotOf nodes after slot (with_next nodes after track) → IsSlotOf nodes after slot (after_rules after.position (moment_between nodes before entry after) (with_next nodes after track))
+  pub unruled : rules_at after track.feed.receiver ≡ rules_at before track.feed.receiver → IsSlotOf nodes after slot track → IsSlotOf nodes after slot (after_rules after.position (moment_between nodes before entry after) track)
   unfolding ruled_as
   unruled same is =
       let none : not (are_same_rules (rules_at before track.feed.receiver) (rules_at after track.feed.receiver)) ≡ false = ap not (ap (are_same_rules (rules_at before track.feed.receiver)) same ∙ laws.itself (rules_at before track.feed.receiver)) in
       subst (λ (t : Track). IsSlotOf nodes after slot t) (sym (ap ruled_as none)) is
 
   -- other rules begin anew
-  pub ruled : are_same_rules (rules_at before track.feed.receiver) (rules_at after track.feed.receiver) ≡ false → IsSlotOf nodes after slot (with_control after.position after.stamp Rules (with_next nodes after track))
-      → IsSlotOf nodes after slot (after_rules after.position (moment_between nodes before entry after) (with_next nodes after track))
+  pub ruled : are_same_rules (rules_at before track.feed.receiver) (rules_at after track.feed.receiver) ≡ false → IsSlotOf nodes after slot (with_control after.position after.stamp Rules track)
+      → IsSlotOf nodes after slot (after_rules after.position (moment_between nodes before entry after) track)
   unfolding ruled_as
   ruled other is = subst (λ (t : Track). IsSlotOf nodes after slot t) (sym (ap ruled_as (ap not other))) is
 
--- an entry that leaves the rows and the rules leaves the slot
-pub passes_quietly : SameRulesAreOne → RootsAreOfTheWindow → (nodes : List SchemaNode) (before after : JournalState) (entry : Entry) (slot : Slot) (track : Track) → after ≡ next_state nodes before entry.command → after.rows ≡ before.rows → rules_at after track.feed.receiver ≡ rules_at before track.feed.receiver
-    → IsSlotOf nodes before slot track → IsSlotOf nodes after slot (after_rules after.position (moment_between nodes before entry after) (with_next nodes after track))
-passes_quietly laws windows nodes before after entry slot track is rows rules stands =
-    let comes = comes_after nodes before after entry.command is in
-    unruled laws nodes before after entry slot track rules (stays nodes before after slot track comes stands windows (same_selected nodes before after slot track comes stands rows rules))
+-- an entry that does nothing to subscriptions makes of a track what the change of rules makes of it
+pub quietly_entered : (e : Entered) (before : JournalState) (track : Track) → (entered_moment e before).act ≡ Quiet
+    → after_rules e.present.state.now.position (entered_moment e before) (with_next e.present.schema.now e.present.state.now track) ≡ entered_track e before track
+quietly_entered e before track quiet = ap (λ (act : Act). after_rules e.present.state.now.position (entered_moment e before) (after_act e.present.state.now.position e.present.state.now.stamp act (with_next e.present.schema.now e.present.state.now track))) (sym quiet)
+
+pub quiet_by_patch : (e : Entered) (before : JournalState) → IsEnteredByPatch e before → (entered_moment e before).act ≡ Quiet
+quiet_by_patch e before by = ap (λ (command : Command). act_of command e.entry.now.reply e.present.state.now) by.command
+
+pub quiet_by_rules : (e : Entered) (before : JournalState) → IsEnteredByRules e before → (entered_moment e before).act ≡ Quiet
+quiet_by_rules e before by = ap (λ (command : Command). act_of command e.entry.now.reply e.present.state.now) by.command
+
+-- a slot with what is selected after an entry that does nothing to subscriptions, where users read alike
+pub entered_so : SameRulesAreOne → (e : Entered) (before : JournalState) (slot : Slot) (track : Track) → (entered_moment e before).act ≡ Quiet → rules_at e.present.state.now track.feed.receiver ≡ rules_at before track.feed.receiver
+    → IsSlotOf e.present.schema.now e.present.state.now slot (with_next e.present.schema.now e.present.state.now track) → IsSlotOf e.present.schema.now e.present.state.now slot (entered_track e before track)
+entered_so laws e before slot track quiet rules is =
+    subst (λ (t : Track). IsSlotOf e.present.schema.now e.present.state.now slot t) (quietly_entered e before track quiet)
+    (unruled laws e.present.schema.now before e.present.state.now e.entry.now slot (with_next e.present.schema.now e.present.state.now track) rules is)
+
+-- an act that does nothing to a track
+acts_not : (e : Entered) (before : JournalState) (act : Act) (track : Track) → touches act track.feed.sub ≡ false → after_act e.present.state.now.position e.present.state.now.stamp act track ≡ track
+acts_not e before Quiet track none = refl
+acts_not e before (Starts sub trigger configured names) track none = refl
+acts_not e before (Controls sub control) track none = ap (λ (b : Bool). if b then with_control e.present.state.now.position e.present.state.now.stamp control track else track) none
+acts_not e before (Drops sub) track none = refl
+
+-- an entry that leaves the rows and the rules leaves a slot that it isn't about
+pub passes_quietly : SameRulesAreOne → RootsAreOfTheWindow → (e : Entered) (before : JournalState) (slot : Slot) (track : Track) → LeavesSelections e before → touches (entered_moment e before).act slot.feed.sub ≡ false → StaysAsItIs before e.present.state.now slot.feed.sub
+    → IsSlotOf e.present.schema.now before slot track → IsSlotOf e.present.schema.now e.present.state.now slot (entered_track e before track)
+passes_quietly laws windows e before slot track leaves none lasts stands =
+    let nodes = e.present.schema.now in
+    let after : JournalState = e.present.state.now in
+    let entered = leaves.entered in
+    let receivers = receivers_after nodes before after e.entry.now.command entered.after in
+    let rules = leaves.rules track.feed.receiver in
+    unruled laws nodes before after e.entry.now slot (after_act after.position after.stamp (entered_moment e before).act (with_next nodes after track))
+    (subst (λ (t : Track). rules_at after t.feed.receiver ≡ rules_at before t.feed.receiver) (sym (quiet none stands)) rules)
+    (subst (λ (t : Track). IsSlotOf nodes after slot t) (sym (quiet none stands)) (stays nodes before after slot track receivers lasts stands windows (same_selected nodes before after slot track receivers lasts stands leaves.rows rules)))
+  where
+    quiet : touches (entered_moment e before).act slot.feed.sub ≡ false → IsSlotOf e.present.schema.now before slot track
+        → after_act e.present.state.now.position e.present.state.now.stamp (entered_moment e before).act (with_next e.present.schema.now e.present.state.now track) ≡ with_next e.present.schema.now e.present.state.now track
+    quiet none stands = acts_not e before (entered_moment e before).act (with_next e.present.schema.now e.present.state.now track) (ap (λ (f : FeedState). touches (entered_moment e before).act f.sub) (sym stands.feed) ∙ none)
 
 -- a patch, accepted or refused, is one
 pub patch_of : (nodes : List SchemaNode) (before after : JournalState) (command : Command) (patch : Patch) (those : List ChangedRow) → after ≡ next_state nodes before command → command ≡ Edit patch → IsDatastore nodes before.rows → those ≡ changed_rows before.rows after.rows → IsPatchOf nodes before after those
 patch_of nodes before after command patch those is by datastore changed =
     let left : after ≡ next_state nodes before (Edit patch) = is ∙ ap (next_state nodes before) by in
     record {
-      comes = comes_after nodes before after command is;
+      comes = comes_after before after (ap (λ (s : JournalState). s.receivers) left) (ap (λ (s : JournalState). s.registry) left);
       datastore = datastore;
       rules = λ number. ap (λ (s : JournalState). rules_at s number) (sym left);
       changed = changed;
@@ -256,3 +362,18 @@ patch_of nodes before after command patch those is by datastore changed =
 -- and so is one that was entered
 pub patch_entered : (e : Entered) (before : JournalState) → IsEnteredByPatch e before → IsPatchOf e.present.schema.now before e.present.state.now e.changed.now
 patch_entered e before by = patch_of e.present.schema.now before e.present.state.now e.entry.now.command by.patch e.changed.now by.entered.after by.command by.entered.datastore by.entered.changed
+
+-- an entry by which something happens to its feed
+pub entered_acting : SameRulesAreOne → (e : Entered) (before : JournalState) (slot : Slot) (track : Track) (sub : ℕ) (control : Control) → LeavesSelections e before → (entered_moment e before).act ≡ Controls sub control → sub ≡ track.feed.sub
+    → IsSlotOf e.present.schema.now e.present.state.now slot (with_control e.present.state.now.position e.present.state.now.stamp control (with_next e.present.schema.now e.present.state.now track))
+    → IsSlotOf e.present.schema.now e.present.state.now slot (entered_track e before track)
+entered_acting laws e before slot track sub control leaves acts same is =
+    let nodes = e.present.schema.now in
+    let after : JournalState = e.present.state.now in
+    let next : Track = with_next nodes after track in
+    let acted : Track = after_act after.position after.stamp (entered_moment e before).act next in
+    let here : acted ≡ with_control after.position after.stamp control next =
+    ap (λ (act : Act). after_act after.position after.stamp act next) acts ∙ ap (λ (b : Bool). if b then with_control after.position after.stamp control next else next) (eq-eqb track.feed.sub sub (sym same)) in
+    unruled laws nodes before after e.entry.now slot acted
+    (subst (λ (k : ℕ). rules_at after k ≡ rules_at before k) (sym (act_same after.position after.stamp (entered_moment e before).act next).1) (leaves.rules track.feed.receiver))
+    (subst (λ (t : Track). IsSlotOf nodes after slot t) (sym here) is)

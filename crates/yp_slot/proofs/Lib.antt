@@ -4,4 +4,5 @@ pub mod Standing
 pub mod Looks
 pub mod Going
 pub mod Quiet
+pub mod Calls
 pub mod Entering

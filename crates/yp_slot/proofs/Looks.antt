@@ -18,7 +18,8 @@ use Rattle.yp_slot.specs.declared.slot.Frozen.{Frozen as FrozenHere}
 use Rattle.yp_slot.specs.declared.slot.Slot.{Slot}
 use Rattle.yp_slot.specs.Slots.{IsSendableRecord, IsRead, IsSlotOf, IsOfferOf, record_at}
 use Rattle.yp_slot.proofs.Numbers.{capped, capped_some, capped_many, some_lt, unread_or, freezes_read, same_offer, same_freeze, stays_with_one, IsOther, IsSame, same_with_edits, IsDueNow, due_now, nothing_due}
-use Rattle.yp_slot.proofs.Standing.{AreWindows, as_many, same_record, kept_again}
+use Rattle.yp_slot.proofs.Standing.{AreWindows, as_many, same_record, kept_again, unended}
+use Rattle.yp_attempt.specs.ListLaws.{and_false}
 
 -- ---- what tracks become
 
@@ -73,11 +74,12 @@ module _ (nodes : List SchemaNode) (state : JournalState) (slot : Slot) (track :
       let made : aside.edits ≡ record_in recorded track = edits ∙ ap (λ (g : FeedState). record_at nodes state (record slot { feed = g })) here ∙ same_record nodes state slot track stands windows read in
       let new : Track = tried_as n stamp track true in
       let is_slot : IsSlotOf nodes state (record slot { feed = f; frozen = Some aside }) new = record {
-        kept = kept_again nodes state slot (record slot { feed = f; frozen = Some aside }) stands.kept (ap (λ (g : FeedState). g.sub) here) (ap (λ (g : FeedState). g.receiver) here) refl stands.kept.paths sendable;
+        kept = kept_again nodes state slot (record slot { feed = f; frozen = Some aside }) stands.kept (ap (λ (g : FeedState). g.sub) here) (ap (λ (g : FeedState). g.receiver) here) (ap (λ (g : FeedState). g.owed.terminated) here) refl stands.kept.paths sendable;
         feed = there;
         frozen = λ i. Some (record { from = (from ∙ ap (λ (g : FeedState). g.base) stands.feed) i; position = position i; tick = tick i; edits = made i });
         roots = λ _. stands.roots read;
         plain = and_not (resyncs track.feed.trigger);
+        apart = and_false (resyncs track.feed.trigger) track.feed.owed.terminated (ap (λ (g : FeedState). g.owed.terminated) (sym stands.feed) ∙ unended nodes state slot track stands read);
         current = stands.current;
       } in
       subst (λ (t : Track). IsSlotOf nodes state (record slot { feed = f; frozen = Some aside }) t) (sym (ap (tried_as n stamp track) holds)) is_slot
@@ -160,11 +162,12 @@ module _ (nodes : List SchemaNode) (state : JournalState) (slot : Slot) (track :
       let nothing : item ≡ None = given ∙ d.here.none 0 refl in
       let idle : offered_item recorded stamp new ≡ None = nothing_due new.feed stamp (edit_count recorded new) d.now.on_change d.now.idle in
       let slot_is : IsSlotOf nodes state (record slot { feed = f; touched = touched }) new = record {
-        kept = kept_again nodes state slot (record slot { feed = f; touched = touched }) stands.kept (ap (λ (g : FeedState). g.sub) here) (ap (λ (g : FeedState). g.receiver) here) refl (subst (λ (roots : List Root). AllByRecursion (EndsAsRow nodes) (paths_of roots)) (sym empty) tt) stands.kept.sendable;
+        kept = kept_again nodes state slot (record slot { feed = f; touched = touched }) stands.kept (ap (λ (g : FeedState). g.sub) here) (ap (λ (g : FeedState). g.receiver) here) (ap (λ (g : FeedState). g.owed.terminated) here) refl (subst (λ (roots : List Root). AllByRecursion (EndsAsRow nodes) (paths_of roots)) (sym empty) tt) stands.kept.sendable;
         feed = here ∙ ap (λ (g : FeedState). record g { base = n }) stands.feed;
         frozen = stands.frozen;
         roots = λ _. empty;
         plain = stands.plain;
+        apart = stands.apart;
         current = stands.current;
       } in
       subst (λ (t : Track). IsSlotOf nodes state (record slot { feed = f; touched = touched }) t × IsOfferOf nodes state.position stamp t (record { item = item; changes = None })) (sym (ap (moved_as n track) moving_on)) (

@@ -1,5 +1,5 @@
 -- What a slot keeps, as what is known of the track that it stands for.
-use Rattle.std.proofs.Common.{◌≡◌, ℕ, ◌<◌, sym, ap, subst, ◌∙◌, true, List, [], length, Some}
+use Rattle.std.proofs.Common.{◌≡◌, ℕ, ◌<◌, sym, ap, subst, ◌∙◌, refl, Bool, true, false, true≢false, ◌||◌, List, [], length, Some}
 use Rattle.std.specs.Prelude.{IfSome}
 use Rattle.std.specs.List.{AllByRecursion}
 use Rattle.std.proofs.lemmas.List.{length-map}
@@ -10,7 +10,9 @@ use Rattle.yp_filter.specs.Fits.{filter_fits}
 use Rattle.yp_filter.specs.View.{filter_view}
 use Rattle.yp_filter.specs.declared.filter.Filter.{Filter}
 use Rattle.yp_edit.specs.Records.{touched_paths}
+use Rattle.std.proofs.lemmas.Option.{none-some}
 use Rattle.yp_registry.specs.Registry.{live_at}
+use Rattle.yp_terms.specs.Terms.{Terms}
 use Rattle.yp_select.specs.Selection.{selection}
 use Rattle.yp_feed.specs.Machine.{FeedState}
 use Rattle.yp_touch.specs.declared.root.Root.{Root}
@@ -26,22 +28,28 @@ use Rattle.yp_nacm.specs.Decision.{is_readable}
 use Rattle.yp_base.specs.declared.notice.Change.{Change}
 use Rattle.yp_base.specs.declared.row.Row.{Row}
 use Rattle.yp_slot.specs.declared.slot.Slot.{Slot}
-use Rattle.yp_slot.specs.Slots.{IsSendableRecord, IsKeptAt, IsRead, IsSlotOf, record_at}
+use Rattle.yp_slot.specs.Slots.{FollowsTerms, HasEnded, IsSendableRecord, IsKeptAt, IsRead, IsSlotOf, record_at}
 
 -- what is known of windows
 pub record AreWindows : Type 0 where
   pub roots : RootsAreOfTheWindow
   pub record_is : RecordIsOfTheWindow
 
-module _ (nodes : List SchemaNode) (state : JournalState) (slot : Slot) (track : Track) (stands : IsSlotOf nodes state slot track) where
-  live_there : live_at track.feed.sub state.registry.live ≡ Some stands.kept.filter.terms
-  live_there = ap (λ (f : FeedState). live_at f.sub state.registry.live) (sym stands.feed) ∙ stands.kept.filter.live
+or_not : (a b : Bool) → (a || b) ≡ false → b ≡ false
+or_not true b e = absurd (true≢false e)
+or_not false b e = e
 
-  -- the filter selects what the track has last
-  pub selects : selection nodes (filter_view slot.filter) (may_read nodes state slot.feed.receiver) state.rows ≡ current track
-  selects =
-      (λ i. selection nodes (stands.kept.filter.filter i) (may_read nodes state (stands.feed i).receiver) state.rows)
-      ∙ ap (selected_by nodes state track.feed.receiver) (sym live_there)
+module _ (nodes : List SchemaNode) (state : JournalState) (slot : Slot) (track : Track) (stands : IsSlotOf nodes state slot track) where
+  -- the end of a feed of which numbers may be read isn't owed
+  pub unended : IsRead track → slot.feed.owed.terminated ≡ false
+  unended read = ap (λ (f : FeedState). f.owed.terminated) stands.feed ∙ or_not track.feed.owed.sync track.feed.owed.terminated read.unowed
+
+  -- the filter of a live subscription selects what the track has last
+  pub selects : slot.feed.owed.terminated ≡ false → selection nodes (filter_view slot.filter) (may_read nodes state slot.feed.receiver) state.rows ≡ current track
+  selects lives =
+      let here = stands.kept.terms.lives lives in
+      (λ i. selection nodes (here.filter i) (may_read nodes state (stands.feed i).receiver) state.rows)
+      ∙ ap (selected_by nodes state track.feed.receiver) (sym (ap (λ (f : FeedState). live_at f.sub state.registry.live) (sym stands.feed) ∙ here.live))
       ∙ sym stands.current
 
   -- there are as many places as the window has roots
@@ -53,19 +61,30 @@ module _ (nodes : List SchemaNode) (state : JournalState) (slot : Slot) (track :
   -- their record is that of the window
   pub same_record : AreWindows → IsRead track → record_at nodes state slot ≡ record_in recorded track
   same_record windows read =
-      (λ i. record_of_roots (excluded_kinds (stands.feed i).trigger) (stands.roots read i) (selects i))
+      (λ i. record_of_roots (excluded_kinds (stands.feed i).trigger) (stands.roots read i) (selects (unended read) i))
       ∙ windows.record_is (excluded_kinds track.feed.trigger) track.first track.later
 
--- a slot with another feed of the same subscription and receiver, other places and another record set aside
-pub kept_again : (nodes : List SchemaNode) (state : JournalState) (slot new : Slot) → IsKeptAt nodes state slot → new.feed.sub ≡ slot.feed.sub → new.feed.receiver ≡ slot.feed.receiver → new.filter ≡ slot.filter
+-- a slot with another feed of the same subscription, whose end is owed as it was
+pub follows_again : (nodes : List SchemaNode) (state : JournalState) (slot new : Slot) → FollowsTerms nodes state slot → new.feed.sub ≡ slot.feed.sub → new.feed.owed.terminated ≡ slot.feed.owed.terminated → new.filter ≡ slot.filter → FollowsTerms nodes state new
+follows_again nodes state slot new follows sub ends filter = record {
+  fits = subst (λ (f : Filter). filter_fits nodes (filter_view f) ≡ true) (sym filter) follows.fits;
+  lives = λ lives. let here = follows.lives (sym ends ∙ lives) in record { terms = here.terms; live = ap (λ (id : ℕ). live_at id state.registry.live) sub ∙ here.live; filter = ap filter_view filter ∙ here.filter };
+  ended = λ ended. subst (HasEnded state) (sym sub) (follows.ended (sym ends ∙ ended));
+}
+
+-- the end of a live subscription isn't owed
+pub live_unended : (nodes : List SchemaNode) (state : JournalState) (slot : Slot) (terms : Terms) → FollowsTerms nodes state slot → live_at slot.feed.sub state.registry.live ≡ Some terms → slot.feed.owed.terminated ≡ false
+live_unended nodes state slot terms follows live = by slot.feed.owed.terminated refl
+  where
+    by : (b : Bool) → slot.feed.owed.terminated ≡ b → b ≡ false
+    by true ends = absurd (none-some terms (sym (follows.ended ends).gone ∙ live))
+    by false ends = refl
+
+-- and of the same receiver, with other places and another record set aside
+pub kept_again : (nodes : List SchemaNode) (state : JournalState) (slot new : Slot) → IsKeptAt nodes state slot → new.feed.sub ≡ slot.feed.sub → new.feed.receiver ≡ slot.feed.receiver → new.feed.owed.terminated ≡ slot.feed.owed.terminated → new.filter ≡ slot.filter
     → AllByRecursion (EndsAsRow nodes) (paths_of new.touched) → IfSome new.frozen (IsSendableRecord nodes) → IsKeptAt nodes state new
-kept_again nodes state slot new kept sub receiver filter paths sendable = record {
-  filter = record {
-    terms = kept.filter.terms;
-    live = ap (λ (id : ℕ). live_at id state.registry.live) sub ∙ kept.filter.live;
-    filter = ap filter_view filter ∙ kept.filter.filter;
-    fits = subst (λ (f : Filter). filter_fits nodes (filter_view f) ≡ true) (sym filter) kept.filter.fits;
-  };
+kept_again nodes state slot new kept sub receiver ends filter paths sendable = record {
+  terms = follows_again nodes state slot new kept.terms sub ends filter;
   receiver = subst (λ (n : ℕ). n < length state.receivers) (sym receiver) kept.receiver;
   paths = paths;
   sendable = sendable;

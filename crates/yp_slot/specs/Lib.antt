@@ -5,3 +5,4 @@ pub mod Records
 pub mod Steps
 pub mod ListLaws
 pub mod ResultLaws
+pub mod LiveLaws

@@ -20,6 +20,7 @@ use Rattle.yp_feed.specs.Machine.{freezes, is_on_change, offer_of, resyncs}
 use Rattle.yp_journal.specs.History.{JournalState, rules_at, may_read}
 use Rattle.yp_attempt.specs.Tracks.{Frozen, Track, current, excluded_kinds, offered_item, record_in}
 use Rattle.yp_moment.specs.Entries.{selected_at}
+use Rattle.yp_moment.specs.Ids.{was_given}
 use Rattle.yp_moment.specs.Windows.{recorded}
 use Rattle.yp_slot.specs.declared.records.Record.{Record}
 use Rattle.yp_slot.specs.declared.slot.Frozen.{Frozen as FrozenHere}
@@ -45,21 +46,31 @@ abbrev pub frozen_of : Option FrozenHere → Option Frozen
 frozen_of None = None
 frozen_of (Some frozen) = Some (record { from = frozen.from; position = frozen.position; tick = frozen.tick; edits = frozen.edits })
 
+-- the subscription of an id was given, and isn't live any more
+pub record HasEnded (state : JournalState) (id : ℕ) : Type 0 where
+  pub given : was_given id state.registry ≡ true
+  pub gone : live_at id state.registry.live ≡ None
+
 -- the filter of a slot is that of its live subscription
-pub record HasFilterOf (nodes : List SchemaNode) (state : JournalState) (slot : Slot) : Type 0 where
+pub record HasFilterOf (state : JournalState) (slot : Slot) : Type 0 where
   pub terms : Terms
   pub live : live_at slot.feed.sub state.registry.live ≡ Some terms
   pub filter : filter_view slot.filter ≡ terms.asked
+
+-- a slot follows its subscription: its filter is of the schema, and is that of a live one; exactly where its end is owed, this has ended, and the filter is the last that it had
+pub record FollowsTerms (nodes : List SchemaNode) (state : JournalState) (slot : Slot) : Type 0 where
   pub fits : filter_fits nodes (filter_view slot.filter) ≡ true
+  pub lives : slot.feed.owed.terminated ≡ false → HasFilterOf state slot
+  pub ended : slot.feed.owed.terminated ≡ true → HasEnded state slot.feed.sub
 
 -- a record that was set aside can be sent
 pub record IsSendableRecord (nodes : List SchemaNode) (frozen : FrozenHere) : Type 0 where
   pub edits : AllByRecursion (IsSendableChange nodes) frozen.edits
   pub tick : frozen.tick ≤ tick_limit
 
--- what is kept is of a state: the filter is that of a live subscription, the receiver is there, each place ends as a row does, and what was set aside can be sent
+-- what is kept is of a state: the slot follows its subscription, the receiver is there, each place ends as a row does, and what was set aside can be sent
 pub record IsKeptAt (nodes : List SchemaNode) (state : JournalState) (slot : Slot) : Type 0 where
-  pub filter : HasFilterOf nodes state slot
+  pub terms : FollowsTerms nodes state slot
   pub receiver : slot.feed.receiver < length state.receivers
   pub paths : AllByRecursion (EndsAsRow nodes) (paths_of slot.touched)
   pub sendable : IfSome slot.frozen (IsSendableRecord nodes)
@@ -69,13 +80,14 @@ pub record IsRead (track : Track) : Type 0 where
   pub on_change : is_on_change track.feed.trigger ≡ true
   pub unowed : (track.feed.owed.sync || track.feed.owed.terminated) ≡ false
 
--- what is kept stands for a track at a state: its feed and what it set aside are the track's, the last selection of the track is what is selected now, and where numbers of places may be read, these are the roots of the track's window
+-- what is kept stands for a track at a state: its feed and what it set aside are the track's, the last selection of the track is what is selected now, and where numbers of places may be read, these are the roots of the track's window; all that is selected is owed neither where the feed doesn't resync nor where its end is owed
 pub record IsSlotOf (nodes : List SchemaNode) (state : JournalState) (slot : Slot) (track : Track) : Type 0 where
   pub kept : IsKeptAt nodes state slot
   pub feed : slot.feed ≡ track.feed
   pub frozen : frozen_of slot.frozen ≡ track.frozen
   pub roots : IsRead track → slot.touched ≡ all_absorbed [] track.first track.later
   pub plain : (track.feed.owed.sync && not (resyncs track.feed.trigger)) ≡ false
+  pub apart : (track.feed.owed.sync && track.feed.owed.terminated) ≡ false
   pub current : current track ≡ selected_at nodes state track.feed.sub track.feed.receiver
 
 -- ---- looks

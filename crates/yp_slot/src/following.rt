@@ -1,23 +1,27 @@
 //! What an entry makes of a slot.
-ghost use Rattle.std.specs.Prelude.{◌≡◌, ◌<◌, ◌≤◌, List, Some, length, IfOk, OnOk};
+ghost use Rattle.std.specs.Prelude.{◌≡◌, ◌<◌, ◌≤◌, ℕ, List, Some, length, not, true, IfOk, OnOk};
 ghost use Rattle.yp_schema.specs.declared.schema.SchemaNode.{SchemaNode};
 ghost use Rattle.yp_schema.specs.Datastore.{IsDatastore};
 ghost use Rattle.yp_edit.specs.declared.changed.ChangedRow.{ChangedRow as ChangedRowThere};
-ghost use Rattle.yp_feed.specs.declared.item.Control.TheVariants.{Rules};
+ghost use Rattle.yp_feed.specs.declared.item.Control.TheVariants.{End, Modify, Resync, Rules};
+ghost use Rattle.yp_feed.specs.Machine.{HasTerms, controlled, resyncs};
+ghost use Rattle.yp_filter.specs.Fits.{filter_fits};
 ghost use Rattle.yp_journal.specs.History.{JournalState, rules_at};
 ghost use Rattle.yp_nacm.specs.Same.{are_same_rules};
 ghost use Rattle.yp_registry.specs.Registry.{live_at};
-ghost use Rattle.yp_terms.specs.Terms.{AreTermsOf};
+ghost use Rattle.yp_terms.specs.Terms.{AreTermsOf, Terms as TermsThere};
 ghost use Rattle.yp_attempt.specs.Tracks.{Track};
-ghost use Rattle.yp_attempt.specs.Moments.{Moment, new_track, with_control};
+ghost use Rattle.yp_attempt.specs.Moments.{Moment, is_kept_by, new_track, with_control};
 ghost use Rattle.yp_moment.specs.Entries.{selected_at};
 ghost use Rattle.yp_time.specs.Ticks.{tick_limit};
 ghost use Rattle.yp_slot.specs.declared.classes.Class.{Class as ClassThere};
 ghost use Rattle.yp_slot.specs.Classes.{AreClasses, HasClass, IsClassOf, KeepNumbers, member_of};
-ghost use Rattle.yp_slot.specs.Slots.{IsKeptAt, IsPresent, IsSlotOf};
-ghost use Rattle.yp_slot.specs.Steps.{ComesAfter, IsEntered, IsEnteredByRules, IsPatchOf, IsStepOf, entered_track, with_next};
+ghost use Rattle.yp_slot.specs.Slots.{HasEnded, IsKeptAt, IsPresent, IsSlotOf};
+ghost use Rattle.yp_slot.specs.Steps.{ComesAfter, IsActOf, IsEntered, IsEnteredByRules, IsPatchOf, IsStepOf, LeavesSelections, act_said, entered_track, gone_on, with_next};
 
+use crate::acts::Act;
 use crate::classes::{Class, is_on_change, number_of};
+use crate::laws::{an_entry_that_moves_no_selection_leaves_slots, what_an_act_finds};
 use crate::present::Present;
 use crate::readers::Readers;
 use crate::settling::resyncs;
@@ -79,6 +83,18 @@ impl Slot {
         self.touched.join(alloc, step)
     }
 
+    /// Tells its feed what happened to it, at a position and a tick: what was set aside goes where it isn't owed
+    /// any more, and of a feed that doesn't resync no place is kept.
+    fn control(&mut self, alloc: Global, control: Control, n: u64, stamp: u64)
+        requires terms { HasTerms control }
+        requires stamp { stamp ≤ tick_limit }
+        ensures { self.new ≡ gone_on (record self.old { feed = controlled self.old.feed control n stamp }) (not (resyncs (controlled self.old.feed control n stamp).trigger)) }
+    {
+        self.feed.control(control, n, stamp);
+        let moved = !resyncs(self.feed.trigger());
+        self.go_on(alloc, moved);
+    }
+
     /// Goes on by an entry that changed the own rules of its receiver's user, at a position and a tick: what
     /// was set aside goes, and changes are counted anew, or all that is selected is owed.
     pub fn renew(&mut self, alloc: Global, n: u64, stamp: u64)
@@ -86,9 +102,92 @@ impl Slot {
         ensures { (nodes : List SchemaNode) (before after : JournalState) → ComesAfter before after → (track : Track)
             → IsSlotOf nodes before self.old track → IsSlotOf nodes after self.new (with_control n stamp Rules (with_next nodes after track)) }
     {
-        self.feed.control(Control::Rules, n, stamp);
-        let moved = !resyncs(self.feed.trigger());
-        self.go_on(alloc, moved);
+        self.control(alloc, Control::Rules, n, stamp);
+    }
+
+    /// Goes on by an entry that has its subscription synchronised again (RFC 8641 section 4.4.4), at a position
+    /// and a tick: all that is selected is owed.
+    fn resync(&mut self, alloc: Global, n: u64, stamp: u64)
+        requires stamp { stamp ≤ tick_limit }
+        ensures { (nodes : List SchemaNode) (before after : JournalState) → ComesAfter before after → (terms : TermsThere) → live_at self.old.feed.sub before.registry.live ≡ Some terms → (track : Track)
+            → IsSlotOf nodes before self.old track → IsSlotOf nodes after self.new (with_control n stamp Resync (with_next nodes after track)) }
+    {
+        self.control(alloc, Control::Resync, n, stamp);
+    }
+
+    /// Goes on by an entry that ends its subscription (RFC 8639 sections 2.4.5 and 2.5.4), at a position and a
+    /// tick: its end is owed, and nothing else but that it began.
+    fn end(&mut self, alloc: Global, n: u64, stamp: u64)
+        requires stamp { stamp ≤ tick_limit }
+        ensures { (nodes : List SchemaNode) (before after : JournalState) → after.receivers ≡ before.receivers → HasEnded after self.old.feed.sub → (track : Track)
+            → IsSlotOf nodes before self.old track → IsSlotOf nodes after self.new (with_control n stamp End (with_next nodes after track)) }
+    {
+        self.control(alloc, Control::End, n, stamp);
+    }
+
+    /// Goes on by an entry that gave its subscription these terms (RFC 8639 sections 2.4.3 and 2.5.3), at a
+    /// position and a tick: it has their filter, and changes are counted anew, or all that is selected is owed.
+    /// Where `told` is set, so is that it was modified. After `NoMemory` it is as it was.
+    fn amend(
+        &mut self,
+        alloc: Global,
+        terms: &Terms,
+        told: bool,
+        n: u64,
+        stamp: u64,
+    ) -> Result<(), NoMemory>
+        requires terms { (nodes : List SchemaNode) × (count : ℕ) × AreTermsOf nodes count terms.now }
+        requires stamp { stamp ≤ tick_limit }
+        ensures { OnOk result ((nodes : List SchemaNode) (before after : JournalState) → after.receivers ≡ before.receivers → filter_fits nodes terms.now.asked ≡ true
+            → (was : TermsThere) → live_at self.old.feed.sub before.registry.live ≡ Some was → live_at self.old.feed.sub after.registry.live ≡ Some terms.now → (track : Track)
+            → IsSlotOf nodes before self.old track → IsSlotOf nodes after self.new (with_control n stamp (Modify terms.now.trigger told) (with_next nodes after track))) }
+    {
+        self.filter = terms.filter().copy(alloc)?;
+        let trigger = *terms.trigger();
+        let control = Control::Modify {
+            trigger,
+            notify: told,
+        };
+        self.control(alloc, control, n, stamp);
+        Ok(())
+    }
+
+    /// Goes on by what an entry does to subscriptions, where it leaves the rows and what users may read: its
+    /// own subscription goes on by other terms, is synchronised again or ends, or nothing happens to it. A slot
+    /// of one that is dropped goes, and is not asked.
+    pub fn meet_act(&mut self, alloc: Global, entered: &Entered, act: &Act) -> Result<(), NoMemory>
+        requires entered { (before : JournalState) × LeavesSelections entered.now before × ((track : Track) × IsSlotOf entered.now.present.schema.now before self.old track) }
+        requires act { IsActOf entered.now act.now }
+        ensures slot { OnOk result ((before : JournalState) → LeavesSelections entered.now before → (track : Track) → is_kept_by (act_said act.now) track ≡ true
+            → IsSlotOf entered.now.present.schema.now before self.old track → IsSlotOf entered.now.present.schema.now entered.now.present.state.now self.new (entered_track entered.now before track)) }
+    {
+        same_rules_are_one();
+        what_an_act_finds();
+        an_entry_that_moves_no_selection_leaves_slots();
+        let state = entered.present.state;
+        let (n, stamp) = (state.position(), state.stamp());
+        let sub = self.feed.sub();
+        match act {
+            Act::Amends { terms, told } => {
+                if terms.id() == sub {
+                    return self.amend(alloc, terms, *told, n, stamp);
+                }
+            }
+            Act::Resyncs(id) => {
+                if *id == sub {
+                    self.resync(alloc, n, stamp);
+                }
+            }
+            Act::Ends(id) => {
+                if *id == sub {
+                    self.end(alloc, n, stamp);
+                }
+            }
+            Act::Quiet => {}
+            Act::Starts(_) => {}
+            Act::Drops(_) => {}
+        }
+        Ok(())
     }
 
     /// Goes on by a policy.
@@ -107,7 +206,7 @@ impl Slot {
     }
 
     /// Gets the number of its class among those of some slots. Where there is no such class, it is a new one.
-    fn classify(
+    pub fn classify(
         &mut self,
         alloc: Global,
         present: &Present,

@@ -1,7 +1,12 @@
 //! Laws of slots; nothing runs.
-ghost use Rattle.std.specs.Prelude.{◌≡◌, ℕ, [], List, None};
+ghost use Rattle.std.specs.Prelude.{◌≡◌, ℕ, [], Bool, false, length, List, None, Some};
+ghost use Rattle.yp_base.specs.declared.notice.Trigger.{Trigger};
+ghost use Rattle.yp_feed.specs.declared.item.Control.TheVariants.{End, Modify, Resync};
+ghost use Rattle.yp_registry.specs.Registry.{live_at};
+ghost use Rattle.yp_terms.specs.Terms.{AreTermsOf, Terms};
 ghost use Rattle.yp_schema.specs.declared.schema.SchemaNode.{SchemaNode};
-ghost use Rattle.yp_journal.specs.History.{JournalState, rules_at};
+ghost use Rattle.yp_journal.specs.History.{JournalState};
+ghost use Rattle.yp_attempt.specs.Moments.{Controls};
 ghost use Rattle.yp_attempt.specs.Tracks.{Track, freeze_tried, offered_item};
 ghost use Rattle.yp_attempt.specs.Workers.{ready};
 ghost use Rattle.yp_moment.specs.Windows.{recorded};
@@ -9,10 +14,16 @@ ghost use Rattle.yp_slot.specs.declared.classes.Class.{Class};
 ghost use Rattle.yp_slot.specs.declared.following.Entered.{Entered};
 ghost use Rattle.yp_slot.specs.declared.slot.Slot.{Slot};
 ghost use Rattle.yp_slot.specs.Classes.{IsClassOf, member_of};
-ghost use Rattle.yp_slot.specs.Slots.{IsQuiet, IsSlotOf};
-ghost use Rattle.yp_slot.specs.Steps.{IsEntered, IsEnteredByPatch, IsPatchOf, IsStepOf, entered_track, with_next};
+ghost use Rattle.yp_slot.specs.Slots.{HasEnded, IsQuiet, IsSlotOf};
+ghost use Rattle.yp_slot.specs.Steps.{ComesAfter, IsEntered, IsEnteredByPatch, IsPatchOf, IsStepOf, LeavesSelections, entered_moment, entered_track, touches, with_next};
 
+use yp_moment::acts::{no_id_is_given_twice, what_has_ended_stays_so};
 use yp_nacm::laws::same_rules_are_one;
+use yp_registry::laws::{
+    a_call_that_is_done_has_its_subscription, a_configuration_adds_one_subscription,
+    an_amendment_changes_one_subscription, an_end_takes_one_subscription_away,
+    an_id_is_configured_once,
+};
 use yp_touch::laws::{
     a_step_without_roots_leaves_the_roots, absorbed_roots_are_those_of_the_window,
 };
@@ -32,11 +43,40 @@ pub fn a_quiet_slot_was_looked_at()
     absorbed_roots_are_those_of_the_window();
 }
 
-/// An entry that leaves the rows, and what users may read, leaves each slot.
-pub fn an_entry_that_moves_no_selection_leaves_slots()
-    ensures { (e : Entered) (before : JournalState) → IsEntered e before → e.present.state.now.rows ≡ before.rows → ((number : ℕ) → rules_at e.present.state.now number ≡ rules_at before number)
-        → (slot : Slot) (track : Track) → IsSlotOf e.present.schema.now before slot track → IsSlotOf e.present.schema.now e.present.state.now slot (entered_track e before track) }
+/// What an entry finds of the subscription to which it does something: one that goes on by other terms or is
+/// synchronised again was live before it, and the latter leaves each subscription as it is; one that ends has
+/// ended after it. The terms that are handed are of the schema, and each entry leaves the receivers.
+pub fn what_an_act_finds()
+    ensures receivers { (e : Entered) (before : JournalState) → IsEntered e before → e.present.state.now.receivers ≡ before.receivers }
+    ensures modified { (e : Entered) (before : JournalState) → IsEntered e before → (sub : ℕ) (trigger : Trigger) (notify : Bool) → (entered_moment e before).act ≡ Controls sub (Modify trigger notify)
+        → (was : Terms) × (live_at sub before.registry.live ≡ Some was) }
+    ensures resynced { (e : Entered) (before : JournalState) → IsEntered e before → (sub : ℕ) → (entered_moment e before).act ≡ Controls sub Resync
+        → ComesAfter before e.present.state.now × ((was : Terms) × (live_at sub before.registry.live ≡ Some was)) }
+    ensures ended { (e : Entered) (before : JournalState) → IsEntered e before → (sub : ℕ) → (entered_moment e before).act ≡ Controls sub End → HasEnded e.present.state.now sub }
+    ensures terms { (e : Entered) (before : JournalState) → IsEntered e before → (terms : Terms) → live_at terms.id e.present.state.now.registry.live ≡ Some terms
+        → AreTermsOf e.present.schema.now (length e.present.state.now.receivers) terms }
 {
+    an_amendment_changes_one_subscription();
+    an_end_takes_one_subscription_away();
+    a_configuration_adds_one_subscription();
+    an_id_is_configured_once();
+    a_call_that_is_done_has_its_subscription();
+    what_has_ended_stays_so();
+    no_id_is_given_twice();
+}
+
+/// An entry that leaves the rows, and what users may read, leaves each slot that it does nothing to.
+pub fn an_entry_that_moves_no_selection_leaves_slots()
+    ensures { (e : Entered) (before : JournalState) → LeavesSelections e before → (slot : Slot) (track : Track) → touches (entered_moment e before).act slot.feed.sub ≡ false
+        → IsSlotOf e.present.schema.now before slot track → IsSlotOf e.present.schema.now e.present.state.now slot (entered_track e before track) }
+{
+    an_amendment_changes_one_subscription();
+    an_end_takes_one_subscription_away();
+    a_configuration_adds_one_subscription();
+    an_id_is_configured_once();
+    a_call_that_is_done_has_its_subscription();
+    what_has_ended_stays_so();
+    no_id_is_given_twice();
     same_rules_are_one();
     absorbed_roots_are_those_of_the_window();
 }

@@ -8,6 +8,7 @@
 //! (`specs/Steps.antt`). It follows RFC 8641 sections 3.1, 3.3, 3.7 and 3.11.
 #![tactic(auto)]
 
+pub mod acts;
 pub mod classes;
 pub mod following;
 pub mod laws;

@@ -2,7 +2,7 @@ use Rattle.std.proofs.Common.{◌≡◌, ◌<◌, length, ap, sym, subst, ◌∙
 use Rattle.std.proofs.lemmas.Option.{same_Some}
 use Rattle.yp_nacm.specs.Same.{are_same_rules}
 use Rattle.yp_journal.specs.History.{rules_at}
-use Rattle.yp_slot.proofs.Entering.{comes_after}
+use Rattle.yp_slot.proofs.Entering.{receivers_after}
 use Rattle.yp_slot.proofs.following.keeps_rules.Goals as goal
 
 pub rules-before-requires : goal.rules-before-requires
@@ -11,8 +11,8 @@ rules-before-requires c = subst (λ n. c.args.receiver < n) (sym c.requires.1.ow
 pub rules_of-requires-clause-receiver : goal.rules_of-requires-clause-receiver
 rules_of-requires-clause-receiver c =
     let entered = c.args.entered.now in
-    let comes = comes_after entered.present.schema.now c.requires.0 entered.present.state.now entered.entry.now.command c.requires.1.after in
-    subst (λ n. c.args.receiver < n) (ap length (sym comes.receivers)) c.requires.2
+    let receivers = receivers_after entered.present.schema.now c.requires.0 entered.present.state.now entered.entry.now.command c.requires.1.after in
+    subst (λ n. c.args.receiver < n) (ap length (sym receivers)) c.requires.2
 
 pub returns : goal.returns
 returns c = λ before entered within.

@@ -8,7 +8,7 @@ use Rattle.yp_attempt.specs.Moments.{with_control}
 use Rattle.yp_attempt.specs.Tracks.{Track}
 use Rattle.yp_slot.specs.Slots.{IsSlotOf}
 use Rattle.yp_slot.specs.Steps.{with_next}
-use Rattle.yp_slot.proofs.Entering.{comes_after, passes_quietly, ruled}
+use Rattle.yp_slot.proofs.Entering.{comes_after, entered_so, quiet_by_rules, quietly_entered, ruled, same_selected, stays}
 use Rattle.yp_slot.proofs.slot.Slot.meet_rules.Goals as goal
 
 pub keeps_rules-requires : goal.keeps_rules-requires
@@ -27,8 +27,12 @@ returns-then-keeps_rules c = λ before by track stands.
     let same : are_same_rules (rules_at before track.feed.receiver) (rules_at after track.feed.receiver) ≡ true =
     (λ i. are_same_rules (rules_at before (sym number i)) (rules_at after (sym number i))) ∙ sym (c.keeps_rules.ensures before entered within) ∙ c.if-keeps_rules.true in
     let left : after ≡ next_state nodes before (Policies by.policy) = entered.after ∙ ap (next_state nodes before) by.command in
-    passes_quietly (record { one = laws.one; itself = laws.itself }) c.absorbed_roots_are_those_of_the_window.ensures.roots nodes before after e.entry.now slot track entered.after (ap (λ (s : JournalState). s.rows) left)
-    (sym (laws.one (rules_at before track.feed.receiver) (rules_at after track.feed.receiver) same)) stands
+    let comes = comes_after before after (ap (λ (s : JournalState). s.receivers) left) (ap (λ (s : JournalState). s.registry) left) in
+    let rules : rules_at after track.feed.receiver ≡ rules_at before track.feed.receiver = sym (laws.one (rules_at before track.feed.receiver) (rules_at after track.feed.receiver) same) in
+    let lasts = comes.stays slot.feed.sub in
+    entered_so (record { one = laws.one; itself = laws.itself }) e before slot track (quiet_by_rules e before by) rules
+    (stays nodes before after slot track comes.receivers lasts stands c.absorbed_roots_are_those_of_the_window.ensures.roots
+    (same_selected nodes before after slot track comes.receivers lasts stands (ap (λ (s : JournalState). s.rows) left) rules))
 
 pub returns : goal.returns
 returns c = λ before by track stands.
@@ -42,7 +46,9 @@ returns c = λ before by track stands.
     let within : c.receiver.result < length before.receivers = subst (λ n. n < length before.receivers) (sym c.receiver.ensures) stands.kept.receiver in
     let other : are_same_rules (rules_at before track.feed.receiver) (rules_at after track.feed.receiver) ≡ false =
     (λ i. are_same_rules (rules_at before (sym number i)) (rules_at after (sym number i))) ∙ sym (c.keeps_rules.ensures before entered within) ∙ c.if-keeps_rules.false in
-    let comes = comes_after nodes before after e.entry.now.command entered.after in
+    let left : after ≡ next_state nodes before (Policies by.policy) = entered.after ∙ ap (next_state nodes before) by.command in
+    let comes = comes_after before after (ap (λ (s : JournalState). s.receivers) left) (ap (λ (s : JournalState). s.registry) left) in
     let renewed = c.renew.ensures nodes before after comes track stands in
-    ruled (record { one = laws.one; itself = laws.itself }) nodes before after e.entry.now c.renew.new.self track other
-    (subst (λ (t : Track). IsSlotOf nodes after c.renew.new.self t) (λ i. with_control (c.position.ensures.count i) (c.stamp.ensures.value i) Rules (with_next nodes after track)) renewed)
+    subst (λ (t : Track). IsSlotOf nodes after c.renew.new.self t) (quietly_entered e before track (quiet_by_rules e before by))
+    (ruled (record { one = laws.one; itself = laws.itself }) nodes before after e.entry.now c.renew.new.self (with_next nodes after track) other
+    (subst (λ (t : Track). IsSlotOf nodes after c.renew.new.self t) (λ i. with_control (c.position.ensures.count i) (c.stamp.ensures.value i) Rules (with_next nodes after track)) renewed))
