@@ -108,7 +108,7 @@ module _ (finds : FindsFirst) (setup : Setup) (world : World) (h : Holds setup w
       (run_belongs (λ (r : ℕ). worker_of setup r ≡ worker) setup.content (receivers_of setup worker) (all_its worker setup.workers (length setup.places)) finds (absorbed_by world standing) (answers_in serves.done) (record { standing = standing; done = serves.done }) serves.reaches)
 
   -- and so it has its queue
-  queue_there : (delivery : Delivery) × (slice_get world.deliveries its_receiver ≡ Some delivery)
+  pub queue_there : (delivery : Delivery) × (slice_get world.deliveries its_receiver ≡ Some delivery)
   queue_there =
       let many : length world.deliveries ≡ length setup.places = sym (length_map (λ (d : Delivery). d.places) world.deliveries) ∙ ap (λ (ns : List ℕ). length ns) h.places in
       let less : its_receiver < length setup.places = is_there in

@@ -6,3 +6,4 @@ pub mod Numbers
 pub mod Parts
 pub mod Copies
 pub mod Serving
+pub mod Serially

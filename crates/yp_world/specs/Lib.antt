@@ -2,3 +2,4 @@ pub mod World
 pub mod Holding
 pub mod Headline
 pub mod TakenLaws
+pub mod Serially

@@ -2,12 +2,17 @@
 ghost use Rattle.std.specs.Prelude.{◌≡◌, ℕ, ◌<◌, ◌%◌, ◌++◌, ◌↔◌, List, [], ◌∷◌, length, Some};
 ghost use Rattle.std.specs.List.{slice_get};
 ghost use Rattle.yp_attempt.specs.Attempts.{IsOneOf, own_tracks, replay};
-ghost use Rattle.yp_attempt.specs.Content.{IsLawful};
+ghost use Rattle.yp_attempt.specs.Content.{Content, IsLawful};
+ghost use Rattle.yp_attempt.specs.Moments.{Moment, AllMayFollow};
 ghost use Rattle.yp_attempt.specs.Runs.{Standing, Found, first_offer, first_run};
 ghost use Rattle.yp_attempt.specs.Workers.{numbers_of};
+ghost use Rattle.yp_serial.specs.DueTicks.{GiveDueTicks};
+ghost use Rattle.yp_serial.specs.Posts.{Queueing};
+ghost use Rattle.yp_serial.specs.Serial.{Taking, serial_run};
 ghost use Rattle.yp_mirror.specs.Stories.{Leads, story_of};
 ghost use Rattle.yp_world.specs.Headline.{IsServed};
 ghost use Rattle.yp_world.specs.Holding.{AreOf, CanBeDone, Holds, IsOwnRunOf, absorbed_by};
+ghost use Rattle.yp_world.specs.Serially.{HavePlaces, LeadTo};
 ghost use Rattle.yp_world.specs.World.{Accepted, Delivery, Event, MetFull, Nothing, Offer, Setup, World, after_events, first_world, step, with_workers};
 
 use yp_attempt::laws::{
@@ -20,6 +25,7 @@ use yp_mirror::laws::{
     incomplete_updates_follow_full_queues, only_full_queues_suspend, positions_never_fall,
     the_next_resynchronisation_carries_its_own_positions_selection,
 };
+use yp_serial::laws::a_serial_run_is_a_run;
 
 /// What holds of the world at every moment holds of the first world, is kept by each event, and so it holds
 /// after every list of events: the journal is legal, each worker stands where the entries that it absorbed
@@ -75,6 +81,19 @@ pub fn a_world_that_holds_serves_its_receivers()
     only_full_queues_suspend();
     incomplete_updates_follow_full_queues();
     the_next_resynchronisation_carries_its_own_positions_selection();
+}
+
+/// A serial run is a list of events, with one worker: each entry is appended, then receivers take what they
+/// take by it, the worker absorbs the entry, and it offers until nothing is offered, where a receiver that takes
+/// each notification at once takes what was accepted. They lead to where the serial run stands, and each queue
+/// holds and was taken of as many. So what is said of every list of events is said of it.
+pub fn a_serial_run_is_a_list_of_events()
+    ensures { (c : Content) → IsLawful c → (q : Queueing) (places : List ℕ) → HavePlaces places q → (takes : Taking) (journal : List Moment) → AllMayFollow [] journal → GiveDueTicks journal
+        → LeadTo (record { content = c; workers = 1; places = places }) (first_world (record { content = c; workers = 1; places = places })) journal
+        (serial_run c (numbers_of 0 1 (length places)) q takes journal).run.standing (serial_run c (numbers_of 0 1 (length places)) q takes journal).posts }
+{
+    the_first_offer_is_found();
+    a_serial_run_is_a_run();
 }
 
 /// Each receiver is one of those that its worker serves, and stands among them just once.
