@@ -1,17 +1,12 @@
 -- What a legal journal keeps within bounds: stamps, rows, and ids of subscriptions.
-use Rattle.std.proofs.Common.{◌≡◌, ℕ, ◌+◌, ◌<◌, ◌≤◌, ◌^◌, List, [], ◌∷◌, length, filter, Bool, true, false, cond, Option, Some, None, Result, Ok, Err, IfSome, IfOk, nat_lt, nat_eq, refl, arith}
+use Rattle.std.proofs.Common.{◌≡◌, ℕ, ◌+◌, ◌<◌, ◌≤◌, ◌^◌, List, [], ◌∷◌, length, filter, Bool, true, false, cond, Option, Some, None, Result, Ok, Err, IfOk, nat_lt, refl, arith}
 use Rattle.std.specs.List.{AllByRecursion}
-use Rattle.std.proofs.lemmas.Bool.{or_parts, ltb-false}
+use Rattle.std.proofs.lemmas.Bool.{ltb-false}
 use Rattle.yp_base.specs.declared.row.Row.{Row}
 use Rattle.yp_base.specs.Results.{◌>>=◌}
 use Rattle.yp_schema.specs.declared.schema.SchemaNode.{SchemaNode}
-use Rattle.yp_terms.specs.declared.ask.Ask.{Ask}
-use Rattle.yp_terms.specs.declared.refused.Refused.{Refused}
-use Rattle.yp_terms.specs.Refusals.{first_refusal}
-use Rattle.yp_registry.specs.Registry.{Subscriptions, live_at, next_id, last_id, lacks_room, feeds, most_feeds, reasons_against, terms_for, after_refusal, established}
+use Rattle.yp_registry.specs.Registry.{last_id, live_at}
 use Rattle.yp_terms.specs.Terms.{Terms}
-use Rattle.yp_registry.proofs.Establishing.{fitting}
-use Rattle.yp_nacm.specs.declared.policy.Policy.{Policy}
 use Rattle.yp_edit.specs.declared.halt.Refusal.{Refusal}
 use Rattle.yp_edit.specs.declared.patch.Edit.{Edit}
 use Rattle.yp_edit.specs.declared.fault.Tag.TheVariants.{TooBig}
@@ -21,12 +16,10 @@ use Rattle.yp_journal.specs.declared.command.Command.{Command}
 use Rattle.yp_journal.specs.declared.command.Command.TheVariants as commands
 use Rattle.yp_journal.specs.declared.entry.Entry.{Entry}
 use Rattle.yp_journal.specs.declared.receiver.ReceiverInfo.{ReceiverInfo}
-use Rattle.yp_journal.specs.declared.reply.Reply.{Reply}
-use Rattle.yp_journal.specs.declared.reply.Reply.TheVariants as replies
 use Rattle.yp_journal.specs.History.{JournalState, first_state, rows_after, next_state, may_read, MayCome, IsLegal}
-use Rattle.yp_attempt.specs.ListLaws.{all_append}
 use Rattle.yp_attempt.specs.Moments.{Moment, Act, Quiet, Starts, Controls, Drops}
-use Rattle.yp_moment.specs.Entries.{selected_by, starts_with, given_by, act_of, moments_from, moments_of}
+use Rattle.yp_moment.specs.Entries.{selected_by, act_of, moments_from, moments_of}
+use Rattle.yp_moment.specs.Followed.{CanBeFollowed}
 use Rattle.yp_select.specs.Selection.{kept, selection}
 use Rattle.yp_nacm.specs.Decision.{visible_rows}
 
@@ -71,65 +64,29 @@ pub filter_few : {X : Type 0} (p : X → Bool) (xs : List X) → length (filter 
 filter_few p [] = omega arith
 filter_few p (x ∷ xs) = passed_at (p x) x xs (filter p xs) (filter_few p xs)
 
--- ---- ids
-
-abbrev LowId : Terms → Type 0
-LowId terms = terms.id < 2 ^ 32
-
--- what a registry keeps
-record HasLowIds (registry : Subscriptions) : Type 0 where
-  next : next_id registry.given ≤ 2 ^ 32
-  live : AllByRecursion LowId registry.live
-
-room_left : (registry : Subscriptions) → lacks_room registry 1 ≡ false → next_id registry.given ≤ 4294967295
-room_left registry h = ltb-false last_id (next_id registry.given) (or_parts (nat_lt most_feeds (feeds registry.live + 1)) (nat_lt last_id (next_id registry.given)) h).1
-
-module _ (nodes : List SchemaNode) (policy : Policy) (registry : Subscriptions) (by : ℕ) (ask : Ask) (now : ℕ) (low : HasLowIds registry) where
-  established_at : (found : Option Refused) → first_refusal (reasons_against nodes policy registry by ask) ≡ found → HasLowIds (after_refusal found registry (terms_for nodes registry by ask now))
-  established_at (Some refusal) is = low
-  established_at None is =
-      let room : next_id registry.given ≤ 4294967295 = room_left registry (fitting nodes policy registry by ask is).1 in
-      record {
-        next = omega (arith, room);
-        live = all_append LowId registry.live (terms_for nodes registry by ask now ∷ []) low.live (omega (arith, room), tt);
-      }
-
-  established_low : HasLowIds (established nodes policy registry by ask now)
-  established_low = established_at (first_refusal (reasons_against nodes policy registry by ask)) refl
-
-found_at : (b : Bool) (terms : Terms) (o : Option Terms) → LowId terms → IfSome o LowId → IfSome (cond b (Some terms) o) LowId
-found_at true terms o one rest = one
-found_at false terms o one rest = rest
-
-live_low : (id : ℕ) (live : List Terms) → AllByRecursion LowId live → IfSome (live_at id live) LowId
-live_low id [] all = tt
-live_low id (terms ∷ live) all = found_at (nat_eq id terms.id) terms (live_at id live) all.0 (live_low id live all.1)
-
 -- ---- states and moments
 
 -- what each state of a legal journal keeps
 record StateFits (state : JournalState) : Type 0 where
   stamp : state.stamp ≤ tick_limit
   rows : FewRows state.rows
-  registry : HasLowIds state.registry
 
 first_fits : (receivers : List ReceiverInfo) → StateFits (first_state receivers)
-first_fits receivers = record { stamp = omega arith; rows = omega arith; registry = record { next = omega arith; live = tt } }
+first_fits receivers = record { stamp = omega arith; rows = omega arith }
 
 next_fits : (nodes : List SchemaNode) (state : JournalState) (command : Command) → MayCome nodes state.receivers command → StateFits state → StateFits (next_state nodes state command)
-next_fits nodes state (commands.Tick tick) may fits = record { stamp = omega (arith, may, fits.stamp); rows = fits.rows; registry = fits.registry }
-next_fits nodes state (commands.Edit patch) may fits = record {
-  stamp = fits.stamp;
-  rows = after_few state.rows (applied nodes state.rows patch) fits.rows (edits_few nodes patch.edits 0 state.rows fits.rows);
-  registry = fits.registry;
-}
-next_fits nodes state (commands.Rules policy) may fits = record { stamp = fits.stamp; rows = fits.rows; registry = fits.registry }
-next_fits nodes state (commands.Establish by ask) may fits = record {
-  stamp = fits.stamp;
-  rows = fits.rows;
-  registry = established_low nodes state.policy state.registry by ask state.stamp fits.registry;
-}
-next_fits nodes state (commands.Take receiver count) may fits = record { stamp = fits.stamp; rows = fits.rows; registry = fits.registry }
+next_fits nodes state (commands.Tick tick) may fits = record { stamp = omega (arith, may, fits.stamp); rows = fits.rows }
+next_fits nodes state (commands.Edit patch) may fits = record { stamp = fits.stamp; rows = after_few state.rows (applied nodes state.rows patch) fits.rows (edits_few nodes patch.edits 0 state.rows fits.rows) }
+next_fits nodes state (commands.Rules policy) may fits = record { stamp = fits.stamp; rows = fits.rows }
+next_fits nodes state (commands.Establish by ask) may fits = record { stamp = fits.stamp; rows = fits.rows }
+next_fits nodes state (commands.Modify by id amend) may fits = record { stamp = fits.stamp; rows = fits.rows }
+next_fits nodes state (commands.Delete by id) may fits = record { stamp = fits.stamp; rows = fits.rows }
+next_fits nodes state (commands.Kill by id) may fits = record { stamp = fits.stamp; rows = fits.rows }
+next_fits nodes state (commands.Resync by id) may fits = record { stamp = fits.stamp; rows = fits.rows }
+next_fits nodes state (commands.Configure id receivers ask) may fits = record { stamp = fits.stamp; rows = fits.rows }
+next_fits nodes state (commands.Reconfigure id amend) may fits = record { stamp = fits.stamp; rows = fits.rows }
+next_fits nodes state (commands.Unconfigure id) may fits = record { stamp = fits.stamp; rows = fits.rows }
+next_fits nodes state (commands.Take receiver count) may fits = record { stamp = fits.stamp; rows = fits.rows }
 
 -- what an act starts
 abbrev pub ActFits : Act → Type 0
@@ -152,36 +109,27 @@ selected_few nodes state receiver (Some terms) few =
     let two : length (selection nodes terms.asked (may_read nodes state receiver) state.rows) ≤ length seen = filter_few (λ (row : Row). kept nodes terms.asked seen row.path) seen in
     omega (arith, one, two, few)
 
-started_fits : (o : Option Terms) → IfSome o LowId → ActFits (starts_with o)
-started_fits None low = tt
-started_fits (Some terms) low = low
+act_fits : (act : Act) → CanBeFollowed act → ActFits act
+act_fits Quiet is = tt
+act_fits (Starts sub trigger configured names) is = let low : sub ≤ last_id = is.0 in omega (arith, low)
+act_fits (Controls sub control) is = tt
+act_fits (Drops sub) is = tt
 
-given_fits : (reply : Reply) (after : JournalState) → StateFits after → ActFits (given_by reply after)
-given_fits replies.Done after fits = tt
-given_fits (replies.Id id) after fits = started_fits (live_at id after.registry.live) (live_low id after.registry.live fits.registry.live)
-given_fits (replies.Registry refusal) after fits = tt
-given_fits (replies.Edit edit_id tag path) after fits = tt
-
-act_fits : (command : Command) (reply : Reply) (after : JournalState) → StateFits after → ActFits (act_of command reply after)
-act_fits (commands.Tick tick) reply after fits = tt
-act_fits (commands.Edit patch) reply after fits = tt
-act_fits (commands.Rules policy) reply after fits = tt
-act_fits (commands.Establish by ask) reply after fits = given_fits reply after fits
-act_fits (commands.Take receiver count) reply after fits = tt
-
-moments_fit : (nodes : List SchemaNode) (entries : List Entry) (state : JournalState) → IsLegal nodes state entries → StateFits state → AllByRecursion MomentFits (moments_from nodes state entries)
-moments_fit nodes [] state legal fits = tt
-moments_fit nodes (entry ∷ entries) state legal fits =
+moments_fit : (nodes : List SchemaNode) (entries : List Entry) (state : JournalState) → IsLegal nodes state entries → StateFits state → AllByRecursion (λ m. CanBeFollowed m.act) (moments_from nodes state entries)
+    → AllByRecursion MomentFits (moments_from nodes state entries)
+moments_fit nodes [] state legal fits handed = tt
+moments_fit nodes (entry ∷ entries) state legal fits handed =
     let after = next_state nodes state entry.command in
     let next : StateFits after = next_fits nodes state entry.command legal.0.command fits in (
       record {
         stamp = next.stamp;
-        act = act_fits entry.command entry.reply after next;
+        act = act_fits (act_of entry.command entry.reply after) handed.0;
         selection = λ id receiver. selected_few nodes after receiver (live_at id after.registry.live) next.rows;
       },
-      moments_fit nodes entries after legal.1 next,
+      moments_fit nodes entries after legal.1 next handed.1,
     )
 
 -- the moments of a legal journal
-pub journal_fits : (nodes : List SchemaNode) (receivers : List ReceiverInfo) (entries : List Entry) → IsLegal nodes (first_state receivers) entries → AllByRecursion MomentFits (moments_of nodes receivers entries)
-journal_fits nodes receivers entries legal = moments_fit nodes entries (first_state receivers) legal (first_fits receivers)
+pub journal_fits : (nodes : List SchemaNode) (receivers : List ReceiverInfo) (entries : List Entry) → IsLegal nodes (first_state receivers) entries → AllByRecursion (λ m. CanBeFollowed m.act) (moments_of nodes receivers entries)
+    → AllByRecursion MomentFits (moments_of nodes receivers entries)
+journal_fits nodes receivers entries legal handed = moments_fit nodes entries (first_state receivers) legal (first_fits receivers) handed

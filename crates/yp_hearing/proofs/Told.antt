@@ -33,6 +33,7 @@ use Rattle.yp_mirror.specs.Heard.{of_sub}
 use Rattle.yp_mirror.specs.Links.{IsRunOf}
 use Rattle.yp_mirror.specs.Stories.{Story, IsWantedBetween, story_of}
 use Rattle.yp_moment.specs.Entries.{moments_of, selected_by}
+use Rattle.yp_moment.specs.Followed.{CanBeFollowed}
 use Rattle.yp_moment.specs.Notices.{state_notice, notice_by}
 use Rattle.yp_moment.specs.Windows.{recorded}
 use Rattle.yp_promise.specs.Serving.{run_of}
@@ -168,6 +169,7 @@ pub record ToldLaws : Type 0 where
   pub windows : WindowsAreHeard
   pub top : DatastoresAreWhole
   pub tell : AttemptsTell
+  pub handed : (nodes : List SchemaNode) (receivers : List ReceiverInfo) (entries : List Entry) → IsLegal nodes (first_state receivers) entries → AllByRecursion (λ m. CanBeFollowed m.act) (moments_of nodes receivers entries)
   pub finds : (c : Content) (stamp : ℕ) (tracks : List Track) (found : Found) → first_offer c stamp tracks ≡ Some found → IsFirst c stamp tracks found
   pub reached : (c : Content) (receivers : List ℕ) (journal : List Moment) (answers : List Answer) → AllMayFollow [] journal → IsReplayOf c receivers journal answers (replay c receivers first_run journal answers)
 
@@ -187,7 +189,7 @@ module _ (laws : ToldLaws) (nodes : List SchemaNode) (receivers : List ReceiverI
       let is = laws.reached recorded (receiver ∷ []) moments (own_answers nodes receivers entries receiver) may in
       let long : length (is.past ++ end.rest) ≡ length moments = ap length is.entries in
       let few : length is.past ≤ length entries = omega (arith, long, length-append is.past end.rest, count_moments nodes receivers entries) in
-      let all : AllByRecursion MomentFits is.past = all_before MomentFits is.past end.rest (subst (AllByRecursion MomentFits) (sym is.entries) (journal_fits nodes receivers entries legal)) in
+      let all : AllByRecursion MomentFits is.past = all_before MomentFits is.past end.rest (subst (AllByRecursion MomentFits) (sym is.entries) (journal_fits nodes receivers entries legal (laws.handed nodes receivers entries legal))) in
       subst (λ (run : Run). AllByRecursion (AttemptFits (length entries)) run.done) same
       (attempts_fit (length entries) (laws.finds recorded) (receiver ∷ []) is.past is.given end.run is.reaches few all)
 

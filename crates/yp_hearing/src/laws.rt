@@ -22,6 +22,7 @@ ghost use Rattle.yp_hearing.specs.Windows.{WindowsAreHeard};
 use yp_attempt::laws::{the_first_offer_is_found, what_replaying_gives_is_reached};
 use yp_journal::laws::a_journal_keeps_a_datastore;
 use yp_mirror::laws::every_attempt_tells_of_what_was_selected;
+use yp_moment::acts::what_feeds_are_handed_can_be_followed;
 use yp_moment::laws::entries_of_a_legal_journal_may_follow;
 use yp_promise::laws::{
     a_receivers_part_of_a_serial_run_is_its_own_run, what_a_serial_run_makes_serves,
@@ -56,6 +57,7 @@ pub fn what_a_receiver_is_sent_is_told()
     entries_of_a_legal_journal_may_follow();
     what_replaying_gives_is_reached();
     the_first_offer_is_found();
+    what_feeds_are_handed_can_be_followed();
     every_attempt_tells_of_what_was_selected();
     a_journal_keeps_a_datastore();
     a_journal_keeps_texts();

@@ -16,7 +16,7 @@ use Rattle.yp_edit.specs.declared.patch.Edit.{Edit}
 use Rattle.yp_edit.specs.declared.patch.Patch.{Patch}
 use Rattle.yp_edit.specs.Shapes.{some_text, op_in, some_place, has_parts, parts_of, edit_of, edit_in, edits_in, ids_of, distinct, some_edits, members_of_patch, patch_of, sole, patch_in}
 use Rattle.yp_command.specs.declared.command.Request.{Request}
-use Rattle.yp_command.specs.declared.command.Request.TheVariants.{Tick, Patch as PatchRequest, Policy, Establish, Take}
+use Rattle.yp_command.specs.declared.command.Request.TheVariants.{Tick, Patch as PatchRequest, Policy, Establish, Modify, Delete, Kill, Resync, Configure, Reconfigure, Unconfigure, Take}
 use Rattle.yp_command.specs.declared.fault.ScriptKind.TheVariants as kinds
 use Rattle.yp_command.specs.Requests.{request_named, request_in}
 use Rattle.yp_command.specs.SaidLaws.{if_is, or_is, then_some as any_then}
@@ -95,6 +95,13 @@ RequestHasUtf8 (Tick value) = Unit {0}
 RequestHasUtf8 (PatchRequest value) = HasUtf8 value
 RequestHasUtf8 (Policy value) = Unit {0}
 RequestHasUtf8 (Establish value) = Unit {0}
+RequestHasUtf8 (Modify value) = Unit {0}
+RequestHasUtf8 (Delete value) = Unit {0}
+RequestHasUtf8 (Kill value) = Unit {0}
+RequestHasUtf8 (Resync value) = Unit {0}
+RequestHasUtf8 (Configure value) = Unit {0}
+RequestHasUtf8 (Reconfigure value) = Unit {0}
+RequestHasUtf8 (Unconfigure value) = Unit {0}
 RequestHasUtf8 (Take value) = Unit {0}
 
 abbrev pub FormHasUtf8 : Form Data → Type 0
@@ -134,7 +141,14 @@ named_utf8 name value u =
     (if_some (same_text name (codes "patch")) (Some (PatchRequest value)) _ RequestHasUtf8 u
     (if_some (same_text name (codes "policy")) (Some (Policy value)) _ RequestHasUtf8 tt
     (if_some (same_text name (codes "establish")) (Some (Establish value)) _ RequestHasUtf8 tt
-    (if_some (same_text name (codes "take")) (Some (Take value)) None RequestHasUtf8 tt tt))))
+    (if_some (same_text name (codes "modify")) (Some (Modify value)) _ RequestHasUtf8 tt
+    (if_some (same_text name (codes "delete")) (Some (Delete value)) _ RequestHasUtf8 tt
+    (if_some (same_text name (codes "kill")) (Some (Kill value)) _ RequestHasUtf8 tt
+    (if_some (same_text name (codes "resync")) (Some (Resync value)) _ RequestHasUtf8 tt
+    (if_some (same_text name (codes "configure")) (Some (Configure value)) _ RequestHasUtf8 tt
+    (if_some (same_text name (codes "reconfigure")) (Some (Reconfigure value)) _ RequestHasUtf8 tt
+    (if_some (same_text name (codes "unconfigure")) (Some (Unconfigure value)) _ RequestHasUtf8 tt
+    (if_some (same_text name (codes "take")) (Some (Take value)) None RequestHasUtf8 tt tt)))))))))))
 
 request_utf8 : (d : Data) → HasUtf8 d → IfSome (request_in d) RequestHasUtf8
 request_utf8 d u = then_some (λ found. request_named found.0 found.1) (sole_member d) ValueHasUtf8 RequestHasUtf8 (sole_utf8 d u) (λ found v. named_utf8 found.0 found.1 v)

@@ -235,6 +235,13 @@ module _ (nodes : List SchemaNode) (schema : IsSchema nodes) where
   next_texts state (commands.Edit patch) u h = after_texts state.rows (applied nodes state.rows patch) h (applied_texts state.rows patch u h)
   next_texts state (commands.Rules policy) u h = h
   next_texts state (commands.Establish by ask) u h = h
+  next_texts state (commands.Modify by id amend) u h = h
+  next_texts state (commands.Delete by id) u h = h
+  next_texts state (commands.Kill by id) u h = h
+  next_texts state (commands.Resync by id) u h = h
+  next_texts state (commands.Configure id receivers ask) u h = h
+  next_texts state (commands.Reconfigure id amend) u h = h
+  next_texts state (commands.Unconfigure id) u h = h
   next_texts state (commands.Take receiver count) u h = h
 
   -- and so do the entries of a journal

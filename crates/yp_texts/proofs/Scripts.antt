@@ -16,9 +16,10 @@ use Rattle.yp_journal.specs.declared.receiver.ReceiverInfo.{ReceiverInfo}
 use Rattle.yp_attempt.specs.ListLaws.{all_append}
 use Rattle.yp_command.specs.declared.ask.AskPart.TheVariants as parts
 use Rattle.yp_command.specs.declared.command.Request.{Request}
-use Rattle.yp_command.specs.declared.command.Request.TheVariants.{Tick, Patch as PatchRequest, Policy, Establish, Take}
+use Rattle.yp_command.specs.declared.command.Request.TheVariants.{Tick, Patch as PatchRequest, Policy, Establish, Modify, Delete, Kill, Resync, Configure, Reconfigure, Unconfigure, Take}
 use Rattle.yp_command.specs.declared.fault.ScriptKind.TheVariants as kinds
 use Rattle.yp_command.specs.Asks.{has_only, ask_said, by_said}
+use Rattle.yp_command.specs.Calls.{amend_said, call_said, id_said, receivers_said}
 use Rattle.yp_command.specs.Faults.{Said, holding, both}
 use Rattle.yp_command.specs.Requests.{sound, command_said}
 use Rattle.yp_command.specs.SaidLaws.{map_is, map_any, then_is, if_is, or_is, together_is}
@@ -51,6 +52,16 @@ command_utf8 nodes start receivers (PatchRequest json) u =
 command_utf8 nodes start receivers (Policy json) u = map_any commands.Rules (sound (policy_in nodes json)) CommandHasUtf8 (λ policy. tt)
 command_utf8 nodes start receivers (Establish json) u =
     map_any (λ said. commands.Establish said.0 said.1) (holding kinds.Member (has_only parts.Establish json) (both (by_said receivers json) (ask_said start json))) CommandHasUtf8 (λ said. tt)
+command_utf8 nodes start receivers (Modify json) u =
+    map_any (λ said. commands.Modify said.0.0 said.0.1 said.1) (holding kinds.Member (has_only parts.Modify json) (both (both (by_said receivers json) (id_said json)) (amend_said start json))) CommandHasUtf8 (λ said. tt)
+command_utf8 nodes start receivers (Delete json) u = map_any (λ said. commands.Delete said.0 said.1) (call_said receivers json) CommandHasUtf8 (λ said. tt)
+command_utf8 nodes start receivers (Kill json) u = map_any (λ said. commands.Kill said.0 said.1) (call_said receivers json) CommandHasUtf8 (λ said. tt)
+command_utf8 nodes start receivers (Resync json) u = map_any (λ said. commands.Resync said.0 said.1) (call_said receivers json) CommandHasUtf8 (λ said. tt)
+command_utf8 nodes start receivers (Configure json) u =
+    map_any (λ said. commands.Configure said.0.0 said.0.1 said.1) (holding kinds.Member (has_only parts.Configure json) (both (both (id_said json) (receivers_said json)) (ask_said start json))) CommandHasUtf8 (λ said. tt)
+command_utf8 nodes start receivers (Reconfigure json) u =
+    map_any (λ said. commands.Reconfigure said.0 said.1) (holding kinds.Member (has_only parts.Reconfigure json) (both (id_said json) (amend_said start json))) CommandHasUtf8 (λ said. tt)
+command_utf8 nodes start receivers (Unconfigure json) u = map_any commands.Unconfigure (holding kinds.Member (has_only parts.Unconfigure json) (id_said json)) CommandHasUtf8 (λ id. tt)
 command_utf8 nodes start receivers (Take json) u =
     map_any (λ said. commands.Take said.0 said.1) (holding kinds.Member (has_count 2 json) (both (taker_said receivers json) (count_said json))) CommandHasUtf8 (λ said. tt)
 

@@ -3,7 +3,7 @@ use Rattle.std.specs.Prelude.{IfSome}
 use Rattle.std.specs.List.{AllByRecursion}
 use Rattle.yp_edit.specs.declared.patch.Edit.{Edit as PatchEdit}
 use Rattle.yp_journal.specs.declared.command.Command.{Command}
-use Rattle.yp_journal.specs.declared.command.Command.TheVariants.{Tick, Edit, Rules, Establish, Take}
+use Rattle.yp_journal.specs.declared.command.Command.TheVariants.{Tick, Edit, Rules, Establish, Modify, Delete, Kill, Resync, Configure, Reconfigure, Unconfigure, Take}
 use Rattle.yp_script.specs.declared.script.Script.{Script}
 use Rattle.yp_utf8.specs.Utf8.{HasUtf8}
 
@@ -17,6 +17,13 @@ CommandHasUtf8 (Tick tick) = Unit {0}
 CommandHasUtf8 (Edit patch) = AllByRecursion EditHasUtf8 patch.edits
 CommandHasUtf8 (Rules policy) = Unit {0}
 CommandHasUtf8 (Establish by ask) = Unit {0}
+CommandHasUtf8 (Modify by id amend) = Unit {0}
+CommandHasUtf8 (Delete by id) = Unit {0}
+CommandHasUtf8 (Kill by id) = Unit {0}
+CommandHasUtf8 (Resync by id) = Unit {0}
+CommandHasUtf8 (Configure id receivers ask) = Unit {0}
+CommandHasUtf8 (Reconfigure id amend) = Unit {0}
+CommandHasUtf8 (Unconfigure id) = Unit {0}
 CommandHasUtf8 (Take receiver count) = Unit {0}
 
 -- each command of a script

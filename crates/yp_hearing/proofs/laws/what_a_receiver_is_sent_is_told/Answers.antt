@@ -14,6 +14,7 @@ returns c nodes receivers entries receiver can there =
       windows = c.the_record_of_a_window_is_heard.ensures;
       top = c.a_datastore_is_whole.ensures.top;
       tell = c.every_attempt_tells_of_what_was_selected.ensures.made;
+      handed = c.what_feeds_are_handed_can_be_followed.ensures;
       finds = c.the_first_offer_is_found.ensures;
       reached = c.what_replaying_gives_is_reached.ensures;
     } in
