@@ -1,11 +1,10 @@
 -- Slots of a subscription that starts.
-use Rattle.std.proofs.Common.{◌≡◌, ℕ, ◌+◌, ◌<◌, refl, sym, ap, subst, ◌∙◌, Bool, true, false, true≢false, ◌||◌, List, [], ◌∷◌, ◌++◌, map, length, drop, get_or, Some, append_assoc, append-nil, ◌≤◌}
-use Rattle.std.specs.Prelude.{◌==◌, nat_eq, if◌then◌else◌, filter}
+use Rattle.std.proofs.Common.{◌≡◌, ℕ, ◌+◌, ◌<◌, refl, sym, ap, subst, ◌∙◌, Bool, true, false, true≢false, ◌||◌, List, [], ◌∷◌, ◌++◌, map, length, drop, get_or, append_assoc, append-nil, ◌≤◌}
+use Rattle.std.specs.Prelude.{◌==◌, if◌then◌else◌, filter}
 use Rattle.std.specs.List.{AllByRecursion, list_any}
 use Rattle.std.proofs.lemmas.Bool.{eqb-true}
 use Rattle.std.proofs.lemmas.List.{drop_more, drop_all}
 use Rattle.yp_schema.specs.declared.schema.SchemaNode.{SchemaNode}
-use Rattle.yp_registry.specs.Registry.{live_at}
 use Rattle.yp_terms.specs.Terms.{Terms}
 use Rattle.yp_journal.specs.History.{JournalState}
 use Rattle.yp_attempt.specs.Moments.{Moment, new_track}
@@ -13,27 +12,8 @@ use Rattle.yp_attempt.specs.Tracks.{Track}
 use Rattle.yp_slot.specs.declared.slot.Slot.{Slot}
 use Rattle.yp_roster.specs.Ordered.{AreSlotsOf}
 use Rattle.yp_slot.specs.Slots.{IsSlotOf}
-use Rattle.yp_roster.specs.Passed.{names_of, new_tracks}
-
--- ---- subscriptions that are found
-
--- what is found has the id
-pub found_id : (id : ℕ) (live : List Terms) (terms : Terms) → live_at id live ≡ Some terms → terms.id ≡ id
-found_id id [] terms e = absurd cc
-found_id id (first ∷ live) terms e = by (nat_eq id first.id) refl e (found_id id live terms)
-  where
-    by : (b : Bool) → nat_eq id first.id ≡ b → (if b then Some first else live_at id live) ≡ Some terms → (live_at id live ≡ Some terms → terms.id ≡ id) → terms.id ≡ id
-    by true is e later = let same : first ≡ terms = cc in ap (λ (t : Terms). t.id) (sym same) ∙ sym (eqb-true id first.id is)
-    by false is e later = later e
-
--- and has what all have
-pub found_has : (P : Terms → Type 0) (id : ℕ) (live : List Terms) (terms : Terms) → AllByRecursion P live → live_at id live ≡ Some terms → P terms
-found_has P id [] terms all e = absurd cc
-found_has P id (first ∷ live) terms all e = by (nat_eq id first.id) e (found_has P id live terms all.1)
-  where
-    by : (b : Bool) → (if b then Some first else live_at id live) ≡ Some terms → (live_at id live ≡ Some terms → P terms) → P terms
-    by true e later = let same : first ≡ terms = cc in subst P same all.0
-    by false e later = later e
+use Rattle.yp_roster.specs.Passed.{new_tracks}
+use Rattle.yp_slot.specs.Steps.{names_of}
 
 -- a receiver that is named is there
 pub named_there : (count receiver : ℕ) (receivers : List ℕ) → AllByRecursion (λ other. other < count) receivers → list_any (λ other. other == receiver) receivers ≡ true → receiver < count

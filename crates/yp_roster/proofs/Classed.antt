@@ -41,13 +41,13 @@ pub members_joined : (P : Member → Type 0) (slots more : List Slot) → AllByR
 members_joined P [] more all rest = rest
 members_joined P (slot ∷ slots) more all rest = (all.0, members_joined P slots more all.1 rest)
 
-members_taken : (P : Member → Type 0) (n : ℕ) (slots : List Slot) → AllByRecursion P (map member_of slots) → AllByRecursion P (map member_of (take n slots))
+pub members_taken : (P : Member → Type 0) (n : ℕ) (slots : List Slot) → AllByRecursion P (map member_of slots) → AllByRecursion P (map member_of (take n slots))
 members_taken P zero [] all = tt
 members_taken P zero (slot ∷ slots) all = tt
 members_taken P (suc n) [] all = tt
 members_taken P (suc n) (slot ∷ slots) all = (all.0, members_taken P n slots all.1)
 
-members_dropped : (P : Member → Type 0) (n : ℕ) (slots : List Slot) → AllByRecursion P (map member_of slots) → AllByRecursion P (map member_of (drop n slots))
+pub members_dropped : (P : Member → Type 0) (n : ℕ) (slots : List Slot) → AllByRecursion P (map member_of slots) → AllByRecursion P (map member_of (drop n slots))
 members_dropped P zero [] all = tt
 members_dropped P zero (slot ∷ slots) all = all
 members_dropped P (suc n) [] all = tt

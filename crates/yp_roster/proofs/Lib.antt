@@ -5,6 +5,6 @@ pub mod Offering
 pub mod Entered
 pub mod Patched
 pub mod Begun
+pub mod Putting
 pub mod Taking
 pub mod Journals
-pub mod Sound

@@ -56,6 +56,23 @@ module _ (nodes : List SchemaNode) (state : JournalState) where
       let rest = slot_gone done place slots track more new (omega (arith, count)) are.1 in
       subst (λ (n : ℕ). AreSlotsOf nodes state (first ∷ (take place (slice_set slots place new) ++ drop n (first ∷ slice_set slots place new))) (one ∷ (done ++ more))) (sym next) (are.0, rest)
 
+  -- each slot stands for a track
+  pub slot_at : (place : ℕ) (slots : List Slot) (tracks : List Track) (slot : Slot) → AreSlotsOf nodes state slots tracks → place < length slots → slot ≡ get_or slots place slot → (track : Track) × IsSlotOf nodes state slot track
+  slot_at place [] tracks slot are within is = absurd (omega (arith, within))
+  slot_at zero (first ∷ slots) [] slot are within is = absurd are
+  slot_at zero (first ∷ slots) (track ∷ tracks) slot are within is = (track, subst (λ (s : Slot). IsSlotOf nodes state s track) (sym is) are.0)
+  slot_at (suc place) (first ∷ slots) [] slot are within is = absurd are
+  slot_at (suc place) (first ∷ slots) (track ∷ tracks) slot are within is = slot_at place slots tracks slot are.1 (omega (arith, within)) is
+
+  -- another slot in its place that stands for what it stood for
+  pub slot_same : (place : ℕ) (slots : List Slot) (tracks : List Track) (slot new : Slot) → place < length slots → slot ≡ get_or slots place slot → ((track : Track) → IsSlotOf nodes state slot track → IsSlotOf nodes state new track)
+      → AreSlotsOf nodes state slots tracks → AreSlotsOf nodes state (slice_set slots place new) tracks
+  slot_same place [] tracks slot new within is on are = absurd (omega (arith, within))
+  slot_same zero (first ∷ slots) [] slot new within is on are = absurd are
+  slot_same zero (first ∷ slots) (track ∷ tracks) slot new within is on are = (on track (subst (λ (s : Slot). IsSlotOf nodes state s track) (sym is) are.0), are.1)
+  slot_same (suc place) (first ∷ slots) [] slot new within is on are = absurd are
+  slot_same (suc place) (first ∷ slots) (track ∷ tracks) slot new within is on are = (are.0, slot_same place slots tracks slot new (omega (arith, within)) is on are.1)
+
   -- ---- a look in order
 
   turn_by : (tracks done more : List Track) (place : ℕ) (slots : List Slot) (slot new : Slot) (found : Looked) → tracks ≡ done ++ more → length done ≡ place → AreSlotsOf nodes state slots (map (ready_at state) done ++ more)

@@ -18,8 +18,8 @@ ghost use Rattle.yp_slot.specs.Steps.{IsEntered, entered_moment};
 use yp_journal::laws::{
     a_journal_goes_on_entry_by_entry, a_journal_keeps_a_datastore, a_journal_keeps_users_and_names,
 };
+use yp_moment::acts::a_legal_journal_keeps_its_registry;
 use yp_moment::laws::{entries_of_a_legal_journal_may_follow, one_entry_more_is_one_moment_more};
-use yp_registry::laws::{an_establishment_keeps_a_registry, ids_rise};
 
 /// A roster that was asked for its next offer still stands for the same entries and answers, whether it found
 /// one or none.
@@ -44,8 +44,8 @@ pub fn the_states_of_a_legal_journal_are_sound()
     ensures { (nodes : List SchemaNode) (receivers : List ReceiverInfo) (entries : List Entry) → IsLegal nodes (first_state receivers) entries
         → IsSound nodes (state_of nodes (first_state receivers) entries) }
 {
-    ids_rise();
-    an_establishment_keeps_a_registry();
+    a_legal_journal_keeps_its_registry();
+    a_journal_goes_on_entry_by_entry();
     a_journal_keeps_a_datastore();
     a_journal_keeps_users_and_names();
 }

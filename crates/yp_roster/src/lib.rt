@@ -8,5 +8,7 @@
 #![tactic(auto)]
 
 pub mod laws;
+mod passing;
 mod patching;
 pub mod roster;
+mod starting;

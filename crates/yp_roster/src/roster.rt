@@ -1,45 +1,41 @@
 //! The roster: the slots of some receivers, in the order in which they are asked for offers.
-ghost use Rattle.std.specs.Prelude.{◌≡◌, ◌+◌, ◌<◌, ◌∷◌, ◌++◌, [], ℕ, List, length, take, None, ◌≤◌, IfOk, OnOk, Option, Some, IfSome, map, option_copied};
+ghost use Rattle.std.specs.Prelude.{◌≡◌, ◌+◌, ◌<◌, ◌∷◌, ◌++◌, [], ℕ, List, length, take, None, ◌≤◌, IfOk, OnOk, Option, Some, map, filter};
 ghost use Rattle.yp_schema.specs.declared.schema.SchemaNode.{SchemaNode};
 ghost use Rattle.yp_schema.specs.WellFormed.{IsSchema};
 ghost use Rattle.yp_journal.specs.declared.receiver.ReceiverInfo.{ReceiverInfo};
 ghost use Rattle.yp_journal.specs.History.{JournalState};
-ghost use Rattle.yp_registry.specs.Registry.{live_at};
-ghost use Rattle.yp_terms.specs.Terms.{AreTermsOf};
-ghost use Rattle.yp_moment.specs.Entries.{act_of, starts_with};
-ghost use Rattle.yp_attempt.specs.Moments.{Moment, MayFollow};
+ghost use Rattle.yp_attempt.specs.Moments.{Moment, MayFollow, is_kept_by};
 ghost use Rattle.yp_attempt.specs.Tracks.{Answer, Track};
 ghost use Rattle.yp_slot.specs.declared.records.Record.{Record as RecordThere};
-ghost use Rattle.yp_roster.specs.Ordered.{AreClassedTo, AreClassesOf, HaveClasses, AreSlotsOf};
+ghost use Rattle.yp_roster.specs.Ordered.{AreClassesOf, HaveClasses, AreSlotsOf};
 ghost use Rattle.yp_slot.specs.Classes.{follow, member_of};
 ghost use Rattle.yp_slot.specs.Records.{AreTold};
 ghost use Rattle.yp_roster.specs.Rosters.{AreQuietTo, IsClassed, IsFoundAt, IsIdleAt, IsLookedTo, IsNextAt, IsRosterAt, IsRosterOf, IsTurnOf};
 ghost use Rattle.yp_slot.specs.Slots.{IsPresent};
-ghost use Rattle.yp_roster.specs.Passed.{AreEnteredTo, HasTree, IsGivenBy, IsMomentAt, new_tracks};
-ghost use Rattle.yp_slot.specs.Steps.{IsEntered, IsEnteredByRules, answer_of, entered_moment, entered_track};
+ghost use Rattle.yp_roster.specs.Passed.{HasTree};
+ghost use Rattle.yp_slot.specs.Steps.{IsActOf, IsEntered, LeavesSelections, act_said, answer_of, entered_moment, entered_track};
 
+use crate::passing::{classify, enter_rules, let_go, meet, moves_feeds};
 use crate::patching::enter_patch;
+use crate::starting::{start, started};
 use std::alloc::Global;
 use std::sync::ledger::Ledger;
 use yp_attempt::laws::{
     a_look_changes_nothing, a_worker_puts_in_the_next_answer, a_worker_takes_the_next_entry,
-    an_opened_worker_stands_for_nothing,
+    an_opened_worker_stands_for_nothing, tracks_are_asked_in_the_order_of_ids,
 };
 use yp_base::memory::NoMemory;
 use yp_base::steps::Steps;
 use yp_feed::item::Item;
 use yp_journal::command::Command;
-use yp_journal::entry::Entry;
-use yp_journal::reply::Reply;
 use yp_journal::state::State;
 use yp_moment::laws::what_feeds_know_of_selections_is_lawful;
-use yp_registry::laws::an_id_is_given_once;
-use yp_terms::terms::Terms;
-use yp_slot::classes::{Class, Classes, follow, number_of};
+use yp_slot::acts::{Act, act_of};
+use yp_slot::classes::{Classes, follow};
 use yp_slot::following::Entered;
 use yp_slot::laws::{
     a_quiet_slot_was_looked_at, a_record_is_set_aside_once,
-    an_entry_that_moves_no_selection_leaves_slots, what_a_patch_makes_of_slots,
+    an_entry_that_moves_no_selection_leaves_slots, what_a_patch_makes_of_slots, what_an_act_finds,
 };
 use yp_slot::present::Present;
 use yp_slot::records::Record;
@@ -62,113 +58,6 @@ pub struct Offer {
     pub place: usize,
     pub item: Item,
     pub changes: Option<Record>,
-}
-
-/// Goes on by a policy with the slot at a place, with the number of its class among those of some slots.
-fn enter_rules_at(
-    slots: &mut Vec<Slot>,
-    place: usize,
-    alloc: Global,
-    entered: &Entered,
-    classes: &mut Vec<Class>,
-) -> Result<(), NoMemory>
-    requires place { place < length slots.old.items }
-    requires entered { (before : JournalState) × IsEnteredByRules entered.now before × ((tracks : List Track) × AreEnteredTo entered.now before place slots.old.items tracks) }
-    ensures count { length slots.new.items ≡ length slots.old.items }
-    ensures entered { OnOk result ((before : JournalState) (tracks : List Track) → IsEnteredByRules entered.now before → AreEnteredTo entered.now before place slots.old.items tracks
-        → AreEnteredTo entered.now before (place + 1) slots.new.items tracks) }
-    ensures classed { OnOk result (AreClassedTo entered.now.present.schema.now entered.now.present.state.now classes.old.items place slots.old.items → AreClassedTo entered.now.present.schema.now entered.now.present.state.now classes.new.items (place + 1) slots.new.items) }
-{
-    slots[place].enter_rules(alloc, entered, classes)
-}
-
-/// Goes on by a policy with each slot, and makes all classes anew.
-fn enter_rules(
-    slots: &mut Vec<Slot>,
-    alloc: Global,
-    entered: &Entered,
-) -> Result<Vec<Class>, NoMemory>
-    requires { (before : JournalState) × IsEnteredByRules entered.now before × ((tracks : List Track) × AreSlotsOf entered.now.present.schema.now before slots.old.items tracks) }
-    ensures slots { OnOk result ((before : JournalState) (tracks : List Track) → IsEnteredByRules entered.now before → AreSlotsOf entered.now.present.schema.now before slots.old.items tracks
-        → AreSlotsOf entered.now.present.schema.now entered.now.present.state.now slots.new.items (map (entered_track entered.now before) tracks)) }
-    ensures classes { IfOk result (λ classes. AreClassesOf entered.now.present.schema.now entered.now.present.state.now classes.items slots.new.items) }
-{
-    let mut classes = Vec::new(alloc);
-    for place in 0..slots.len() {
-        enter_rules_at(slots, place, alloc, entered, &mut classes)?;
-    }
-    Ok(classes)
-}
-
-/// The live subscription of an id.
-fn find(live: &[Terms], id: u32) -> Option<&Terms>
-    ensures { option_copied result ≡ live_at id live.now }
-{
-    live.iter().find(|terms| terms.id() == id)
-}
-
-/// The terms of the subscription that an entry started, where it started one.
-fn started<'a>(entry: &Entry, live: &'a [Terms]) -> Option<&'a Terms>
-    ensures act { (after : JournalState) → live.now ≡ after.registry.live → act_of entry.now.command entry.now.reply after ≡ starts_with (option_copied result) }
-    ensures given { IfSome result (λ terms. IsGivenBy entry.now terms.now.id × (live_at terms.now.id live.now ≡ Some terms.now)) }
-{
-    match &entry.command {
-        Command::Establish { .. } => match &entry.reply {
-            Reply::Id(id) => match find(live, *id) {
-                Some(terms) => Some(terms),
-                None => None,
-            },
-            _ => None,
-        },
-        _ => None,
-    }
-}
-
-/// Adds the slot of a subscription that starts for a receiver, where the subscription names it.
-fn begin_one(
-    slots: &mut Vec<Slot>,
-    classes: &mut Vec<Class>,
-    alloc: Global,
-    present: &Present,
-    terms: &Terms,
-    receiver: u32,
-) -> Result<(), NoMemory>
-    requires present { IsPresent present.now.schema.now present.now.state.now present.now.readers.now }
-    requires terms { AreTermsOf present.now.schema.now (length present.now.state.now.receivers) terms.now }
-    ensures slots { OnOk result ((m : Moment) (tracks : List Track) → IsMomentAt present.now.schema.now present.now.state.now m → live_at terms.now.id present.now.state.now.registry.live ≡ Some terms.now
-        → AreSlotsOf present.now.schema.now present.now.state.now slots.old.items tracks
-        → AreSlotsOf present.now.schema.now present.now.state.now slots.new.items (tracks ++ new_tracks m present.now.state.now.position terms.now (receiver ∷ []))) }
-    ensures classes { OnOk result (AreClassesOf present.now.schema.now present.now.state.now classes.old.items slots.old.items → AreClassesOf present.now.schema.now present.now.state.now classes.new.items slots.new.items) }
-{
-    if terms.receivers().contains(&receiver) {
-        let filter = terms.filter();
-        let trigger = terms.trigger();
-        let class = number_of(alloc, present, receiver, filter, trigger, classes)?;
-        slots.push(Slot::start(alloc, present, terms, receiver, class)?)?;
-    }
-    Ok(())
-}
-
-/// Adds the slots of a subscription that starts, for those of some receivers that it names.
-fn begin(
-    slots: &mut Vec<Slot>,
-    classes: &mut Vec<Class>,
-    alloc: Global,
-    present: &Present,
-    terms: &Terms,
-    mine: &[u32],
-) -> Result<(), NoMemory>
-    requires present { IsPresent present.now.schema.now present.now.state.now present.now.readers.now }
-    requires terms { AreTermsOf present.now.schema.now (length present.now.state.now.receivers) terms.now }
-    ensures slots { OnOk result ((m : Moment) (tracks : List Track) → IsMomentAt present.now.schema.now present.now.state.now m → live_at terms.now.id present.now.state.now.registry.live ≡ Some terms.now
-        → AreSlotsOf present.now.schema.now present.now.state.now slots.old.items tracks
-        → AreSlotsOf present.now.schema.now present.now.state.now slots.new.items (tracks ++ new_tracks m present.now.state.now.position terms.now mine.now)) }
-    ensures classes { OnOk result (AreClassesOf present.now.schema.now present.now.state.now classes.old.items slots.old.items → AreClassesOf present.now.schema.now present.now.state.now classes.new.items slots.new.items) }
-{
-    for receiver in mine {
-        begin_one(slots, classes, alloc, present, terms, *receiver)?;
-    }
-    Ok(())
 }
 
 /// Looks at the slot at a place.
@@ -268,24 +157,45 @@ impl Roster {
         Ok(None)
     }
 
-    /// Goes on by an entry with each slot. Only a patch and a policy go over them.
+    /// Goes on by what an entry does to subscriptions with each slot, where it leaves the rows and what users
+    /// may read. Slots are gone over only where it does something to feeds that there are.
+    fn meet(&mut self, alloc: Global, entered: &Entered, act: &Act) -> Result<(), NoMemory>
+        requires entered { (before : JournalState) × LeavesSelections entered.now before × AreClassesOf entered.now.present.schema.now before self.old.classes.all.items self.old.slots.items × ((tracks : List Track) × AreSlotsOf entered.now.present.schema.now before self.old.slots.items tracks) }
+        requires act { IsActOf entered.now act.now }
+        ensures slots { OnOk result ((before : JournalState) (tracks : List Track) → LeavesSelections entered.now before → AreSlotsOf entered.now.present.schema.now before self.old.slots.items tracks
+            → AreSlotsOf entered.now.present.schema.now entered.now.present.state.now self.new.slots.items (map (entered_track entered.now before) (filter (is_kept_by (act_said act.now)) tracks))) }
+        ensures classes { OnOk result (AreClassesOf entered.now.present.schema.now entered.now.present.state.now self.new.classes.all.items self.new.slots.items) }
+    {
+        what_an_act_finds();
+        an_entry_that_moves_no_selection_leaves_slots();
+        if !moves_feeds(act) {
+            return Ok(());
+        }
+        let_go(&mut self.slots, act);
+        meet(&mut self.slots, alloc, entered, act)?;
+        let renumbered = classify(&mut self.slots, alloc, &entered.present)?;
+        self.classes.all = renumbered;
+        Ok(())
+    }
+
+    /// Goes on by an entry with each slot: by a patch, by a policy, or by what it does to subscriptions.
     fn enter<L: Ledger>(
         &mut self,
         alloc: Global,
         entered: &Entered,
+        act: &Act,
         steps: &mut Steps<L>,
     ) -> Result<(), NoMemory>
         requires entered { (before : JournalState) × IsEntered entered.now before × AreClassesOf entered.now.present.schema.now before self.old.classes.all.items self.old.slots.items × ((tracks : List Track) × AreSlotsOf entered.now.present.schema.now before self.old.slots.items tracks) }
+        requires act { IsActOf entered.now act.now }
         requires tree { HasTree entered.now self.old.classes.all.items }
         ensures slots { OnOk result ((before : JournalState) (tracks : List Track) → IsEntered entered.now before → AreClassesOf entered.now.present.schema.now before self.old.classes.all.items self.old.slots.items
             → AreSlotsOf entered.now.present.schema.now before self.old.slots.items tracks
-            → AreSlotsOf entered.now.present.schema.now entered.now.present.state.now self.new.slots.items (map (entered_track entered.now before) tracks)) }
+            → AreSlotsOf entered.now.present.schema.now entered.now.present.state.now self.new.slots.items (map (entered_track entered.now before) (filter (is_kept_by (act_said act.now)) tracks))) }
         ensures classes { OnOk result (AreClassesOf entered.now.present.schema.now entered.now.present.state.now self.new.classes.all.items self.new.slots.items) }
     {
-        an_entry_that_moves_no_selection_leaves_slots();
         what_a_patch_makes_of_slots();
         match &entered.entry.command {
-            Command::Tick(_) => Ok(()),
             Command::Edit(_) => {
                 let classes = self.classes.all.as_slice();
                 enter_patch(&mut self.slots, alloc, entered, classes, steps)
@@ -295,14 +205,14 @@ impl Roster {
                 self.classes.all = anew;
                 Ok(())
             }
-            Command::Establish { .. } => Ok(()),
-            Command::Take { .. } => Ok(()),
+            _ => self.meet(alloc, entered, act),
         }
     }
 
     /// Goes on by an entry, where nothing is offered: with each slot, and with the slots of the subscription
-    /// that starts by it, for those of the receivers of these numbers that it names. By a patch the slots of a
-    /// class go on together, and the records that were told are those of another position then.
+    /// that starts by it, for those of the receivers of these numbers that it names, which come to their place
+    /// by id. By a patch the slots of a class go on together; the slots of a subscription that is dropped go. The
+    /// records that were told are those of another position then.
     pub fn absorb<L: Ledger>(
         &mut self,
         alloc: Global,
@@ -320,23 +230,19 @@ impl Roster {
         what_feeds_know_of_selections_is_lawful();
         a_look_changes_nothing();
         a_worker_takes_the_next_entry();
-        an_id_is_given_once();
         a_record_is_set_aside_once();
-        self.enter(alloc, entered, steps)?;
+        tracks_are_asked_in_the_order_of_ids();
+        what_an_act_finds();
+        let live = entered.present.state.registry().live();
+        let act = act_of(entered.entry, live);
+        self.enter(alloc, entered, &act, steps)?;
         self.classes.told = Vec::new(alloc);
         self.looked = 0;
-        let live = entered.present.state.registry().live();
-        match started(entered.entry, live) {
+        match started(&act) {
             Some(terms) => {
                 let classes = &mut self.classes.all;
-                begin(
-                    &mut self.slots,
-                    classes,
-                    alloc,
-                    &entered.present,
-                    terms,
-                    mine,
-                )
+                let present = &entered.present;
+                start(&mut self.slots, classes, alloc, present, terms, mine)
             }
             None => Ok(()),
         }

@@ -4,11 +4,12 @@ use Rattle.std.specs.List.{list_any}
 use Rattle.yp_slot.specs.declared.slot.Slot.{Slot}
 use Rattle.yp_roster.specs.Ordered.{AreClassesOf, AreSlotsOf}
 use Rattle.yp_slot.specs.Classes.{HasClass, member_of}
-use Rattle.yp_roster.specs.Passed.{names_of, new_tracks}
+use Rattle.yp_roster.specs.Passed.{new_tracks}
+use Rattle.yp_slot.specs.Steps.{names_of}
 use Rattle.yp_filter.specs.Fits.{filter_fits}
 use Rattle.yp_roster.proofs.Begun.{begun_one, named_there}
 use Rattle.yp_roster.proofs.Classed.{classed_more}
-use Rattle.yp_roster.proofs.roster.begin_one.Goals as goal
+use Rattle.yp_roster.proofs.starting.begin_one.Goals as goal
 
 pub number_of-requires-clause-receiver : goal.number_of-requires-clause-receiver
 number_of-requires-clause-receiver c =

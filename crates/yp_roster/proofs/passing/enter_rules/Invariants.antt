@@ -4,7 +4,7 @@ use Rattle.yp_attempt.specs.Tracks.{Track}
 use Rattle.yp_roster.specs.Ordered.{AreClassedTo, AreSlotsOf}
 use Rattle.yp_roster.specs.Passed.{AreEnteredTo}
 use Rattle.yp_slot.specs.Steps.{IsEnteredByRules}
-use Rattle.yp_roster.proofs.roster.enter_rules.Given as goal
+use Rattle.yp_roster.proofs.passing.enter_rules.Given as goal
 
 -- the slots before the place went on, and have their classes
 abbrev pub invariant-loop-place : goal.invariant-loop-place

@@ -1,7 +1,7 @@
 use Rattle.yp_roster.proofs.Classed.{classed_next}
 use Rattle.yp_roster.proofs.Entered.{entered_on, slot_entered}
 use Rattle.yp_slot.specs.ResultLaws.{when_all_ok, when_ok}
-use Rattle.yp_roster.proofs.roster.enter_rules_at.Goals as goal
+use Rattle.yp_roster.proofs.passing.enter_rules_at.Goals as goal
 
 pub enter_rules-requires : goal.enter_rules-requires
 enter_rules-requires c =

@@ -3,7 +3,7 @@ use Rattle.std.proofs.lemmas.List.{take_all}
 use Rattle.yp_slot.specs.declared.slot.Slot.{Slot}
 use Rattle.yp_roster.specs.Ordered.{AreClassesOf}
 use Rattle.yp_roster.proofs.Entered.{entered_all}
-use Rattle.yp_roster.proofs.roster.enter_rules.Goals as goal
+use Rattle.yp_roster.proofs.passing.enter_rules.Goals as goal
 
 pub enter_rules_at-requires-clause-entered : goal.enter_rules_at-requires-clause-entered
 enter_rules_at-requires-clause-entered c =

@@ -1,6 +1,6 @@
 use Rattle.std.proofs.Common.{get_or, refl}
 use Rattle.yp_roster.proofs.Begun.{begun_all, begun_none, begun_on}
-use Rattle.yp_roster.proofs.roster.begin.Goals as goal
+use Rattle.yp_roster.proofs.starting.begin.Goals as goal
 
 pub loop-receiver-init : goal.loop-receiver-init
 loop-receiver-init c =
@@ -8,6 +8,7 @@ loop-receiver-init c =
     record {
       begun = λ m tracks moment live are. begun_none present.schema.now present.state.now m present.state.now.position c.args.terms.now c.args.mine.now tracks c.args.slots.now.items are;
       classes = λ are. are;
+      numbers = λ number class there. there;
     }
 
 pub loop-receiver-preserved : goal.loop-receiver-preserved
@@ -19,6 +20,7 @@ loop-receiver-preserved c =
           begun_on present.schema.now present.state.now m present.state.now.position c.args.terms.now c.args.mine.now tracks c.loop-receiver.receiver-index c.loop-receiver.slots.items c.begin_one.new.slots.items (get_or c.args.mine.now c.loop-receiver.receiver-index 0) begun c.loop-receiver-test.true refl
           (c.in_ok-begin_one.ensures.slots m _ moment live begun.kept);
       classes = λ are. c.in_ok-begin_one.ensures.classes (c.loop-receiver.invariant.classes are);
+      numbers = λ number class there. c.in_ok-begin_one.ensures.numbers number class (c.loop-receiver.invariant.numbers number class there);
     }
 
 pub returns-clause-slots : goal.returns-clause-slots
