@@ -22,7 +22,7 @@ use Rattle.yp_journal.specs.declared.entry.Entry.{Entry}
 use Rattle.yp_journal.specs.declared.receiver.ReceiverInfo.{ReceiverInfo}
 use Rattle.yp_journal.specs.History.{JournalState, first_state, rules_at, may_read, state_of, state_at, IsLegal}
 use Rattle.yp_journal.specs.JournalLaws.{opening_datastore}
-use Rattle.yp_attempt.specs.Attempts.{IsReplayOf, Notification, Replayed, notification_of, replay, taken_of}
+use Rattle.yp_attempt.specs.Attempts.{IsReplayOf, Notification, Replayed, answers_in, notification_of, replay, taken_of}
 use Rattle.yp_attempt.specs.Content.{Content}
 use Rattle.yp_attempt.specs.ListLaws.{all_before, all_weaker}
 use Rattle.yp_attempt.specs.Moments.{Moment, AllMayFollow}
@@ -40,8 +40,8 @@ use Rattle.yp_promise.specs.Serving.{run_of}
 use Rattle.yp_promise.specs.Shown.{offered_to}
 use Rattle.yp_promise.proofs.Bodies.{EntriesKeepDatastores, wanted}
 use Rattle.yp_promise.proofs.Entering.{count_moments}
-use Rattle.yp_promise.proofs.Own.{AttemptsTell, own_answers, own_attempt, own_part}
-use Rattle.yp_promise.proofs.Parts.{all_there, all_taken, number_is, one_there}
+use Rattle.yp_promise.proofs.Own.{AttemptsTell, own_attempt, own_part}
+use Rattle.yp_world.specs.TakenLaws.{all_there, all_taken, number_is, one_there}
 use Rattle.yp_encode.specs.Sendable.{IsSendable, IsSendableChange}
 use Rattle.yp_receiver.specs.Hearable.{IsHearableChange, IsHearable, HasTexts, HasReadableText, IsTold}
 use Rattle.yp_receiver.specs.Readable.{has_value_text, HaveTexts}
@@ -175,7 +175,7 @@ pub record ToldLaws : Type 0 where
 
 module _ (laws : ToldLaws) (nodes : List SchemaNode) (receivers : List ReceiverInfo) (entries : List Entry) (receiver : ℕ) (schema : IsSchema nodes) (legal : IsLegal nodes (first_state receivers) entries)
     (may : AllMayFollow [] (moments_of nodes receivers entries)) (short : length entries < 2 ^ 32)
-    (same : (replay recorded (receiver ∷ []) first_run (moments_of nodes receivers entries) (own_answers nodes receivers entries receiver)).run ≡ own_part nodes receivers entries receiver) where
+    (same : (replay recorded (receiver ∷ []) first_run (moments_of nodes receivers entries) (answers_in (own_part nodes receivers entries receiver).done)).run ≡ own_part nodes receivers entries receiver) where
   abbrev moments : List Moment
   moments = moments_of nodes receivers entries
 
@@ -185,8 +185,8 @@ module _ (laws : ToldLaws) (nodes : List SchemaNode) (receivers : List ReceiverI
   -- each attempt keeps within bounds
   own_fits : AllByRecursion (AttemptFits (length entries)) offered
   own_fits =
-      let end : Replayed = replay recorded (receiver ∷ []) first_run moments (own_answers nodes receivers entries receiver) in
-      let is = laws.reached recorded (receiver ∷ []) moments (own_answers nodes receivers entries receiver) may in
+      let end : Replayed = replay recorded (receiver ∷ []) first_run moments (answers_in (own_part nodes receivers entries receiver).done) in
+      let is = laws.reached recorded (receiver ∷ []) moments (answers_in (own_part nodes receivers entries receiver).done) may in
       let long : length (is.past ++ end.rest) ≡ length moments = ap length is.entries in
       let few : length is.past ≤ length entries = omega (arith, long, length-append is.past end.rest, count_moments nodes receivers entries) in
       let all : AllByRecursion MomentFits is.past = all_before MomentFits is.past end.rest (subst (AllByRecursion MomentFits) (sym is.entries) (journal_fits nodes receivers entries legal (laws.handed nodes receivers entries legal))) in
@@ -197,7 +197,7 @@ module _ (laws : ToldLaws) (nodes : List SchemaNode) (receivers : List ReceiverI
     attempt_told : (front : List Attempt) (a : Attempt) (back : List Attempt) → offered ≡ front ++ a ∷ back → IsTold nodes (told_of (notification_of a))
     attempt_told front a back is =
         let fits = one_there (AttemptFits (length entries)) front a back (subst (AllByRecursion (AttemptFits (length entries))) is own_fits) in
-        let made = laws.tell recorded (story_of moments receiver) receiver (own_part nodes receivers entries receiver) of a.sub (of_sub a.sub front) a (own_attempt nodes receivers entries receiver front a back is a.sub (number_is a.sub)) in
+        let made = laws.tell recorded (story_of moments receiver) receiver (own_part nodes receivers entries receiver) of a.sub (of_sub a.sub front) a (own_attempt nodes receivers entries receiver (own_part nodes receivers entries receiver) front a back is a.sub (number_is a.sub)) in
         made_told nodes schema laws.top (length entries) (notification_of a) short fits.sub fits.made
         (told_body laws.keeps laws.texts laws.windows nodes schema receivers entries receiver texts a.sub a.made.from a.made.position a.made.body made)
 

@@ -1,5 +1,6 @@
 -- However writers, workers and receivers interleave over a legal journal, each receiver is served.
 use Rattle.std.proofs.Common.{◌≡◌, ℕ, zero, suc, ◌<◌, ◌≤◌, refl, sym, ap, subst, ◌∙◌, List, [], ◌∷◌, ◌++◌, map, length, take, arith}
+use Rattle.std.proofs.lemmas.Option.{none-some, same_Some}
 use Rattle.yp_schema.specs.declared.schema.SchemaNode.{SchemaNode}
 use Rattle.yp_schema.specs.WellFormed.{IsSchema}
 use Rattle.yp_journal.specs.declared.entry.Entry.{Entry}
@@ -14,9 +15,11 @@ use Rattle.yp_moment.specs.Entries.{moment_of, moments_from, moments_of}
 use Rattle.yp_moment.specs.Windows.{recorded}
 use Rattle.yp_world.specs.Headline.{IsServed}
 use Rattle.yp_world.specs.Holding.{AreOf, Holds, IsOwnRunOf, absorbed_by}
+use Rattle.yp_world.specs.Serially.{HavePlaces}
 use Rattle.yp_world.specs.World.{Delivery, Event, Setup, World}
 use Rattle.yp_promise.specs.Interleaving.{AppendAll, IsServedAfter, setup_of, world_after}
 use Rattle.yp_promise.specs.Promise.{Serves}
+use Rattle.yp_promise.specs.Serving.{queueing_of}
 
 -- ---- the first entries of a journal
 
@@ -34,9 +37,15 @@ as_many : (nodes : List SchemaNode) (state : JournalState) (entries : List Entry
 as_many nodes state [] = refl
 as_many nodes state (entry ∷ entries) = ap suc (as_many nodes (next_state nodes state entry.command) entries)
 
-many_places : (receivers : List ReceiverInfo) → length (map (λ receiver. receiver.places) receivers) ≡ length receivers
+pub many_places : (receivers : List ReceiverInfo) → length (map (λ receiver. receiver.places) receivers) ≡ length receivers
 many_places [] = refl
 many_places (receiver ∷ receivers) = ap suc (many_places receivers)
+
+-- each queue has its receiver's places
+pub have_places : (receivers : List ReceiverInfo) → HavePlaces (map (λ receiver. receiver.places) receivers) (queueing_of receivers)
+have_places [] number count at = absurd (none-some count at)
+have_places (receiver ∷ receivers) zero count at = same_Some receiver.places count at
+have_places (receiver ∷ receivers) (suc number) count at = have_places receivers number count at
 
 -- ---- the laws that are rested on
 

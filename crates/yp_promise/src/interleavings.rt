@@ -5,16 +5,21 @@ ghost use Rattle.yp_schema.specs.WellFormed.{IsSchema};
 ghost use Rattle.yp_journal.specs.declared.entry.Entry.{Entry};
 ghost use Rattle.yp_journal.specs.declared.receiver.ReceiverInfo.{ReceiverInfo};
 ghost use Rattle.yp_journal.specs.History.{first_state, IsLegal};
-ghost use Rattle.yp_world.specs.World.{Event};
-ghost use Rattle.yp_promise.specs.Interleaving.{AppendAll, IsServedAfter};
+ghost use Rattle.yp_moment.specs.Entries.{moments_of};
+ghost use Rattle.yp_world.specs.Serially.{LeadTo};
+ghost use Rattle.yp_world.specs.World.{Event, first_world};
+ghost use Rattle.yp_promise.specs.Interleaving.{AppendAll, IsServedAfter, setup_of};
+ghost use Rattle.yp_promise.specs.Serving.{run_of};
 
 use crate::runs::every_run_of_a_receiver_serves_it;
 use yp_moment::laws::{
+    an_establishment_starts_its_subscription, entries_of_a_legal_journal_may_follow,
     records_lead_from_selection_to_selection, what_feeds_know_of_selections_is_lawful,
 };
+use yp_serial::laws::an_anchored_trigger_has_due_ticks;
 use yp_world::laws::{
-    a_world_that_holds_serves_its_receivers, every_list_of_events_keeps_what_holds,
-    the_number_of_workers_does_not_matter,
+    a_serial_run_is_a_list_of_events, a_world_that_holds_serves_its_receivers,
+    every_list_of_events_keeps_what_holds, the_number_of_workers_does_not_matter,
 };
 
 /// However writers, workers and receivers interleave over a legal journal, with at least one worker, each
@@ -34,4 +39,17 @@ pub fn every_interleaving_serves_each_receiver()
     a_world_that_holds_serves_its_receivers();
     the_number_of_workers_does_not_matter();
     every_run_of_a_receiver_serves_it();
+}
+
+/// The serial run of a legal journal is an interleaving, with one worker: its events lead to the world of the
+/// journal in which the worker stands where the serial run does, and each queue holds and was taken of as many.
+pub fn a_serial_run_is_an_interleaving()
+    ensures { (nodes : List SchemaNode) (receivers : List ReceiverInfo) (entries : List Entry) → IsSchema nodes → IsLegal nodes (first_state receivers) entries
+        → LeadTo (setup_of receivers 1) (first_world (setup_of receivers 1)) (moments_of nodes receivers entries) (run_of nodes receivers entries).run.standing (run_of nodes receivers entries).posts }
+{
+    what_feeds_know_of_selections_is_lawful();
+    entries_of_a_legal_journal_may_follow();
+    an_establishment_starts_its_subscription();
+    an_anchored_trigger_has_due_ticks();
+    a_serial_run_is_a_list_of_events();
 }
