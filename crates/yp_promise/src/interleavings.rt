@@ -12,9 +12,10 @@ ghost use Rattle.yp_promise.specs.Interleaving.{AppendAll, IsServedAfter, setup_
 ghost use Rattle.yp_promise.specs.Serving.{run_of};
 
 use crate::runs::every_run_of_a_receiver_serves_it;
+use yp_moment::acts::what_feeds_are_handed_can_be_followed;
 use yp_moment::laws::{
-    an_establishment_starts_its_subscription, entries_of_a_legal_journal_may_follow,
-    records_lead_from_selection_to_selection, what_feeds_know_of_selections_is_lawful,
+    entries_of_a_legal_journal_may_follow, records_lead_from_selection_to_selection,
+    what_feeds_know_of_selections_is_lawful,
 };
 use yp_serial::laws::an_anchored_trigger_has_due_ticks;
 use yp_world::laws::{
@@ -49,7 +50,7 @@ pub fn a_serial_run_is_an_interleaving()
 {
     what_feeds_know_of_selections_is_lawful();
     entries_of_a_legal_journal_may_follow();
-    an_establishment_starts_its_subscription();
+    what_feeds_are_handed_can_be_followed();
     an_anchored_trigger_has_due_ticks();
     a_serial_run_is_a_list_of_events();
 }

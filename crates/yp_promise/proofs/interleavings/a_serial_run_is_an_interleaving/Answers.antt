@@ -8,12 +8,12 @@ use Rattle.yp_world.specs.World.{first_world}
 use Rattle.yp_promise.specs.Interleaving.{setup_of}
 use Rattle.yp_promise.specs.Serving.{queueing_of, taking_of}
 use Rattle.yp_promise.proofs.Interleaving.{have_places, many_places}
-use Rattle.yp_promise.proofs.Ticks.{journal_due}
+use Rattle.yp_promise.proofs.Ticks.{all_due}
 use Rattle.yp_promise.proofs.interleavings.a_serial_run_is_an_interleaving.Goals as goal
 
 pub returns : goal.returns
 returns c nodes receivers entries schema legal =
-    let due = journal_due c.an_anchored_trigger_has_due_ticks.ensures c.an_establishment_starts_its_subscription.ensures.starts nodes receivers entries schema legal in
+    let due = all_due c.an_anchored_trigger_has_due_ticks.ensures (moments_of nodes receivers entries) (c.what_feeds_are_handed_can_be_followed.ensures nodes receivers entries legal) in
     let may = c.entries_of_a_legal_journal_may_follow.ensures nodes receivers entries schema legal in
     let journal = moments_of nodes receivers entries in
     subst
