@@ -14,11 +14,11 @@ ghost use Rattle.yp_roster.specs.Passed.{IsMomentAt, new_tracks, place_from, wit
 
 use std::alloc::Global;
 use yp_base::memory::NoMemory;
-use yp_terms::terms::Terms;
 use yp_slot::acts::Act;
 use yp_slot::classes::{Class, number_of};
 use yp_slot::present::Present;
 use yp_slot::slot::Slot;
+use yp_terms::terms::Terms;
 
 /// Adds the slot of a subscription that starts for a receiver, where the subscription names it.
 fn begin_one(
