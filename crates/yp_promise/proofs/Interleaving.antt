@@ -1,5 +1,6 @@
 -- However writers, workers and receivers interleave over a legal journal, each receiver is served.
 use Rattle.std.proofs.Common.{◌≡◌, ℕ, zero, suc, ◌<◌, ◌≤◌, refl, sym, ap, subst, ◌∙◌, List, [], ◌∷◌, ◌++◌, map, length, take, arith}
+use Rattle.std.proofs.lemmas.List.{length-map}
 use Rattle.std.proofs.lemmas.Option.{none-some, same_Some}
 use Rattle.yp_schema.specs.declared.schema.SchemaNode.{SchemaNode}
 use Rattle.yp_schema.specs.WellFormed.{IsSchema}
@@ -20,6 +21,7 @@ use Rattle.yp_world.specs.World.{Delivery, Event, Setup, World}
 use Rattle.yp_promise.specs.Interleaving.{AppendAll, IsServedAfter, setup_of, world_after}
 use Rattle.yp_promise.specs.Promise.{Serves}
 use Rattle.yp_promise.specs.Serving.{queueing_of}
+use Rattle.yp_promise.proofs.Entering.{count_moments}
 
 -- ---- the first entries of a journal
 
@@ -33,13 +35,8 @@ first_legal nodes state entries zero legal = tt
 first_legal nodes state [] (suc n) legal = tt
 first_legal nodes state (entry ∷ entries) (suc n) legal = (legal.0, first_legal nodes (next_state nodes state entry.command) entries n legal.1)
 
-as_many : (nodes : List SchemaNode) (state : JournalState) (entries : List Entry) → length (moments_from nodes state entries) ≡ length entries
-as_many nodes state [] = refl
-as_many nodes state (entry ∷ entries) = ap suc (as_many nodes (next_state nodes state entry.command) entries)
-
 pub many_places : (receivers : List ReceiverInfo) → length (map (λ receiver. receiver.places) receivers) ≡ length receivers
-many_places [] = refl
-many_places (receiver ∷ receivers) = ap suc (many_places receivers)
+many_places receivers = length-map receivers (λ receiver. receiver.places)
 
 -- each queue has its receiver's places
 pub have_places : (receivers : List ReceiverInfo) → HavePlaces (map (λ receiver. receiver.places) receivers) (queueing_of receivers)
@@ -88,7 +85,7 @@ module _ (laws : InterleavingLaws) (nodes : List SchemaNode) (receivers : List R
   served_after =
       let past : List Moment = moments_of nodes receivers (take is.standing.position entries) in
       let position : is.standing.position ≤ length entries =
-      subst (λ (n : ℕ). is.standing.position ≤ n) (ap (λ (journal : List Moment). length journal) appended ∙ as_many nodes (first_state receivers) entries) is.within in
+      subst (λ (n : ℕ). is.standing.position ≤ n) (ap (λ (journal : List Moment). length journal) appended ∙ count_moments nodes receivers entries) is.within in
       let reaches : Reaches recorded (receiver ∷ []) past (answers_in (Own past).done) (Own past) =
       subst (λ (xs : List Moment). Reaches recorded (receiver ∷ []) xs (answers_in (Own xs).done) (Own xs)) absorbed part.reaches in
       let accepted : taken_of (Own past).done ≡ is.delivery.taken ++ is.delivery.queue = subst (λ (xs : List Moment). taken_of (Own xs).done ≡ is.delivery.taken ++ is.delivery.queue) absorbed is.accepted in

@@ -12,7 +12,7 @@ use Rattle.yp_attempt.specs.Tracks.{Body, All, Edits, Marked, Notice, Answer, To
 use Rattle.yp_mirror.specs.Heard.{Told, told_nothing, after_body, after_full, after_attempt, heard_all, told_by, of_sub, is_update, is_full_update, IsTakenUpdate}
 use Rattle.yp_mirror.specs.Links.{IsRunOf, IsAttemptOf}
 use Rattle.yp_mirror.specs.Stories.{Story}
-use Rattle.yp_world.specs.Headline.{told_after, told_of, is_update_of, CopiesSelections, CopiesBeginFull, NeverFalls}
+use Rattle.yp_world.specs.Headline.{told_after, known_of, is_update_of, CopiesSelections, CopiesBeginFull, NeverFalls}
 use Rattle.yp_world.specs.TakenLaws.{IsTakenAt, taken_at, sub_parts}
 
 -- ---- the laws that are rested on
@@ -115,13 +115,13 @@ module _ (laws : CopyLaws) (c : Content) (story : Story) (receiver : ℕ) (run :
     of_it = record { later = of_sub sub at.back; parts = ap (λ (xs : List Attempt). of_sub sub xs) at.parts ∙ sub_parts sub at.front at.a at.back said.0 }
 
     -- its attempts tell the same up to it
-    same_up_to : (told_of c sub (before ++ update ∷ [])).rows ≡ (told_by c (of_sub sub at.front ++ at.a ∷ [])).rows
+    same_up_to : (known_of c sub (before ++ update ∷ [])).rows ≡ (told_by c (of_sub sub at.front ++ at.a ∷ [])).rows
     same_up_to =
-        ap (λ (ns : List Notification). (told_of c sub ns).rows) (sym (taken_up_to at.front at.a at.taken ∙ (λ i. at.first i ++ at.here i ∷ [])))
+        ap (λ (ns : List Notification). (known_of c sub ns).rows) (sym (taken_up_to at.front at.a at.taken ∙ (λ i. at.first i ++ at.here i ∷ [])))
         ∙ (taken_same c sub (at.front ++ at.a ∷ []) told_nothing told_nothing (record { rows = refl; last = refl })).rows
         ∙ ap (λ (xs : List Attempt). (told_by c xs).rows) (sub_parts sub at.front at.a [] said.0)
 
-    fresh_there : story.mirrored sub ≡ true → (told_of c sub (before ++ update ∷ [])).rows ≡ story.want sub update.made.position
+    fresh_there : story.mirrored sub ≡ true → (known_of c sub (before ++ update ∷ [])).rows ≡ story.want sub update.made.position
     fresh_there mirrored =
         same_up_to ∙ laws.fresh c story receiver run of sub (of_sub sub at.front) at.a of_it taken_update mirrored ∙ ap (λ (n : Notification). story.want sub n.made.position) at.here
 

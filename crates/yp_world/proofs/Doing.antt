@@ -1,6 +1,7 @@
 -- Nothing happens exactly where an event can't be done, and then nothing changes; and an offer meets a full queue exactly where the queue holds its places.
 use Rattle.std.proofs.Common.{◌≡◌, ℕ, zero, suc, ◌+◌, ◌<◌, ◌≤◌, refl, sym, ap, ◌∙◌, Bool, true, false, not, List, [], ◌∷◌, length, Option, Some, None, arith}
 use Rattle.std.specs.Prelude.{if◌then◌else◌, ◌==◌, ◌%◌, ◌↔◌, ◌&&◌, nat_le, nat_lt}
+use Rattle.std.proofs.lemmas.List.{length-map}
 use Rattle.std.specs.List.{AllByRecursion, slice_get}
 use Rattle.std.proofs.lemmas.Bool.{ltb-true, lt-ltb}
 use Rattle.std.proofs.lemmas.Option.{slice_get_within}
@@ -11,14 +12,14 @@ use Rattle.yp_attempt.specs.Runs.{Standing, Found, first_offer}
 use Rattle.yp_attempt.specs.Tracks.{Attempt, Answer, Took, Full}
 use Rattle.yp_attempt.specs.Workers.{numbers_of}
 use Rattle.yp_world.specs.Holding.{CanAbsorb, CanOffer, CanTake, CanBeDone, Holds, Serves, absorbed_by}
-use Rattle.yp_world.specs.World.{Delivery, World, Setup, Event, Append, Absorb, Offer, Take, Absorbed, Accepted, MetFull, Taken, Nothing, worker_of, receivers_of, is_unused, may_follow, append_if, absorb_next, absorb, answer_of, attempt_of, told, offer_to, offer_found, offer, take_first, take_from, step}
+use Rattle.yp_world.specs.World.{Delivery, World, Setup, Event, Append, Absorb, Offer, Take, Absorbed, Accepted, MetFull, Taken, Nothing, worker_of, receivers_of, is_unused, may_follow, append_if, absorb_next, absorb, queue_answer, attempt_of, comes_of, offer_to, offer_found, offer, take_first, take_from, step}
 use Rattle.yp_world.proofs.Belonging.{FindsFirst, all_its, found_belongs, run_belongs}
-use Rattle.yp_world.proofs.Elements.{get_below, length_map}
+use Rattle.yp_world.proofs.Elements.{get_below}
 use Rattle.yp_world.proofs.Events.{may_is}
 
 -- ---- nothing changes
 
-told_something : (a : Attempt) (answer : Answer) → told a answer ≡ Nothing → ⊥
+told_something : (a : Attempt) (answer : Answer) → comes_of a answer ≡ Nothing → ⊥
 told_something a Took e = cc
 told_something a Full e = cc
 
@@ -37,7 +38,7 @@ still_worker setup world worker (Some standing) e = still_absorb setup world wor
 
 still_offer_to : (setup : Setup) (world : World) (worker : ℕ) (standing : Standing) (found : Found) (o : Option Delivery) → (offer_to setup world worker standing found o).1 ≡ Nothing → (offer_to setup world worker standing found o).0 ≡ world
 still_offer_to setup world worker standing found None e = refl
-still_offer_to setup world worker standing found (Some delivery) e = absurd (told_something (attempt_of setup standing found delivery) (answer_of delivery) e)
+still_offer_to setup world worker standing found (Some delivery) e = absurd (told_something (attempt_of setup standing found delivery) (queue_answer delivery) e)
 
 still_found : (setup : Setup) (world : World) (worker : ℕ) (standing : Standing) (o : Option Found) → (offer_found setup world worker standing o).1 ≡ Nothing → (offer_found setup world worker standing o).0 ≡ world
 still_found setup world worker standing None e = refl
@@ -110,12 +111,12 @@ module _ (finds : FindsFirst) (setup : Setup) (world : World) (h : Holds setup w
   -- and so it has its queue
   pub queue_there : (delivery : Delivery) × (slice_get world.deliveries its_receiver ≡ Some delivery)
   queue_there =
-      let many : length world.deliveries ≡ length setup.places = sym (length_map (λ (d : Delivery). d.places) world.deliveries) ∙ ap (λ (ns : List ℕ). length ns) h.places in
+      let many : length world.deliveries ≡ length setup.places = sym (length-map world.deliveries (λ (d : Delivery). d.places)) ∙ ap (λ (ns : List ℕ). length ns) h.places in
       let less : its_receiver < length setup.places = is_there in
       get_below world.deliveries its_receiver (omega (arith, many, less))
 
   module _ (delivery : Delivery) (delivers : slice_get world.deliveries its_receiver ≡ Some delivery) where
-    comes_to : (step setup world (Offer worker)).1 ≡ told (attempt_of setup standing found delivery) (answer_of delivery)
+    comes_to : (step setup world (Offer worker)).1 ≡ comes_of (attempt_of setup standing found delivery) (queue_answer delivery)
     comes_to =
         ap (λ (o : Option Standing). (offer setup world worker o).1) stands
         ∙ (ap (λ (o : Option Found). (offer_found setup world worker standing o).1) offers ∙ ap (λ (o : Option Delivery). (offer_to setup world worker standing found o).1) delivers)
@@ -123,11 +124,11 @@ module _ (finds : FindsFirst) (setup : Setup) (world : World) (h : Holds setup w
     fits : length delivery.queue ≤ delivery.places
     fits = (serves.delivers its_receiver delivery delivers is_its).fits
 
-    full_only : (b : Bool) → nat_lt (length delivery.queue) delivery.places ≡ b → told (attempt_of setup standing found delivery) (if b then Took else Full) ≡ MetFull its_receiver found.track.feed.sub standing.position → length delivery.queue ≡ delivery.places
+    full_only : (b : Bool) → nat_lt (length delivery.queue) delivery.places ≡ b → comes_of (attempt_of setup standing found delivery) (if b then Took else Full) ≡ MetFull its_receiver found.track.feed.sub standing.position → length delivery.queue ≡ delivery.places
     full_only true e is = absurd cc
     full_only false e is = let at_most : length delivery.queue ≤ delivery.places = fits in grind (arith, e, at_most)
 
-    accepted_only : (b : Bool) → nat_lt (length delivery.queue) delivery.places ≡ b → told (attempt_of setup standing found delivery) (if b then Took else Full) ≡ Accepted its_receiver standing.position → length delivery.queue < delivery.places
+    accepted_only : (b : Bool) → nat_lt (length delivery.queue) delivery.places ≡ b → comes_of (attempt_of setup standing found delivery) (if b then Took else Full) ≡ Accepted its_receiver standing.position → length delivery.queue < delivery.places
     accepted_only true e is = ltb-true (length delivery.queue) delivery.places e
     accepted_only false e is = absurd cc
 
@@ -138,21 +139,21 @@ module _ (finds : FindsFirst) (setup : Setup) (world : World) (h : Holds setup w
     pub meets_full : ((step setup world (Offer worker)).1 ≡ MetFull its_receiver found.track.feed.sub standing.position) ↔ (length delivery.queue ≡ delivery.places)
     meets_full = (
       λ e. full_only (nat_lt (length delivery.queue) delivery.places) refl (sym comes_to ∙ e),
-      λ same. comes_to ∙ ap (λ (b : Bool). told (attempt_of setup standing found delivery) (if b then Took else Full)) (no_room same),
+      λ same. comes_to ∙ ap (λ (b : Bool). comes_of (attempt_of setup standing found delivery) (if b then Took else Full)) (no_room same),
     )
 
     -- and is accepted exactly where there is a free place
     pub is_accepted : ((step setup world (Offer worker)).1 ≡ Accepted its_receiver standing.position) ↔ (length delivery.queue < delivery.places)
     is_accepted = (
       λ e. accepted_only (nat_lt (length delivery.queue) delivery.places) refl (sym comes_to ∙ e),
-      λ less. comes_to ∙ ap (λ (b : Bool). told (attempt_of setup standing found delivery) (if b then Took else Full)) (lt-ltb (length delivery.queue) delivery.places less),
+      λ less. comes_to ∙ ap (λ (b : Bool). comes_of (attempt_of setup standing found delivery) (if b then Took else Full)) (lt-ltb (length delivery.queue) delivery.places less),
     )
 
   -- something comes of it
   offer_happens : (step setup world (Offer worker)).1 ≡ Nothing → ⊥
   offer_happens e =
       let there = queue_there in
-      told_something (attempt_of setup standing found there.0) (answer_of there.0) (sym (comes_to there.0 there.1) ∙ e)
+      told_something (attempt_of setup standing found there.0) (queue_answer there.0) (sym (comes_to there.0 there.1) ∙ e)
 
 -- ---- an event that can be done
 

@@ -56,7 +56,3 @@ pub get_below : {X : Type 0} (xs : List X) (i : ℕ) → i < length xs → (x : 
 get_below [] i less = absurd (omega (arith, less))
 get_below (x ∷ xs) zero less = (x, refl)
 get_below (x ∷ xs) (suc i) less = get_below xs i (omega (arith, less))
-
-pub length_map : {X Y : Type 0} (f : X → Y) (xs : List X) → length (map f xs) ≡ length xs
-length_map f [] = refl
-length_map f (x ∷ xs) = ap suc (length_map f xs)

@@ -12,7 +12,7 @@ use Rattle.yp_attempt.specs.Moments.{Moment, Act, Quiet, Starts, Controls, Drops
 use Rattle.yp_attempt.specs.Runs.{Standing, Found, Reaches, opened, advances, settles, first_run, first_offer, settled, advanced}
 use Rattle.yp_attempt.specs.Tracks.{Attempt, Answer, Took, Full}
 use Rattle.yp_world.specs.Holding.{IsDeliveryOf, Serves, Holds, absorbed_by}
-use Rattle.yp_world.specs.World.{Delivery, World, Setup, Event, Append, Absorb, Offer, Take, first_delivery, first_world, worker_of, receivers_of, is_unused, may_follow, append_if, absorb_next, absorb, answer_of, after_offer, attempt_of, offer_to, offer_found, offer, take_first, take_from, step, after_events}
+use Rattle.yp_world.specs.World.{Delivery, World, Setup, Event, Append, Absorb, Offer, Take, first_delivery, first_world, worker_of, receivers_of, is_unused, may_follow, append_if, absorb_next, absorb, queue_answer, delivery_after, attempt_of, offer_to, offer_found, offer, take_first, take_from, step, after_events}
 use Rattle.yp_world.proofs.Belonging.{FindsFirst, found_belongs, run_belongs, all_its}
 use Rattle.yp_world.proofs.Elements.{get_set_same, get_set_other, set_looks_same, take_one_more, get_replicate, get_map}
 
@@ -67,7 +67,7 @@ room_by delivery false e took = absurd (true≢false (ap is_took (sym took)))
     is_took Full = false
 
 delivered : (delivery : Delivery) (offered : List Attempt) (a : Attempt) (answer : Answer) → a.answer ≡ answer → (answer ≡ Took → length delivery.queue < delivery.places) → IsDeliveryOf delivery offered
-    → IsDeliveryOf (after_offer answer (notification_of a) delivery) (offered ++ a ∷ [])
+    → IsDeliveryOf (delivery_after answer (notification_of a) delivery) (offered ++ a ∷ [])
 delivered delivery offered a Took e room is = record {
   answers = answers_one_more offered a ∙ (λ i. is.answers i ++ e i ∷ []);
   accepted = taken_one_more offered a ∙ ((λ i. is.accepted i ++ if_taken (e i) (notification_of a) []) ∙ append_assoc delivery.taken delivery.queue (notification_of a ∷ []));
@@ -165,7 +165,7 @@ absorb_holds setup world worker standing at None idle (Some m) there h = record 
 
 -- ---- a worker offers
 
-places_stay : (answer : Answer) (n : Notification) (delivery : Delivery) → (after_offer answer n delivery).places ≡ delivery.places
+places_stay : (answer : Answer) (n : Notification) (delivery : Delivery) → (delivery_after answer n delivery).places ≡ delivery.places
 places_stay Took n delivery = refl
 places_stay Full n delivery = refl
 
@@ -184,7 +184,7 @@ offer_holds finds setup world worker standing at found offers (Some delivery) th
     receiver = found.track.feed.receiver
 
     answer : Answer
-    answer = answer_of delivery
+    answer = queue_answer delivery
 
     a : Attempt
     a = attempt_of setup standing found delivery
@@ -193,7 +193,7 @@ offer_holds finds setup world worker standing at found offers (Some delivery) th
     further = record standing { tracks = settled setup.content standing found answer }
 
     new : Delivery
-    new = after_offer answer (notification_of a) delivery
+    new = delivery_after answer (notification_of a) delivery
 
     after : World
     after = record world { standings = slice_set world.standings worker further; deliveries = slice_set world.deliveries receiver new }

@@ -1,6 +1,7 @@
 -- A serial run is a list of events.
 use Rattle.std.proofs.Common.{◌≡◌, ℕ, zero, suc, ◌+◌, ◌<◌, ◌≤◌, refl, sym, ap, subst, ◌∙◌, Bool, true, false, List, [], ◌∷◌, ◌++◌, map, length, Option, Some, None, arith, length-append, append_assoc, append-nil}
 use Rattle.std.specs.Prelude.{if◌then◌else◌, ◌==◌, slice_set, option_map}
+use Rattle.std.proofs.lemmas.List.{length-map}
 use Rattle.std.specs.List.{slice_get}
 use Rattle.std.proofs.lemmas.Bool.{eqb-true}
 use Rattle.std.proofs.lemmas.Option.{none-some, same_Some, slice_get-map, slice_get_within}
@@ -17,10 +18,10 @@ use Rattle.yp_serial.specs.Serial.{Served, Taking, all_offered, found_answer, of
 use Rattle.yp_serial.specs.Weights.{weights}
 use Rattle.yp_world.specs.Holding.{Holds}
 use Rattle.yp_world.specs.Serially.{HavePlaces, AreCountedBy, LeadTo, with_one_worker}
-use Rattle.yp_world.specs.World.{Absorb, Append, Delivery, Event, Offer, Setup, Take, World, absorb_next, after_events, after_offer, answer_of, append_if, attempt_of, first_delivery, first_world, offer_found, offer_to, post_of, receivers_of, step, take_first, take_from}
+use Rattle.yp_world.specs.World.{Absorb, Append, Delivery, Event, Offer, Setup, Take, World, absorb_next, after_events, delivery_after, queue_answer, append_if, attempt_of, first_delivery, first_world, offer_found, offer_to, post_of, receivers_of, step, take_first, take_from}
 use Rattle.yp_world.proofs.Belonging.{FindsFirst}
 use Rattle.yp_world.proofs.Doing.{may_tells, queue_there}
-use Rattle.yp_world.proofs.Elements.{get_map, get_set_other, get_set_same, length_map}
+use Rattle.yp_world.proofs.Elements.{get_map, get_set_other, get_set_same}
 use Rattle.yp_world.proofs.Events.{events_hold, first_holds}
 
 -- ---- posts
@@ -179,10 +180,10 @@ below_taken (suc n) counts p x below = by (n == x) refl (λ few. below_taken n c
 
 -- ---- offers
 
-offered_post : (answer : Answer) (n : Notification) (delivery : Delivery) → post_of (after_offer answer n delivery) ≡ posts.after_offer false answer (post_of delivery)
+offered_post : (answer : Answer) (n : Notification) (delivery : Delivery) → post_of (delivery_after answer n delivery) ≡ posts.after_offer false answer (post_of delivery)
 offered_post Took n delivery =
     let more : length (delivery.queue ++ n ∷ []) ≡ length delivery.queue + 1 = length-append delivery.queue (n ∷ []) in
-    same_post (post_of (after_offer Took n delivery)) (posts.after_offer false Took (post_of delivery)) more refl
+    same_post (post_of (delivery_after Took n delivery)) (posts.after_offer false Took (post_of delivery)) more refl
 offered_post Full n delivery = refl
 
 taken_at_once : (p : Post) → after_take 1 (posts.after_offer false Took p) ≡ posts.after_offer true Took p
@@ -208,7 +209,7 @@ module _ (finds : FindsFirst) (c : Content) (q : Queueing) (places : List ℕ) (
           agree its there.0.places
           (ap (λ (ns : List ℕ). slice_get ns its) (sym h.places) ∙ (slice_get-map (λ (d : Delivery). d.places) deliveries its ∙ ap (λ (o : Option Delivery). option_map (λ d. d.places) o) there.1))
 
-      same_answer : answer_of there.0 ≡ found_answer q found served
+      same_answer : queue_answer there.0 ≡ found_answer q found served
       same_answer = λ i. posts.answer_by (sym its_places i) (have its there.0 there.1 i)
 
       abbrev After : Answer → Standing
@@ -217,13 +218,13 @@ module _ (finds : FindsFirst) (c : Content) (q : Queueing) (places : List ℕ) (
       abbrev Posts : (ℕ → Bool) → Answer → ℕ → Post
       Posts automatic answer x = if its == x then posts.after_offer (automatic x) answer (served.posts x) else served.posts x
 
-      offered : LeadTo setup world journal (After (answer_of there.0)) (Posts (λ x. false) (answer_of there.0))
+      offered : LeadTo setup world journal (After (queue_answer there.0)) (Posts (λ x. false) (queue_answer there.0))
       offered = record {
         events = Offer 0 ∷ [];
-        deliveries = slice_set deliveries its (after_offer (answer_of there.0) (notification_of (attempt_of setup served.run.standing found there.0)) there.0);
+        deliveries = slice_set deliveries its (delivery_after (queue_answer there.0) (notification_of (attempt_of setup served.run.standing found there.0)) there.0);
         lead = ap (λ (o : Option Found). (offer_found setup world 0 served.run.standing o).0) offers ∙ ap (λ (o : Option Delivery). (offer_to setup world 0 served.run.standing found o).0) there.1;
-        have = set_posts deliveries served.posts its there.0 (after_offer (answer_of there.0) (notification_of (attempt_of setup served.run.standing found there.0)) there.0) (posts.after_offer false (answer_of there.0)) there.1
-            (offered_post (answer_of there.0) (notification_of (attempt_of setup served.run.standing found there.0)) there.0) have;
+        have = set_posts deliveries served.posts its there.0 (delivery_after (queue_answer there.0) (notification_of (attempt_of setup served.run.standing found there.0)) there.0) (posts.after_offer false (queue_answer there.0)) there.1
+            (offered_post (queue_answer there.0) (notification_of (attempt_of setup served.run.standing found there.0)) there.0) have;
       }
 
       -- whether it is the receiver that takes at once
@@ -250,7 +251,7 @@ module _ (finds : FindsFirst) (c : Content) (q : Queueing) (places : List ℕ) (
 
       -- an offer, after which an automatic receiver takes what was accepted
       offer_leads : LeadTo setup world journal (served_settled c q found served).run.standing (served_settled c q found served).posts
-      offer_leads = subst (λ (answer : Answer). LeadTo setup world journal (After answer) (Posts q.automatic answer)) same_answer (taken_by_itself (q.automatic its) refl (answer_of there.0) offered)
+      offer_leads = subst (λ (answer : Answer). LeadTo setup world journal (After answer) (Posts q.automatic answer)) same_answer (taken_by_itself (q.automatic its) refl (queue_answer there.0) offered)
 
     mutual_offers : (k : ℕ) (served : Served) (o : Option Found) → waits c served.run ≡ o → (deliveries : List Delivery) → Holds setup (with_one_worker journal served.run.standing deliveries) → AreCountedBy deliveries served.posts
         → ((next : Served) (others : List Delivery) → Holds setup (with_one_worker journal next.run.standing others) → AreCountedBy others next.posts → LeadTo setup (with_one_worker journal next.run.standing others) journal (offers_on c q k next).run.standing (offers_on c q k next).posts)
@@ -292,7 +293,7 @@ module _ (finds : FindsFirst) (c : Content) (q : Queueing) (places : List ℕ) (
       deliveries = deliveries;
       lead = λ i. (absorb_next setup (with_one_worker grown standing deliveries) 0 standing (idle i) ((ap (λ (n : ℕ). slice_get grown n) position ∙ get_last past m) i)).0;
       have = λ x delivery at.
-          let many : length deliveries ≡ length places = sym (length_map (λ (d : Delivery). d.places) deliveries) ∙ ap (λ (ns : List ℕ). length ns) h.places in
+          let many : length deliveries ≡ length places = sym (length-map deliveries (λ (d : Delivery). d.places)) ∙ ap (λ (ns : List ℕ). length ns) h.places in
           let within : x < length deliveries = slice_get_within deliveries x delivery at in
           have x delivery at ∙ below_taken (length places) counts served.posts x (omega (arith, many, within));
     }

@@ -1,6 +1,7 @@
 -- Where all that holds of the world holds, each receiver is served, and all that is promised holds.
 use Rattle.std.proofs.Common.{◌≡◌, ℕ, ◌<◌, sym, ap, subst, ◌∙◌, true, List, [], ◌∷◌, ◌++◌, length, drop, Option, arith}
 use Rattle.std.specs.Prelude.{◌%◌, option_map}
+use Rattle.std.proofs.lemmas.List.{length-map}
 use Rattle.std.specs.List.{AllByRecursion, slice_get}
 use Rattle.std.proofs.lemmas.List.{take-append-drop}
 use Rattle.std.proofs.lemmas.Option.{slice_get-map}
@@ -19,7 +20,7 @@ use Rattle.yp_world.specs.Holding.{AreOf, Holds, IsDeliveryOf, absorbed_by}
 use Rattle.yp_world.specs.TakenLaws.{number_is, sub_parts}
 use Rattle.yp_world.specs.World.{Delivery, Setup, World, worker_of}
 use Rattle.yp_world.proofs.Copies.{CopyLaws, copies_begin_full, copies_selections, never_falls}
-use Rattle.yp_world.proofs.Elements.{get_below, length_map}
+use Rattle.yp_world.proofs.Elements.{get_below}
 use Rattle.yp_world.proofs.Parts.{RunLaws, its_delivery, own_attempts, own_part, own_reaches, own_replay}
 
 -- ---- the laws that are rested on
@@ -104,7 +105,7 @@ module _ (copies : CopyLaws) (laws : AttemptLaws) (runs : RunLaws) (setup : Setu
 
   pub served : IsServed setup world receiver
   served =
-      let many : length world.deliveries ≡ length setup.places = sym (length_map (λ (d : Delivery). d.places) world.deliveries) ∙ ap (λ (ns : List ℕ). length ns) h.places in
+      let many : length world.deliveries ≡ length setup.places = sym (length-map world.deliveries (λ (d : Delivery). d.places)) ∙ ap (λ (ns : List ℕ). length ns) h.places in
       let less : receiver % setup.workers < setup.workers = less_workers receiver setup.workers some in
       let workers : length world.standings ≡ setup.workers = h.workers in
       let its = get_below world.deliveries receiver (omega (arith, many, small)) in

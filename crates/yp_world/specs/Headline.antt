@@ -21,8 +21,8 @@ told_after c t [] = t
 told_after c t (n ∷ later) = told_after c (after_body c t n.made.position n.made.body) later
 
 -- what it knows of a subscription by all that it took
-abbrev pub told_of : Content → ℕ → List Notification → Told
-told_of c sub got = told_after c told_nothing (filter (λ n. n.sub == sub) got)
+abbrev pub known_of : Content → ℕ → List Notification → Told
+known_of c sub got = told_after c told_nothing (filter (λ n. n.sub == sub) got)
 
 -- whether a notification is an update of a subscription
 abbrev pub is_update_of : ℕ → Notification → Bool
@@ -31,7 +31,7 @@ is_update_of sub n = (n.sub == sub) && is_update n.made.body
 -- after each update of a mirrored subscription its copy is what is selected at the position at which the update was made
 abbrev pub CopiesSelections : Content → Story → List Notification → Type 0
 CopiesSelections c story got = (sub : ℕ) → story.mirrored sub ≡ true → (before : List Notification) (update : Notification) (after : List Notification) → got ≡ before ++ update ∷ after → is_update_of sub update ≡ true
-    → (told_of c sub (before ++ update ∷ [])).rows ≡ story.want sub update.made.position
+    → (known_of c sub (before ++ update ∷ [])).rows ≡ story.want sub update.made.position
 
 -- the first update of a mirrored subscription is a full one
 abbrev pub CopiesBeginFull : Story → List Notification → Type 0

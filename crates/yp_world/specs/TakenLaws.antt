@@ -93,6 +93,3 @@ sub_parts id front a back mine =
 
 pub number_is : (a : ℕ) → (a == a) ≡ true
 number_is a = grind arith
-
-pub same_number : (a b : ℕ) → (a == b) ≡ true → a ≡ b
-same_number a b e = grind (arith, e)

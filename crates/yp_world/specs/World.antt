@@ -106,31 +106,31 @@ abbrev pub post_of : Delivery → Post
 post_of delivery = record { held = length delivery.queue; taken = length delivery.taken }
 
 -- what the queue answers: it accepts where it has a free place
-abbrev pub answer_of : Delivery → Answer
-answer_of delivery = answer_by delivery.places (post_of delivery)
+abbrev pub queue_answer : Delivery → Answer
+queue_answer delivery = answer_by delivery.places (post_of delivery)
 
 -- what is delivered after an answer: what is accepted stands last in the queue
-abbrev pub after_offer : Answer → Notification → Delivery → Delivery
-after_offer Took notification delivery = record delivery { queue = delivery.queue ++ notification ∷ []; answers = delivery.answers ++ Took ∷ [] }
-after_offer Full notification delivery = record delivery { answers = delivery.answers ++ Full ∷ [] }
+abbrev pub delivery_after : Answer → Notification → Delivery → Delivery
+delivery_after Took notification delivery = record delivery { queue = delivery.queue ++ notification ∷ []; answers = delivery.answers ++ Took ∷ [] }
+delivery_after Full notification delivery = record delivery { answers = delivery.answers ++ Full ∷ [] }
 
-abbrev pub told : Attempt → Answer → Happened
-told a Took = Accepted a.receiver a.at
-told a Full = MetFull a.receiver a.sub a.at
+abbrev pub comes_of : Attempt → Answer → Happened
+comes_of a Took = Accepted a.receiver a.at
+comes_of a Full = MetFull a.receiver a.sub a.at
 
 -- the attempt of what is found, with the answer of the queue to which it is offered
 abbrev pub attempt_of : Setup → Standing → Found → Delivery → Attempt
-attempt_of setup standing found delivery = attempt setup.content standing.position standing.stamp found.track found.item (answer_of delivery)
+attempt_of setup standing found delivery = attempt setup.content standing.position standing.stamp found.track found.item (queue_answer delivery)
 
 -- what is found is offered to the queue of its receiver, and the worker is told the answer
 abbrev pub offer_to : Setup → World → ℕ → Standing → Found → Option Delivery → World × Happened
 offer_to setup world worker standing found None = (world, Nothing)
 offer_to setup world worker standing found (Some delivery) = (
   record world {
-    standings = slice_set world.standings worker (record standing { tracks = settled setup.content standing found (answer_of delivery) });
-    deliveries = slice_set world.deliveries found.track.feed.receiver (after_offer (answer_of delivery) (notification_of (attempt_of setup standing found delivery)) delivery);
+    standings = slice_set world.standings worker (record standing { tracks = settled setup.content standing found (queue_answer delivery) });
+    deliveries = slice_set world.deliveries found.track.feed.receiver (delivery_after (queue_answer delivery) (notification_of (attempt_of setup standing found delivery)) delivery);
   },
-  told (attempt_of setup standing found delivery) (answer_of delivery),
+  comes_of (attempt_of setup standing found delivery) (queue_answer delivery),
 )
 
 abbrev pub offer_found : Setup → World → ℕ → Standing → Option Found → World × Happened
