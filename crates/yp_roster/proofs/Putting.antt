@@ -10,7 +10,7 @@ use Rattle.yp_attempt.specs.Runs.{AreById}
 use Rattle.yp_attempt.specs.Tracks.{Track}
 use Rattle.yp_slot.specs.declared.classes.Class.{Class}
 use Rattle.yp_slot.specs.declared.slot.Slot.{Slot}
-use Rattle.yp_slot.specs.Classes.{HasClass, KeepNumbers, Member, member_of}
+use Rattle.yp_slot.specs.Classes.{HasClass, KeepNumbers, member_of}
 use Rattle.yp_roster.specs.Ordered.{AreClassesOf, AreSlotsOf}
 use Rattle.yp_roster.specs.Passed.{place_from, with_new, with_tracks}
 use Rattle.yp_roster.proofs.Begun.{slots_joined}

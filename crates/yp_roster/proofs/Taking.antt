@@ -1,19 +1,17 @@
 -- What a roster stands for after an entry.
-use Rattle.std.proofs.Common.{◌≡◌, ℕ, ◌+◌, ◌≤◌, refl, sym, ap, subst, ◌∙◌, Bool, true, false, not, List, [], ◌∷◌, ◌++◌, map, arith}
+use Rattle.std.proofs.Common.{◌≡◌, ℕ, ◌+◌, ◌≤◌, refl, sym, ap, subst, ◌∙◌, Bool, true, false, not, List, [], ◌∷◌, ◌++◌, map}
 use Rattle.std.specs.Prelude.{filter, if◌then◌else◌, nat_lt}
-use Rattle.std.specs.List.{AllByRecursion}
 use Rattle.std.proofs.lemmas.List.{map-append}
-use Rattle.yp_base.specs.declared.notice.Trigger.{Trigger}
 use Rattle.yp_schema.specs.declared.schema.SchemaNode.{SchemaNode}
 use Rattle.yp_terms.specs.Terms.{Terms}
 use Rattle.yp_feed.specs.declared.item.Control.TheVariants.{Rules}
-use Rattle.yp_feed.specs.Machine.{FeedState, after_freeze, controlled, freezes, frozen, restarted}
+use Rattle.yp_feed.specs.Machine.{FeedState, after_freeze, freezes, frozen, restarted}
 use Rattle.yp_journal.specs.declared.command.Command.{Command}
 use Rattle.yp_journal.specs.declared.command.Command.TheVariants.{Tick, Edit, Rules as Policies, Establish, Modify, Delete, Kill, Resync, Configure, Reconfigure, Unconfigure, Take}
 use Rattle.yp_journal.specs.History.{JournalState, next_state}
 use Rattle.yp_attempt.specs.ListLaws.{all_map}
-use Rattle.yp_attempt.specs.Moments.{Moment, Act, Starts, after_act, after_moment, after_rules, is_kept_by, new_track, with_control}
-use Rattle.yp_attempt.specs.Runs.{AreById, Run, Standing, with_started}
+use Rattle.yp_attempt.specs.Moments.{Moment, Act, Starts, after_act, after_moment, after_rules, is_kept_by, with_control}
+use Rattle.yp_attempt.specs.Runs.{AreById, Standing, with_started}
 use Rattle.yp_attempt.specs.TrackLaws.{act_same}
 use Rattle.yp_attempt.specs.Tracks.{Answer, Track, freeze_tried, rebased, roots_in}
 use Rattle.yp_attempt.specs.Workers.{Stands, takes}

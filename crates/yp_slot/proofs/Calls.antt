@@ -1,5 +1,5 @@
 -- What a command finds of a subscription to which it does something, and that it leaves all others.
-use Rattle.std.proofs.Common.{◌≡◌, ℕ, refl, sym, ap, subst, ◌∙◌, Bool, true, false, true≢false, not, List, ◌∷◌, [], ◌++◌, Option, Some, None, Result, Ok}
+use Rattle.std.proofs.Common.{◌≡◌, ℕ, refl, sym, ap, subst, ◌∙◌, Bool, true, false, true≢false, not, List, ◌∷◌, [], ◌++◌, Option, Some, None, Ok}
 use Rattle.std.specs.Prelude.{◌==◌, ◌≢◌, nat_eq, option_map}
 use Rattle.std.specs.Option.{IsSomeAnd, option_or}
 use Rattle.std.proofs.lemmas.Bool.{eqb-false, eqb-true}

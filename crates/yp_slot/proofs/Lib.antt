@@ -4,5 +4,6 @@ pub mod Standing
 pub mod Looks
 pub mod Going
 pub mod Quiet
+pub mod Ended
 pub mod Calls
 pub mod Entering

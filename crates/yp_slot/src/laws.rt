@@ -1,13 +1,16 @@
 //! Laws of slots; nothing runs.
 ghost use Rattle.std.specs.Prelude.{◌≡◌, ℕ, [], Bool, false, length, List, None, Some};
 ghost use Rattle.yp_base.specs.declared.notice.Trigger.{Trigger};
+ghost use Rattle.yp_filter.specs.View.{filter_view};
+ghost use Rattle.yp_select.specs.Selection.{selection};
+ghost use Rattle.yp_feed.specs.declared.item.Item.TheVariants.{Periodic, Sync};
 ghost use Rattle.yp_feed.specs.declared.item.Control.TheVariants.{End, Modify, Resync};
 ghost use Rattle.yp_registry.specs.Registry.{live_at};
 ghost use Rattle.yp_terms.specs.Terms.{AreTermsOf, Terms};
 ghost use Rattle.yp_schema.specs.declared.schema.SchemaNode.{SchemaNode};
-ghost use Rattle.yp_journal.specs.History.{JournalState};
+ghost use Rattle.yp_journal.specs.History.{JournalState, may_read};
 ghost use Rattle.yp_attempt.specs.Moments.{Controls};
-ghost use Rattle.yp_attempt.specs.Tracks.{Track, freeze_tried, offered_item};
+ghost use Rattle.yp_attempt.specs.Tracks.{Track, current, freeze_tried, offered_item};
 ghost use Rattle.yp_attempt.specs.Workers.{ready};
 ghost use Rattle.yp_moment.specs.Windows.{recorded};
 ghost use Rattle.yp_slot.specs.declared.classes.Class.{Class};
@@ -42,6 +45,15 @@ pub fn a_quiet_slot_was_looked_at()
 {
     absorbed_roots_are_those_of_the_window();
 }
+
+/// What a slot's filter selects for its receiver is what its track has last, where that offers all that is
+/// selected: the subscription is live then.
+pub fn a_slot_offers_all_that_is_selected()
+    ensures sync { (nodes : List SchemaNode) (state : JournalState) (slot : Slot) (track : Track) (stamp : ℕ) → IsSlotOf nodes state slot track → offered_item recorded stamp track ≡ Some Sync
+        → selection nodes (filter_view slot.filter) (may_read nodes state slot.feed.receiver) state.rows ≡ current track }
+    ensures periodic { (nodes : List SchemaNode) (state : JournalState) (slot : Slot) (track : Track) (stamp : ℕ) → IsSlotOf nodes state slot track → offered_item recorded stamp track ≡ Some Periodic
+        → selection nodes (filter_view slot.filter) (may_read nodes state slot.feed.receiver) state.rows ≡ current track }
+{}
 
 /// What an entry finds of the subscription to which it does something: one that goes on by other terms or is
 /// synchronised again was live before it, and the latter leaves each subscription as it is; one that ends has

@@ -97,7 +97,8 @@ pub(crate) fn follow_with<L: Ledger>(
     Ok(())
 }
 
-/// Whether all that is selected stays as it was by an entry: users read alike, and no row is changed.
+/// Whether all that is selected is kept past an entry: users read alike, and no row is changed. What is no
+/// longer asked for is let go where subscriptions are modified or end.
 fn keeps_selections(command: &Command, changed: &Changed) -> bool
     ensures { result ≡ true → (nodes : List SchemaNode) (before after : JournalState) (contents : List SelectedThere)
         → AreInOrder before.rows → AreInOrder after.rows → after ≡ next_state nodes before command.now → changed.now ≡ changed_rows before.rows after.rows
@@ -108,7 +109,14 @@ fn keeps_selections(command: &Command, changed: &Changed) -> bool
         Command::Edit(_) => changed.items().is_empty(),
         Command::Tick(_) => true,
         Command::Establish { .. } => true,
+        Command::Configure { .. } => true,
+        Command::Resync { .. } => true,
         Command::Take { .. } => true,
+        Command::Modify { .. } => false,
+        Command::Reconfigure { .. } => false,
+        Command::Delete { .. } => false,
+        Command::Kill { .. } => false,
+        Command::Unconfigure { .. } => false,
     }
 }
 

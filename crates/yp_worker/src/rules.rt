@@ -33,10 +33,7 @@ pub(crate) fn renewed_readers(
 {
     match command {
         Command::Rules(_) => Ok(Some(readers_at(alloc, state)?)),
-        Command::Tick(_) => Ok(None),
-        Command::Edit(_) => Ok(None),
-        Command::Establish { .. } => Ok(None),
-        Command::Take { .. } => Ok(None),
+        _ => Ok(None),
     }
 }
 

@@ -4,10 +4,11 @@ ghost use Rattle.yp_base.specs.declared.notice.Notice.TheVariants.{Changes as Ch
 ghost use Rattle.yp_schema.specs.declared.schema.SchemaNode.{SchemaNode};
 ghost use Rattle.yp_encode.specs.Sendable.{IsSendable};
 ghost use Rattle.yp_time.specs.Ticks.{tick_limit};
-ghost use Rattle.yp_attempt.specs.Tracks.{All, Edits, Notice as NoticeBody, Track, current, item_made, made_frozen, made_here};
+ghost use Rattle.yp_filter.specs.View.{filter_view};
+ghost use Rattle.yp_attempt.specs.Tracks.{All, Edits, Notice as NoticeBody, Track, item_made, made_frozen, made_here};
 ghost use Rattle.yp_moment.specs.Windows.{recorded};
 ghost use Rattle.yp_slot.specs.Slots.{IsSendableRecord, IsKeptAt, IsOffered, IsOfferOf, IsPresent, IsSlotOf, frozen_of};
-ghost use Rattle.yp_worker.specs.Contents.{AreSelected};
+ghost use Rattle.yp_worker.specs.Contents.{AreSelected, selected};
 ghost use Rattle.yp_worker.specs.Packets.{IsTextOf, said_of};
 ghost use Rattle.yp_moment.specs.Notices.{state_notice};
 
@@ -22,6 +23,7 @@ use yp_base::txt::Txt;
 use yp_feed::item::Item;
 use yp_queue::packet::PacketKind;
 use yp_select::laws::filtered_selection_can_be_written;
+use yp_slot::laws::a_slot_offers_all_that_is_selected;
 use yp_slot::present::Present;
 use yp_slot::records::Record;
 use yp_slot::slot::{Frozen, Slot};
@@ -102,8 +104,7 @@ fn say_all<L: Ledger>(
     requires present { IsPresent present.now.schema.now present.now.state.now present.now.readers.now }
     requires kept { IsKeptAt present.now.schema.now present.now.state.now slot.now }
     requires contents { AreSelected present.now.schema.now present.now.state.now contents.old.items }
-    ensures said { IfOk result (λ worded. (track : Track) → IsSlotOf present.now.schema.now present.now.state.now slot.now track
-        → worded.said ≡ said_of slot.now.feed.sub (made_here present.now.state.now.position present.now.state.now.stamp (All (current track)))) }
+    ensures said { IfOk result (λ worded. worded.said ≡ said_of slot.now.feed.sub (made_here present.now.state.now.position present.now.state.now.stamp (All (selected present.now.schema.now present.now.state.now (filter_view slot.now.filter) slot.now.feed.receiver)))) }
     ensures tick { IfOk result (λ worded. worded.said.tick ≤ tick_limit) }
     ensures sendable { IfOk result (λ worded. IsSendable present.now.schema.now worded.said.notice) }
     ensures carried { IfOk result (λ worded. IfSome worded.carried (IsTextOf present.now.schema.now worded.said.notice)) }
@@ -196,6 +197,7 @@ pub(crate) fn say<L: Ledger>(
     ensures carried { IfOk result (λ worded. IfSome worded.carried (IsTextOf present.now.schema.now worded.said.notice)) }
     ensures contents { OnOk result (AreSelected present.now.schema.now present.now.state.now contents.new.items) }
 {
+    a_slot_offers_all_that_is_selected();
     match item {
         Item::Sync => say_all(alloc, present, slot, contents, steps),
         Item::Periodic => say_all(alloc, present, slot, contents, steps),

@@ -27,7 +27,7 @@ use yp_journal::laws::{
     a_journal_goes_on_entry_by_entry, a_journal_keeps_users_and_names, a_legal_journal_goes_on,
 };
 use yp_journal::state::{Outcome, State};
-use yp_registry::laws::ids_rise;
+use yp_registry::laws::{ids_rise, ids_rise_after_each_call};
 use yp_roster::laws::a_roster_follows_a_journal;
 use yp_roster::roster::Roster;
 use yp_schema::schema::Schema;
@@ -52,6 +52,7 @@ fn accept_into(
     ensures sound { OnOk result (IsStateOf schema.now state.new) }
 {
     ids_rise();
+    ids_rise_after_each_call();
     a_journal_keeps_users_and_names();
     let outcome = state.accept(alloc, schema, command)?;
     Ok(outcome)

@@ -1,8 +1,7 @@
-use Rattle.std.proofs.Common.{◌≡◌, Bool, length, ap, sym, subst, ◌∙◌, arith}
+use Rattle.std.proofs.Common.{sym, ◌∙◌}
 use Rattle.std.specs.Prelude.{nat_le}
 use Rattle.yp_slot.specs.declared.slot.Slot.{Slot}
-use Rattle.yp_roster.specs.Passed.{place_from}
-use Rattle.yp_roster.proofs.Putting.{no_place, place_within, some_place}
+use Rattle.yp_roster.proofs.Putting.{no_place, some_place}
 use Rattle.yp_roster.proofs.starting.place_from.Goals as goal
 
 pub returns-in-Some-clause-place : goal.returns-in-Some-clause-place

@@ -1,4 +1,4 @@
-use Rattle.std.proofs.Common.{◌≡◌, ℕ, List, [], ap, sym, subst, ◌∙◌}
+use Rattle.std.proofs.Common.{ℕ, List, [], ap, sym, subst, ◌∙◌}
 use Rattle.yp_slot.specs.declared.slot.Slot.{Slot}
 use Rattle.yp_slot.specs.ResultLaws.{when_ok}
 use Rattle.yp_roster.specs.Ordered.{AreClassesOf, AreSlotsOf}

@@ -1,5 +1,5 @@
 use Rattle.std.proofs.Common.{◌≡◌, ℕ, ap, sym, ◌∙◌}
-use Rattle.yp_attempt.specs.Moments.{Act, Controls}
+use Rattle.yp_attempt.specs.Moments.{Controls}
 use Rattle.yp_feed.specs.declared.item.Control.TheVariants.{Modify}
 use Rattle.yp_moment.specs.Entries.{goes_on_with}
 use Rattle.yp_registry.specs.Registry.{live_at}

@@ -1,4 +1,4 @@
-use Rattle.std.proofs.Common.{ap, sym, subst, length}
+use Rattle.std.proofs.Common.{subst, length}
 use Rattle.std.specs.List.{AllByRecursion}
 use Rattle.yp_terms.specs.Terms.{AreTermsOf}
 use Rattle.yp_slot.specs.LiveLaws.{found_has}

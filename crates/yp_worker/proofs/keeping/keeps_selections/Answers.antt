@@ -25,3 +25,13 @@ pub returns-in-Take : goal.returns-in-Take
 returns-in-Take c = λ yes nodes before after contents one other left differ are.
     let state = left ∙ ap (next_state nodes before) c.in-Take.is in
     selected_still nodes before after contents (ap (λ (s : JournalState). s.rows) state) (ap (λ (s : JournalState). s.policy) state) (ap (λ (s : JournalState). s.receivers) state) are
+
+pub returns-in-Configure : goal.returns-in-Configure
+returns-in-Configure c = λ yes nodes before after contents one other left differ are.
+    let state = left ∙ ap (next_state nodes before) c.in-Configure.is in
+    selected_still nodes before after contents (ap (λ (s : JournalState). s.rows) state) (ap (λ (s : JournalState). s.policy) state) (ap (λ (s : JournalState). s.receivers) state) are
+
+pub returns-in-Resync : goal.returns-in-Resync
+returns-in-Resync c = λ yes nodes before after contents one other left differ are.
+    let state = left ∙ ap (next_state nodes before) c.in-Resync.is in
+    selected_still nodes before after contents (ap (λ (s : JournalState). s.rows) state) (ap (λ (s : JournalState). s.policy) state) (ap (λ (s : JournalState). s.receivers) state) are

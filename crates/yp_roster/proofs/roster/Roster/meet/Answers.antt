@@ -1,10 +1,9 @@
-use Rattle.std.proofs.Common.{◌≡◌, ℕ, List, map, ap, refl, subst, sym, ◌∙◌}
+use Rattle.std.proofs.Common.{List, map, ap, refl, subst, sym, ◌∙◌}
 use Rattle.std.specs.Prelude.{filter}
 use Rattle.yp_journal.specs.History.{JournalState}
 use Rattle.yp_attempt.specs.Moments.{Act, is_kept_by}
 use Rattle.yp_attempt.specs.Tracks.{Track}
-use Rattle.yp_slot.specs.Steps.{act_said, entered_moment, entered_track, touches}
-use Rattle.yp_slot.specs.ResultLaws.{when_ok}
+use Rattle.yp_slot.specs.Steps.{act_said, entered_track, touches}
 use Rattle.yp_roster.specs.Ordered.{AreSlotsOf}
 use Rattle.yp_roster.proofs.Classed.{classes_alike}
 use Rattle.yp_roster.proofs.Entered.{all_kept, kept_all, pass_quietly}

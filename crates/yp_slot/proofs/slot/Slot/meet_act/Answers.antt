@@ -1,11 +1,10 @@
-use Rattle.std.proofs.Common.{◌≡◌, ℕ, List, Some, Bool, true, false, not, ◌∙◌, ap, length, sym, subst}
+use Rattle.std.proofs.Common.{◌≡◌, ℕ, Some, false, ◌∙◌, ap, length, sym, subst}
 use Rattle.std.specs.Prelude.{◌==◌}
 use Rattle.std.proofs.lemmas.Bool.{ne_eqb, not-true}
 use Rattle.yp_feed.specs.declared.item.Control.TheVariants.{End, Modify, Resync}
 use Rattle.yp_feed.specs.Machine.{FeedState}
 use Rattle.yp_journal.specs.History.{JournalState}
 use Rattle.yp_registry.specs.Registry.{live_at}
-use Rattle.yp_terms.specs.Terms.{Terms}
 use Rattle.yp_attempt.specs.Moments.{Act, Controls, Drops, is_kept_by, with_control}
 use Rattle.yp_attempt.specs.Tracks.{Track}
 use Rattle.yp_slot.specs.declared.acts.Act.{Act as ActHere}

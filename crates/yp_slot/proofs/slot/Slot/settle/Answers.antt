@@ -1,4 +1,4 @@
-use Rattle.std.proofs.Common.{◌≡◌, Bool, false, ◌∙◌, ap, sym, subst}
+use Rattle.std.proofs.Common.{◌≡◌, false, ◌∙◌, ap, sym, subst}
 use Rattle.yp_feed.specs.Machine.{FeedState, is_terminated, rebases, refused, taken}
 use Rattle.yp_attempt.specs.Tracks.{Answer, Took, Full}
 use Rattle.yp_attempt.specs.Workers.{answered_alone}
