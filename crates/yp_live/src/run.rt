@@ -113,6 +113,13 @@ fn take_by(alloc: Global, command: &Command, desks: &mut Vec<Desk>) -> Result<()
         Command::Edit(_) => Ok(()),
         Command::Rules(_) => Ok(()),
         Command::Establish { .. } => Ok(()),
+        Command::Modify { .. } => Ok(()),
+        Command::Delete { .. } => Ok(()),
+        Command::Kill { .. } => Ok(()),
+        Command::Resync { .. } => Ok(()),
+        Command::Configure { .. } => Ok(()),
+        Command::Reconfigure { .. } => Ok(()),
+        Command::Unconfigure { .. } => Ok(()),
     }
 }
 

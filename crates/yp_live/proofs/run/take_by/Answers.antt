@@ -44,3 +44,24 @@ returns-in-Rules c = none_took c.args.command.now (λ n. ap (λ (k : Command). t
 
 pub returns-in-Establish : goal.returns-in-Establish
 returns-in-Establish c = none_took c.args.command.now (λ n. ap (λ (k : Command). taken_by k n) c.in-Establish.is) 0 c.args.desks.now.items
+
+pub returns-in-Modify : goal.returns-in-Modify
+returns-in-Modify c = none_took c.args.command.now (λ n. ap (λ (k : Command). taken_by k n) c.in-Modify.is) 0 c.args.desks.now.items
+
+pub returns-in-Delete : goal.returns-in-Delete
+returns-in-Delete c = none_took c.args.command.now (λ n. ap (λ (k : Command). taken_by k n) c.in-Delete.is) 0 c.args.desks.now.items
+
+pub returns-in-Kill : goal.returns-in-Kill
+returns-in-Kill c = none_took c.args.command.now (λ n. ap (λ (k : Command). taken_by k n) c.in-Kill.is) 0 c.args.desks.now.items
+
+pub returns-in-Resync : goal.returns-in-Resync
+returns-in-Resync c = none_took c.args.command.now (λ n. ap (λ (k : Command). taken_by k n) c.in-Resync.is) 0 c.args.desks.now.items
+
+pub returns-in-Configure : goal.returns-in-Configure
+returns-in-Configure c = none_took c.args.command.now (λ n. ap (λ (k : Command). taken_by k n) c.in-Configure.is) 0 c.args.desks.now.items
+
+pub returns-in-Reconfigure : goal.returns-in-Reconfigure
+returns-in-Reconfigure c = none_took c.args.command.now (λ n. ap (λ (k : Command). taken_by k n) c.in-Reconfigure.is) 0 c.args.desks.now.items
+
+pub returns-in-Unconfigure : goal.returns-in-Unconfigure
+returns-in-Unconfigure c = none_took c.args.command.now (λ n. ap (λ (k : Command). taken_by k n) c.in-Unconfigure.is) 0 c.args.desks.now.items
