@@ -1,5 +1,6 @@
 //! The cause of a line's fault, in words.
 use crate::before::Before;
+use crate::calls::call_cause;
 use crate::forms::{form_name, members_of, place_of, range_of};
 use crate::lines::{Lines, json_of};
 use crate::members::names_cause;
@@ -124,13 +125,6 @@ fn unknown_cause(alloc: Global, name: &str) -> Result<String, NoMemory> {
     if name == "lane" {
         return own(alloc, "`do` is an object of one member, which is a command");
     }
-    let is_later = matches!(
-        name,
-        "modify" | "delete" | "kill" | "resync" | "configure" | "reconfigure" | "unconfigure"
-    );
-    if is_later {
-        return Ok(format!(in alloc; "`{name}` is not built yet")?);
-    }
     Ok(format!(in alloc; "no line is called `{name}`")?)
 }
 
@@ -248,8 +242,7 @@ fn member_cause(
     let names = match name {
         "receiver" => names_cause(alloc, value, "name user queue take", "")?,
         "take" => names_cause(alloc, value, "receiver count", "")?,
-        "establish" => establish_cause(alloc, value)?,
-        _ => None,
+        _ => call_cause(alloc, name, value)?,
     };
     if let Some(cause) = names {
         return Ok(cause);
@@ -270,7 +263,7 @@ fn receiver_cause(
     let member = match name {
         "receiver" => "name",
         "take" => "receiver",
-        "establish" => "by",
+        "establish" | "modify" | "delete" | "kill" | "resync" => "by",
         _ => return Ok(None),
     };
     let Some(text) = text_in(value, member) else {
@@ -286,34 +279,4 @@ fn receiver_cause(
         None if name != "receiver" => Some(format!(in alloc; "no receiver is called `{text}`")?),
         _ => None,
     })
-}
-
-/// What is wrong with the names of the members of a line that asks for a subscription.
-fn establish_cause(alloc: Global, value: &Json) -> Result<Option<String>, NoMemory> {
-    let names = names_cause(
-        alloc,
-        value,
-        "by datastore",
-        "encoding datastore-subtree-filter datastore-xpath-filter periodic on-change",
-    )?;
-    if names.is_some() {
-        return Ok(names);
-    }
-    let subtree = member(value, "datastore-subtree-filter").is_some();
-    if subtree && member(value, "datastore-xpath-filter").is_some() {
-        return Ok(Some(own(alloc, "it has two filters")?));
-    }
-    match (member(value, "periodic"), member(value, "on-change")) {
-        (Some(terms), None) => names_cause(alloc, terms, "period", "anchor-time"),
-        (None, Some(terms)) => names_cause(
-            alloc,
-            terms,
-            "",
-            "dampening-period sync-on-start excluded-change",
-        ),
-        _ => Ok(Some(own(
-            alloc,
-            "it has not exactly one of `periodic` and `on-change`",
-        )?)),
-    }
 }

@@ -47,8 +47,19 @@ pub fn members_of(name: &str) -> &'static str {
         "tick" => "`tick` is a whole number, without a point or an exponent",
         "take" => "`receiver` is a text, and `count` a whole number",
         "establish" => {
-            "`by`, `datastore`, `encoding` and an XPath filter are texts, `period` and `dampening-period` whole numbers, `sync-on-start` is `true` or `false`, and `excluded-change` an array of operations, each once"
+            "`by`, `datastore`, `encoding`, `anchor-time` and an XPath filter are texts, `period` and `dampening-period` whole numbers, `sync-on-start` is `true` or `false`, and `excluded-change` an array of operations, each once"
         }
+        "modify" => {
+            "`by`, `anchor-time` and an XPath filter are texts, and `id`, `period` and `dampening-period` whole numbers"
+        }
+        "delete" | "kill" | "resync" => "`by` is a text, and `id` a whole number",
+        "configure" => {
+            "`datastore`, `encoding`, `anchor-time` and an XPath filter are texts, `id`, `period` and `dampening-period` whole numbers, `sync-on-start` is `true` or `false`, and `excluded-change` an array of operations, each once"
+        }
+        "reconfigure" => {
+            "`anchor-time` and an XPath filter are texts, and `id`, `period` and `dampening-period` whole numbers"
+        }
+        "unconfigure" => "`id` is a whole number",
         _ => "compare it with docs/SCRIPT.md",
     }
 }
@@ -61,6 +72,10 @@ pub fn range_of(name: &str) -> &'static str {
         "lane" => "`lane` is 1 to the number of lanes",
         "tick" => "`tick` is 0 to 1,000,000,000,000",
         "take" => "`count` is 1 to 32",
+        "delete" | "kill" | "resync" | "unconfigure" => "`id` is 0 to 4,294,967,295",
+        "modify" | "configure" | "reconfigure" => {
+            "`id`, `period` and `dampening-period` are 0 to 4,294,967,295"
+        }
         _ => "`period` and `dampening-period` are 0 to 4,294,967,295",
     }
 }

@@ -3,6 +3,7 @@
 #![tactic(auto)]
 
 mod before;
+mod calls;
 mod causes;
 mod edits;
 mod explain;
