@@ -3,6 +3,7 @@
 //! add one.
 #![tactic(auto)]
 
+mod asks;
 mod calls;
 mod filters;
 mod frame;
@@ -13,6 +14,7 @@ mod policies;
 mod registries;
 mod selections;
 mod shown;
+mod subscriptions;
 mod windows;
 
 use std::{io, str};

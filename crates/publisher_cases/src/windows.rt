@@ -7,9 +7,9 @@ ghost use Rattle.yp_filter.specs.Fits.{filter_fits};
 ghost use Rattle.yp_filter.specs.View.{filter_view};
 ghost use Rattle.yp_touch.specs.Absorbed.{EndsAsRow, paths_of};
 
+use crate::asks::no_kinds;
 use crate::calls::Setting;
 use crate::given::{BadArgument, items, part, text};
-use crate::registries::no_kinds;
 use crate::selections::{Asked, asked_of};
 use crate::shown::{Answer, push_comma, push_quoted};
 use serde_json::Value as Json;
