@@ -11,7 +11,9 @@ ghost use Rattle.yp_data_json.specs.AtPath.{leaf_row, named_entry, named_value, 
 
 use crate::fault::DataFault;
 use crate::keys::{atom_of, read_keys, value_of};
-use crate::reading::{enter, only_key, path_below, read_datastore, read_members, read_node};
+use crate::reading::{
+    enter, enter_entry, only_key, path_below, read_datastore, read_members, read_node,
+};
 use serde_json::{Map, Value as Json};
 use std::alloc::Global;
 use yp_base::atom::Keys;
@@ -21,7 +23,7 @@ use yp_base::payload::Payload;
 use yp_base::row::{Row, Rows, Value};
 use yp_base::series::Series;
 use yp_schema::schema::{Kind, Schema};
-use yp_tree::rising::Rising;
+use yp_tree::gathering::Gathering;
 
 /// Puts the rows of the list entry that a path names.
 fn read_named_entry(
@@ -31,7 +33,7 @@ fn read_named_entry(
     above: &Path,
     keys: &Keys,
     json: &Json,
-    rows: &mut Rising,
+    rows: &mut Gathering,
 ) -> Result<(), DataFault>
     requires { node < length schema.now }
     ensures { Leaves result rows.new (named_entry schema.now node above.now keys.now (view json.now) rows.old) }
@@ -42,8 +44,7 @@ fn read_named_entry(
             if found != *keys {
                 return Err(DataFault::InvalidValue);
             }
-            let path = path_below(alloc, above, node, found)?;
-            enter(alloc, path.copy(alloc)?, Value::Present, rows)?;
+            let path = enter_entry(alloc, above, node, found, rows)?;
             read_members(alloc, schema, Some(node), &path, members, rows)
         }
         _ => Err(DataFault::InvalidValue),
@@ -58,7 +59,7 @@ fn read_named_value(
     above: &Path,
     keys: &Keys,
     json: &Json,
-    rows: &mut Rising,
+    rows: &mut Gathering,
 ) -> Result<(), DataFault>
     requires { node < length schema.now }
     ensures { Leaves result rows.new (named_value schema.now node above.now keys.now (view json.now) rows.old) }
@@ -80,7 +81,7 @@ fn read_one(
     above: &Path,
     keys: &Keys,
     items: &Vec<Json>,
-    rows: &mut Rising,
+    rows: &mut Gathering,
 ) -> Result<(), DataFault>
     requires { node < length schema.now }
     ensures { Leaves result rows.new (one_of (items_view items.now.items) (λ d. named_entry schema.now node above.now keys.now d rows.old)) }
@@ -102,7 +103,7 @@ fn read_one_value(
     above: &Path,
     keys: &Keys,
     items: &Vec<Json>,
-    rows: &mut Rising,
+    rows: &mut Gathering,
 ) -> Result<(), DataFault>
     requires { node < length schema.now }
     ensures { Leaves result rows.new (one_of (items_view items.now.items) (λ d. named_value schema.now node above.now keys.now d rows.old)) }
@@ -124,7 +125,7 @@ fn read_named(
     above: &Path,
     keys: &Keys,
     json: &Json,
-    rows: &mut Rising,
+    rows: &mut Gathering,
 ) -> Result<(), DataFault>
     requires { node < length schema.now }
     ensures { Leaves result rows.new (named_read schema.now node above.now keys.now (view json.now) rows.old) }
@@ -151,7 +152,7 @@ fn read_outer(
     above: &Path,
     keys: &Keys,
     members: &Map<String, Json>,
-    rows: &mut Rising,
+    rows: &mut Gathering,
 ) -> Result<(), DataFault>
     requires within { node < length schema.now }
     requires name { name.now ≡ qualified_name (node_at node schema.now) }
@@ -167,7 +168,7 @@ fn read_outer(
 }
 
 /// The name of a node with its module's, `module:name`.
-fn qualified(alloc: Global, schema: &Schema, node: u32) -> Result<String, NoMemory>
+pub(crate) fn qualified(alloc: Global, schema: &Schema, node: u32) -> Result<String, NoMemory>
     requires { node < length schema.now }
     ensures { IfOk result (λ name. string_bytes name ≡ qualified_name (node_at node schema.now)) }
 {
@@ -202,7 +203,7 @@ fn read_object(
                 return Err(DataFault::InvalidValue);
             }
             let name = qualified(alloc, schema, node)?;
-            let mut rows = Rising::new(alloc);
+            let mut rows = Gathering::new(alloc);
             read_outer(
                 alloc,
                 schema,
@@ -283,7 +284,7 @@ fn read_node_rows(
     ensures { Gives result (named_read schema.now last.now.node above.now last.now.keys (view json.now) []) }
 {
     let above = path_of(alloc, above)?;
-    let mut rows = Rising::new(alloc);
+    let mut rows = Gathering::new(alloc);
     read_named(
         alloc, schema, last.node, &above, &last.keys, json, &mut rows,
     )?;

@@ -1,7 +1,9 @@
 //! The rows of a datastore's data.
-ghost use Rattle.std.specs.Prelude.{◌≡◌, ◌<◌, ◌∷◌, [], length, IfSome, IfOk};
+ghost use Rattle.std.specs.Prelude.{◌≡◌, ◌<◌, ◌∷◌, [], length, IfSome, IfOk, OnOk};
 ghost use Rattle.serde_json.specs.View.{view, members_view, items_view};
-ghost use Rattle.yp_data_json.specs.Reading.{Gives, Leaves, below, entered, leaf_read, value_read, leaf_list_read, members_read, node_read, entries_read, entry_read, datastore_read};
+ghost use Rattle.yp_base.specs.Rows.{put_row};
+ghost use Rattle.yp_base.specs.declared.row.Value.TheVariants.{Present};
+ghost use Rattle.yp_data_json.specs.Reading.{Gives, Leaves, below, row_at, entered, leaf_read, value_read, leaf_list_read, members_read, node_read, entries_read, entry_read, datastore_read};
 
 use crate::fault::DataFault;
 use crate::keys::{atom_of, read_keys, value_of};
@@ -13,7 +15,7 @@ use yp_base::path::{Path, Seg};
 use yp_base::row::{Row, Rows, Value};
 use yp_base::series::Series;
 use yp_schema::schema::{Kind, Schema};
-use yp_tree::rising::Rising;
+use yp_tree::gathering::Gathering;
 
 /// The path of a node below another.
 pub fn path_below(alloc: Global, path: &Path, node: u32, keys: Keys) -> Result<Path, NoMemory>
@@ -38,7 +40,7 @@ fn read_leaf(
     node: u32,
     path: &Path,
     json: &Json,
-    rows: &mut Rising,
+    rows: &mut Gathering,
 ) -> Result<(), DataFault>
     requires { node < length schema.now }
     ensures { Leaves result rows.new (leaf_read schema.now node path.now (view json.now) rows.old) }
@@ -50,13 +52,38 @@ fn read_leaf(
 }
 
 /// Puts the row of an entry, of which there is none yet.
-pub fn enter(alloc: Global, path: Path, value: Value, rows: &mut Rising) -> Result<(), DataFault>
+pub fn enter(alloc: Global, path: Path, value: Value, rows: &mut Gathering) -> Result<(), DataFault>
     ensures { Leaves result rows.new (entered path value rows.old) }
 {
     match rows.replace(alloc, Row { path, value })? {
         Some(_) => Err(DataFault::RepeatedKey),
         None => Ok(()),
     }
+}
+
+/// Puts the row of a list's entry, of which there is none yet, and returns its path.
+pub fn enter_entry(
+    alloc: Global,
+    path: &Path,
+    node: u32,
+    keys: Keys,
+    rows: &mut Gathering,
+) -> Result<Path, DataFault>
+    ensures path { IfOk result (λ made. made ≡ below path.now node keys) }
+    ensures rows { Leaves result rows.new (entered (below path.now node keys) Present rows.old) }
+{
+    let path = path_below(alloc, path, node, keys)?;
+    enter(alloc, path.copy(alloc)?, Value::Present, rows)?;
+    Ok(path)
+}
+
+/// Puts the row of a container with presence.
+fn put_presence(alloc: Global, path: &Path, rows: &mut Gathering) -> Result<(), NoMemory>
+    ensures { OnOk result (rows.new ≡ put_row (row_at path.now Present) rows.old) }
+{
+    let path = path.copy(alloc)?;
+    let value = Value::Present;
+    rows.put(alloc, Row { path, value })
 }
 
 /// Puts the row of a leaf-list entry.
@@ -66,7 +93,7 @@ fn read_entry_value(
     node: u32,
     path: &Path,
     json: &Json,
-    rows: &mut Rising,
+    rows: &mut Gathering,
 ) -> Result<(), DataFault>
     requires { node < length schema.now }
     ensures { Leaves result rows.new (value_read schema.now node path.now (view json.now) rows.old) }
@@ -83,7 +110,7 @@ fn read_values(
     node: u32,
     path: &Path,
     items: &Vec<Json>,
-    rows: &mut Rising,
+    rows: &mut Gathering,
 ) -> Result<(), DataFault>
     requires { node < length schema.now }
     ensures { Leaves result rows.new (leaf_list_read schema.now node path.now (items_view items.now.items) rows.old) }
@@ -102,7 +129,7 @@ pub fn read_members(
     parent: Option<u32>,
     path: &Path,
     members: &Map<String, Json>,
-    rows: &mut Rising,
+    rows: &mut Gathering,
 ) -> Result<(), DataFault>
     requires { IfSome parent (λ parent. parent < length schema.now) }
     ensures { Leaves result rows.new (members_read schema.now parent path.now (members_view members.now.entries) rows.old) }
@@ -127,7 +154,7 @@ pub fn read_node(
     node: u32,
     path: &Path,
     json: &Json,
-    rows: &mut Rising,
+    rows: &mut Gathering,
 ) -> Result<(), DataFault>
     requires { node < length schema.now }
     ensures { Leaves result rows.new (node_read schema.now node path.now (view json.now) rows.old) }
@@ -140,13 +167,7 @@ pub fn read_node(
             }
             Kind::Presence => {
                 let path = path_below(alloc, path, node, Series::from_vec(Vec::new(alloc)))?;
-                rows.put(
-                    alloc,
-                    Row {
-                        path: path.copy(alloc)?,
-                        value: Value::Present,
-                    },
-                )?;
+                put_presence(alloc, &path, rows)?;
                 read_members(alloc, schema, Some(node), &path, members, rows)
             }
             _ => Err(DataFault::InvalidValue),
@@ -172,7 +193,7 @@ fn read_entries(
     node: u32,
     path: &Path,
     items: &Vec<Json>,
-    rows: &mut Rising,
+    rows: &mut Gathering,
 ) -> Result<(), DataFault>
     requires { node < length schema.now }
     ensures { Leaves result rows.new (entries_read schema.now node path.now (items_view items.now.items) rows.old) }
@@ -191,7 +212,7 @@ fn read_entry(
     node: u32,
     path: &Path,
     json: &Json,
-    rows: &mut Rising,
+    rows: &mut Gathering,
 ) -> Result<(), DataFault>
     requires { node < length schema.now }
     ensures { Leaves result rows.new (entry_read schema.now node path.now (view json.now) rows.old) }
@@ -199,8 +220,7 @@ fn read_entry(
     match json {
         Json::Object(members) => {
             let keys = read_keys(alloc, schema, schema.keys(node), members)?;
-            let path = path_below(alloc, path, node, keys)?;
-            enter(alloc, path.copy(alloc)?, Value::Present, rows)?;
+            let path = enter_entry(alloc, path, node, keys, rows)?;
             read_members(alloc, schema, Some(node), &path, members, rows)
         }
         _ => Err(DataFault::InvalidValue),
@@ -213,7 +233,7 @@ pub fn read_datastore(alloc: Global, schema: &Schema, json: &Json) -> Result<Row
 {
     match json {
         Json::Object(members) => {
-            let mut rows = Rising::new(alloc);
+            let mut rows = Gathering::new(alloc);
             let top = Path::from_vec(Vec::new(alloc));
             read_members(alloc, schema, None, &top, members, &mut rows)?;
             Ok(rows.into_rows(alloc)?)

@@ -13,6 +13,7 @@ ghost use Rattle.yp_data_json.specs.Forest.{forest_at};
 ghost use Rattle.yp_data_json.specs.Writing.{rows_json, place_json, members_in, with_keys, item_data, key_data, leaf_data};
 ghost use Rattle.yp_data_json.specs.Runs.{EndsIn, AllGoThrough, GoOnBelow, AreNodes, AreOneMember, AreEntries, has_items, entry_of};
 
+use crate::at_path::qualified;
 use crate::runs::{segment, split_entry, split_run};
 use serde_json::{Map, Value as Json};
 use std::alloc::Global;
@@ -51,9 +52,7 @@ fn named(alloc: Global, schema: &Schema, node: u32, json: Json) -> Result<Json, 
     requires { node < length schema.now }
     ensures { IfOk result (λ named. view named ≡ object (member (qualified_name (node_at node schema.now)) (view json) no_members)) }
 {
-    let mut name = String::from_str(alloc, schema.module(node))?;
-    name.push_str(":")?;
-    name.push_str(schema.name(node))?;
+    let name = qualified(alloc, schema, node)?;
     let mut members = Map::new(alloc);
     drop(members.insert(name, json)?);
     Ok(Json::Object(members))

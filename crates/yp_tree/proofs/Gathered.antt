@@ -32,7 +32,7 @@ made_rows made entries is =
     same_rows (rows_of made.entries) (put_rows (rows_of entries) []) (made_order made entries is) (puts_order (rows_of entries) [] none_order)
     (λ path. sym (value_at-lookup path made.entries) ∙ is.0 path ∙ sym (puts_update entries [] path))
 
-puts_joined : (olds news rows : List Row) → put_rows (olds ++ news) rows ≡ put_rows news (put_rows olds rows)
+pub puts_joined : (olds news rows : List Row) → put_rows (olds ++ news) rows ≡ put_rows news (put_rows olds rows)
 puts_joined [] news rows = refl
 puts_joined (old ∷ olds) news rows = puts_joined olds news (put_row old rows)
 

@@ -3,6 +3,7 @@ pub mod Without
 pub mod Cuts
 pub mod Gathered
 pub mod Halves
+pub mod Merging
 pub mod Nexts
 pub mod Renewal
 pub mod Rows

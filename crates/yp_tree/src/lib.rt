@@ -8,8 +8,11 @@
 //! `of_rows` makes one of many rows, and `into_rows` gives its rows away. What makes a tree, changes it,
 //! gives it away or copies it, and `len`, count none: visits bound what is read for an update, and not what
 //! a patch costs. A `Rising` has rows while they are put, and appends those that come in the order of their
-//! paths; what else is asked of it is found by path.
+//! paths; what else is asked of it is found by path. A `Gathering` has rows while they are put entry by
+//! entry, and looks up each entry once where they come in no order.
 #![tactic(auto)]
 
+pub mod gathering;
 pub mod rising;
+mod scattered;
 pub mod tree;

@@ -1,5 +1,5 @@
 //! Rows while they are put, mostly in the order of their paths.
-ghost use Rattle.std.specs.Prelude.{◌≡◌, ◌<◌, ◌^◌, [], true, false, is_some, length, OnOk, OnErr, IfOk};
+ghost use Rattle.std.specs.Prelude.{◌≡◌, ◌<◌, ◌^◌, [], true, false, is_some, length, None, OnOk, OnErr, IfOk, IfErr, IfSome};
 ghost use Rattle.yp_base.specs.Rows.{AreInOrder, has_within, put_row, rows_without, value_at};
 ghost use Rattle.yp_tree.specs.Risen.{is_past, kept_rows};
 
@@ -45,7 +45,7 @@ impl Model for Rising {
 }
 
 /// Whether a path comes past those of rows in order.
-fn is_past(path: &Path, rows: &[Row]) -> bool
+pub(crate) fn is_past(path: &Path, rows: &[Row]) -> bool
     ensures { result ≡ is_past path.now rows.now }
 {
     match rows.split_last() {
@@ -171,16 +171,32 @@ impl Rising {
         ensures before { IfOk result (λ before. before ≡ value_at row.path self.old) }
         ensures unchanged { OnErr result (self.new ≡ self.old) }
     {
-        if let Kept::Appended(rows) = &mut self.kept {
-            if is_past(&row.path, rows.as_slice()) {
-                rows.push(row)?;
-                return Ok(None);
-            }
-        }
+        let row = match self.append(row)? {
+            Ok(()) => return Ok(None),
+            Err(row) => row,
+        };
         let mut tree = self.take_tree(alloc)?;
         let before = tree.replace(alloc, row);
         self.keep(tree);
         before
+    }
+
+    /// Adds the row where each of the rows was appended and it comes past them; else it gives the row back,
+    /// and the rows are as they were, as after `NoMemory`.
+    pub(crate) fn append(&mut self, row: Row) -> Result<Result<(), Row>, NoMemory>
+        ensures rows { IfOk result (λ appended. OnOk appended (self.new ≡ put_row row self.old)) }
+        ensures absent { IfOk result (λ appended. OnOk appended (value_at row.path self.old ≡ None)) }
+        ensures back { IfOk result (λ appended. IfErr appended (λ back. back ≡ row)) }
+        ensures refused { IfOk result (λ appended. OnErr appended (self.new ≡ self.old)) }
+        ensures unchanged { OnErr result (self.new ≡ self.old) }
+    {
+        if let Kept::Appended(rows) = &mut self.kept {
+            if is_past(&row.path, rows.as_slice()) {
+                rows.push(row)?;
+                return Ok(Ok(()));
+            }
+        }
+        Ok(Err(row))
     }
 
     /// Takes out the rows at or below a path. After `NoMemory` the rows are as they were.
@@ -196,6 +212,27 @@ impl Rising {
         self.keep(tree);
         cut?;
         Ok(())
+    }
+
+    /// The rows of a tree.
+    pub(crate) fn of_tree(tree: Tree) -> Rising
+        ensures { result ≡ tree }
+    {
+        let _rows = tree.len();
+        Rising {
+            kept: Kept::Sorted(tree),
+        }
+    }
+
+    /// The rows, where all of them were appended and this path doesn't come past them.
+    pub(crate) fn not_before(&self, path: &Path) -> Option<&[Row]>
+        ensures rows { IfSome result (λ rows. rows.now ≡ self.now) }
+        ensures order { IfSome result (λ rows. AreInOrder rows.now) }
+    {
+        match &self.kept {
+            Kept::Appended(rows) if !is_past(path, rows.as_slice()) => Some(rows.as_slice()),
+            _ => None,
+        }
     }
 
     // Whether all rows are appended ones that come before this path.
