@@ -120,15 +120,14 @@ added_admits before nodes h node read after is =
     let above = module_above before nodes h (front node.path) t.above t.parent in
     let own = has_module node t.home read (ap (λ a. own_module a node.home) (sym above.1) ∙ t.own) in
     let m : HasModule node = own.0 in
-    let held : length nodes ≡ length before = holds_length before nodes h in
-    let room : length nodes < 4096 = t.puts.room in (
+    let held : length nodes ≡ length before = holds_length before nodes h in (
       record {
         path = λ other c paths. let bad : Some (placed_node other).1 ≡ None = sym (holds_listed before nodes h other c) ∙ ap (λ p. listed_at p nodes) paths ∙ t.puts.fresh in cc;
         parent = above.0;
         own = m;
         typed = t.puts.typed;
         depth = t.puts.depth;
-        room = omega arith;
+        room = subst (λ n. n < 4096) held t.puts.room;
       },
       one_more before nodes h node m t.puts.fresh after (t.puts.is ∙ ap (λ home. insert_entry names_cmp nodes node.path (listed_of node home)) (sym own.1)),
     )
@@ -142,15 +141,18 @@ fresh_path before nodes h node new = found (listed_at node.path nodes) refl
         let from = listed_holds before nodes h node.path x is in
         absurd (new from.0 from.1 (ap (λ (e : Names × Listed). e.0) from.2))
 
+not_over : (n most : ℕ) → n ≤ most → nat_lt most n ≡ false
+not_over n most h = grind (arith, nat_tests)
+
+not_reached : (n bound : ℕ) → n < bound → nat_le bound n ≡ false
+not_reached n bound h = grind (arith, nat_tests)
+
 pub admits_added : (before : List Stated) (nodes : Nodes) → Holds before nodes → (node : Stated) → IsRead node → Admits before node → (after : Nodes) × (added (Some node) nodes ≡ Ok after)
 admits_added before nodes h node read a =
     let fresh : listed_at node.path nodes ≡ None = fresh_path before nodes h node a.path in
     let held : length nodes ≡ length before = holds_length before nodes h in
-    let room : length before < 4096 = a.room in
-    let depth : length node.path ≤ 16 = a.depth in
-    let deep : nat_lt 16 (length node.path) ≡ false = grind (arith, nat_tests) in
-    let fewer : length nodes < 4096 = omega arith in
-    let many : nat_le 4096 (length nodes) ≡ false = grind (arith, nat_tests) in
+    let deep : nat_lt 16 (length node.path) ≡ false = not_over (length node.path) 16 a.depth in
+    let many : nat_le 4096 (length nodes) ≡ false = not_reached (length nodes) 4096 (subst (λ n. n < 4096) (sym held) a.room) in
     let x : Listed = listed_of node a.own.home in
     let after : Nodes = insert_entry names_cmp nodes node.path x in (
       after,

@@ -1,6 +1,6 @@
 //! The nodes of the parts so far, by the names on the way to them.
 ghost use Rattle.std.specs.BTreeMap.{insert_entry};
-ghost use Rattle.std.specs.Prelude.{◌≡◌, ◌++◌, ◌∷◌, [], IfOk, MatchOption, Ok, Err, map, length, is_some, option_copied, option_map};
+ghost use Rattle.std.specs.Prelude.{◌≡◌, ◌++◌, ◌∷◌, [], IfOk, OnOk, MatchOption, Ok, Err, map, length, is_some, option_copied, option_map};
 ghost use Rattle.serde_json.specs.View.{view, items_view};
 ghost use Rattle.serde_json.specs.Find.{as_array};
 ghost use Rattle.yp_schema.specs.Names.{names_cmp, front};
@@ -49,6 +49,14 @@ impl Listing {
         ensures { option_copied result ≡ listed_at path.now self.now }
     {
         self.kept.get(path)
+    }
+
+    /// Enters a node, in place of one that stands at the path.
+    fn enter(&mut self, path: Names, node: Listed) -> Result<(), NoMemory>
+        ensures { OnOk result (self.new ≡ insert_entry names_cmp self.old path node) }
+    {
+        self.kept.insert(path, node)?;
+        Ok(())
     }
 
     /// The module of a parent: the top, which has none, or a listed container or list. `None` where there
@@ -168,12 +176,36 @@ fn place_node(
 ) -> Result<(), SchemaFault>
     ensures { Leaves result nodes.new (at_place part place (placed path node nodes.old)) }
 {
-    match fault_in(&path, &node, nodes) {
-        Some(kind) => Err(SchemaFault::At { part, place, kind }),
-        None => match nodes.kept.insert(path, node) {
-            Ok(_) => Ok(()),
-            Err(_) => Err(SchemaFault::Memory),
-        },
+    if let Some(kind) = fault_in(&path, &node, nodes) {
+        return Err(SchemaFault::At { part, place, kind });
+    }
+    nodes.enter(path, node)?;
+    Ok(())
+}
+
+/// Takes up a node as its part states it.
+fn take_stated(
+    alloc: Global,
+    part: usize,
+    place: usize,
+    node: Stated,
+    nodes: &mut Listing,
+) -> Result<(), SchemaFault>
+    ensures { Leaves result nodes.new (at_place part place (added (Some node) nodes.old)) }
+{
+    let Stated {
+        path,
+        home,
+        name,
+        body,
+    } = node;
+    match module_of(alloc, &path, home, nodes)? {
+        Some(home) => place_node(part, place, path, Listed { home, name, body }, nodes),
+        None => Err(SchemaFault::At {
+            part,
+            place,
+            kind: SchemaKind::Member,
+        }),
     }
 }
 
@@ -187,22 +219,14 @@ fn take_node(
 ) -> Result<(), SchemaFault>
     ensures { Leaves result nodes.new (at_place part place (added (node_in (view json.now)) nodes.old)) }
 {
-    if let Some(node) = read_node(alloc, json)? {
-        let Stated {
-            path,
-            home,
-            name,
-            body,
-        } = node;
-        if let Some(home) = module_of(alloc, &path, home, nodes)? {
-            return place_node(part, place, path, Listed { home, name, body }, nodes);
-        }
+    match read_node(alloc, json)? {
+        Some(node) => take_stated(alloc, part, place, node, nodes),
+        None => Err(SchemaFault::At {
+            part,
+            place,
+            kind: SchemaKind::Member,
+        }),
     }
-    Err(SchemaFault::At {
-        part,
-        place,
-        kind: SchemaKind::Member,
-    })
 }
 
 /// The first round of a part: each node in order.

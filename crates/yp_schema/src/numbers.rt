@@ -1,5 +1,6 @@
 //! The numbers of nodes: in pre-order, siblings in byte order of their member forms.
 ghost use Rattle.std.specs.Prelude.{◌≡◌, ◌<◌, ◌^◌, ◌++◌, ◌∷◌, [], length, IfOk, map};
+ghost use Rattle.yp_schema.specs.Names.{front, last};
 ghost use Rattle.yp_schema.specs.WellFormed.{IsSchema};
 ghost use Rattle.yp_schema.specs.Reading.{numbers_from, number_of, key_numbers, numbered_node, numbered};
 
@@ -82,6 +83,58 @@ fn key_numbers(
     Ok(Series::from_vec(made))
 }
 
+/// Where a node stands: the number of its parent, the numbers of its keys, and its member form.
+#[derive(Drop)]
+struct Standing {
+    parent: Option<u32>,
+    keys: Series<u32>,
+    member: Txt,
+}
+
+/// Where the node at a path stands, by the names of its keys.
+fn standing_of(
+    alloc: Global,
+    path: &Names,
+    keys: &Names,
+    numbers: &Numbers,
+) -> Result<Standing, NoMemory>
+    ensures parent { IfOk result (λ made. made.parent ≡ number_of (front path.now) numbers.now) }
+    ensures keys { IfOk result (λ made. made.keys ≡ key_numbers path.now keys.now numbers.now) }
+    ensures member { IfOk result (λ made. made.member ≡ last path.now) }
+{
+    let above = front_of(alloc, path)?;
+    let parent = numbers.get(&above);
+    let keys = key_numbers(alloc, path, keys, numbers)?;
+    let member = text_of(alloc, last_of(path))?;
+    Ok(Standing {
+        parent,
+        keys,
+        member,
+    })
+}
+
+/// A listed node where it stands.
+fn placed_at(node: Listed, standing: Standing) -> SchemaNode
+    ensures { result ≡ record { parent = standing.parent; kind = node.body.kind; home = node.home; name = node.name; member = standing.member; keys = standing.keys; ty = node.body.ty; deny_all = node.body.deny_all } }
+{
+    let Listed { home, name, body } = node;
+    let Standing {
+        parent,
+        keys,
+        member,
+    } = standing;
+    SchemaNode {
+        parent,
+        kind: body.kind,
+        home,
+        name,
+        member,
+        keys,
+        ty: body.ty,
+        deny_all: body.deny_all,
+    }
+}
+
 /// A listed node with the numbers of its parent and keys.
 fn number_node(
     alloc: Global,
@@ -91,21 +144,8 @@ fn number_node(
 ) -> Result<SchemaNode, NoMemory>
     ensures { IfOk result (λ made. made ≡ numbered_node numbers.now (path, node)) }
 {
-    let Listed { home, name, body } = node;
-    let above = front_of(alloc, &path)?;
-    let parent = numbers.get(&above);
-    let keys = key_numbers(alloc, &path, &body.keys, numbers)?;
-    let member = text_of(alloc, last_of(&path))?;
-    Ok(SchemaNode {
-        parent,
-        kind: body.kind,
-        home,
-        name,
-        member,
-        keys,
-        ty: body.ty,
-        deny_all: body.deny_all,
-    })
+    let standing = standing_of(alloc, &path, &node.body.keys, numbers)?;
+    Ok(placed_at(node, standing))
 }
 
 fn number_all(
