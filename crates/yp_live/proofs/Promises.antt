@@ -13,6 +13,7 @@ use Rattle.yp_script.specs.declared.script.Script.{Script}
 use Rattle.yp_script.specs.Script.{AreReceivers, IsReceiver, script_in}
 use Rattle.yp_serial.specs.Serial.{Served}
 use Rattle.yp_receiver.specs.Held.{lines_heard}
+use Rattle.yp_promise.specs.Interleaving.{EachInterleavingServes, TheSerialRunIsOne}
 use Rattle.yp_promise.specs.Promise.{Serves}
 use Rattle.yp_promise.specs.Received.{CanBeShown, received}
 use Rattle.yp_promise.specs.Serving.{run_of}
@@ -40,6 +41,13 @@ AreServed = (nodes : List SchemaNode) (receivers : List ReceiverInfo) (entries :
     → IsSchema nodes → IsLegal nodes (first_state receivers) entries → receiver < length receivers
     → Serves nodes receivers entries receiver (offered_to receiver (run_of nodes receivers entries)) (got_by receiver (run_of nodes receivers entries))
 
+-- what they say of every interleaving over one
+abbrev pub AreInterleaved : Type 0
+AreInterleaved = (nodes : List SchemaNode) (receivers : List ReceiverInfo) (entries : List Entry) → IsSchema nodes → IsLegal nodes (first_state receivers) entries → EachInterleavingServes nodes receivers entries
+
+abbrev pub AreInterleavings : Type 0
+AreInterleavings = (nodes : List SchemaNode) (receivers : List ReceiverInfo) (entries : List Entry) → IsSchema nodes → IsLegal nodes (first_state receivers) entries → TheSerialRunIsOne nodes receivers entries
+
 abbrev pub AreShown : Type 0
 AreShown = (nodes : List SchemaNode) (receivers : List ReceiverInfo) (entries : List Entry) (receiver : ℕ)
     → IsSchema nodes → IsLegal nodes (first_state receivers) entries → receiver < length receivers
@@ -61,7 +69,7 @@ abbrev pub HaveUtf8 : Type 0
 HaveUtf8 = (bytes : List ℕ) (script : Script) → script_in bytes ≡ Ok script → ScriptHasUtf8 script
 
 -- the run of a script that was read
-module _ (serves : AreServed) (hears : AreHeard) (copies : AreCopies) (utf8 : HaveUtf8) (script : Script) (bytes : List ℕ) (ran : Ran) (read : script_in bytes ≡ Ok script) (is : IsRunOf script ran) where
+module _ (serves : AreServed) (interleaved : AreInterleaved) (interleaving : AreInterleavings) (hears : AreHeard) (copies : AreCopies) (utf8 : HaveUtf8) (script : Script) (bytes : List ℕ) (ran : Ran) (read : script_in bytes ≡ Ok script) (is : IsRunOf script ran) where
   abbrev served : Served
   served = run_of script.schema script.receivers is.entries
 
@@ -94,6 +102,8 @@ module _ (serves : AreServed) (hears : AreHeard) (copies : AreCopies) (utf8 : Ha
         legal = followed.legal;
         serves = λ receiver less. serves script.schema script.receivers is.entries receiver followed.schema followed.legal less;
         mirrored = λ receiver less. copies script.schema script.receivers is.entries receiver script.start can_be_told less is.start;
+        interleaved = λ journal of legal. interleaved script.schema script.receivers journal followed.schema legal;
+        interleaving = interleaving script.schema script.receivers is.entries followed.schema followed.legal;
       }
 
   -- the text of the report tells of it

@@ -4,6 +4,7 @@ use Rattle.yp_journal.specs.declared.entry.Entry.{Entry}
 use Rattle.yp_journal.specs.History.{first_state, IsLegal}
 use Rattle.yp_script.specs.declared.script.Script.{Script}
 use Rattle.yp_script.specs.Script.{script_in}
+use Rattle.yp_promise.specs.Interleaving.{EachInterleavingServes, TheSerialRunIsOne}
 use Rattle.yp_promise.specs.Promise.{Serves}
 use Rattle.yp_promise.specs.Serving.{run_of}
 use Rattle.yp_promise.specs.Shown.{got_by, offered_to}
@@ -27,6 +28,10 @@ pub record IsServed (script : Script) (entries : List Entry) : Type 0 where
   -- and after the line of each update of a mirrored subscription the tree that it made of the bytes of its lines so far is what is selected at the update's position
   pub mirrored : (receiver : ℕ) → receiver < length script.receivers
       → LinesMirror script.schema script.receivers entries receiver script.start (got_by receiver (run_of script.schema script.receivers entries))
+  -- and however writers, workers and receivers interleave, each receiver is served too: by each journal of the script, in whatever order its lanes' commands came, and by each list of events that appends its entries, with one worker or more
+  pub interleaved : (journal : List Entry) → IsJournalOf script journal → IsLegal script.schema (first_state script.receivers) journal → EachInterleavingServes script.schema script.receivers journal
+  -- of which the serial run is one
+  pub interleaving : TheSerialRunIsOne script.schema script.receivers entries
 
 -- a text that tells of a script's run: there are the script and the journal of its run, such that ..
 pub record Tells (bytes text : List ℕ) : Type 0 where

@@ -16,6 +16,9 @@ use std::sync::ledger::{Blank, Ledger};
 use yp_base::memory::NoMemory;
 use yp_base::steps::Steps;
 use yp_hearing::laws::{a_receiver_holds_what_its_lines_tell, the_trees_of_lines_mirror};
+use yp_promise::interleavings::{
+    a_serial_run_is_an_interleaving, every_interleaving_serves_each_receiver,
+};
 use yp_promise::laws::{what_a_serial_run_makes_serves, what_receivers_hold_can_be_shown};
 use yp_schema::schema::Schema;
 use yp_script::script::Script;
@@ -69,6 +72,8 @@ fn report_by<L: Ledger>(alloc: Global, script: Script, blank: Blank) -> Result<S
     ensures { IfOk result (λ text. (bytes : List ℕ) → script_in bytes ≡ Ok script → Tells bytes (string_bytes text)) }
 {
     what_a_serial_run_makes_serves();
+    every_interleaving_serves_each_receiver();
+    a_serial_run_is_an_interleaving();
     what_receivers_hold_can_be_shown();
     a_scripts_commands_have_utf8();
     a_receiver_holds_what_its_lines_tell();
@@ -91,6 +96,8 @@ fn summary_by<L: Ledger>(alloc: Global, script: Script, blank: Blank) -> Result<
     ensures { IfOk result (λ text. (bytes : List ℕ) → script_in bytes ≡ Ok script → Sums bytes (string_bytes text)) }
 {
     what_a_serial_run_makes_serves();
+    every_interleaving_serves_each_receiver();
+    a_serial_run_is_an_interleaving();
     a_scripts_commands_have_utf8();
     a_receiver_holds_what_its_lines_tell();
     the_trees_of_lines_mirror();

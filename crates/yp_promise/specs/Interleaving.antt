@@ -1,5 +1,5 @@
 -- What is promised a receiver of a legal journal however writers, workers and receivers interleave.
-use Rattle.std.specs.Prelude.{◌≡◌, ℕ, ◌≤◌, List, [], ◌∷◌, ◌++◌, map, length, take, Some}
+use Rattle.std.specs.Prelude.{◌≡◌, ℕ, ◌<◌, ◌≤◌, List, [], ◌∷◌, ◌++◌, map, length, take, Some}
 use Rattle.std.specs.List.{slice_get}
 use Rattle.yp_schema.specs.declared.schema.SchemaNode.{SchemaNode}
 use Rattle.yp_journal.specs.declared.entry.Entry.{Entry}
@@ -9,8 +9,10 @@ use Rattle.yp_attempt.specs.Runs.{Standing}
 use Rattle.yp_moment.specs.Entries.{moments_of}
 use Rattle.yp_moment.specs.Windows.{recorded}
 use Rattle.yp_world.specs.Holding.{AreOf}
+use Rattle.yp_world.specs.Serially.{LeadTo}
 use Rattle.yp_world.specs.World.{Delivery, Event, Setup, World, after_events, first_world}
 use Rattle.yp_promise.specs.Promise.{Serves}
+use Rattle.yp_promise.specs.Serving.{run_of}
 
 -- so many workers, and the receivers as they are declared; what feeds know of rows is what they know of selections of a datastore
 abbrev pub setup_of : List ReceiverInfo → ℕ → Setup
@@ -34,3 +36,13 @@ pub record IsServedAfter (nodes : List SchemaNode) (receivers : List ReceiverInf
   pub places : slice_get (map (λ receiver. receiver.places) receivers) receiver ≡ Some delivery.places
   pub fits : length delivery.queue ≤ delivery.places
   pub serves : Serves nodes receivers (take standing.position entries) receiver (attempts recorded (receiver ∷ []) (moments_of nodes receivers (take standing.position entries)) delivery.answers) delivery.taken
+
+-- each receiver is served by each interleaving of a journal: by every list of events that appends its entries, with one worker or more
+abbrev pub EachInterleavingServes : List SchemaNode → List ReceiverInfo → List Entry → Type 0
+EachInterleavingServes nodes receivers entries = (workers : ℕ) (events : List Event) → 0 < workers → AppendAll nodes receivers workers entries events
+    → (receiver : ℕ) → receiver < length receivers → IsServedAfter nodes receivers workers entries events receiver
+
+-- the serial run of a journal is one of them, with one worker: there are events that lead to the world of the journal in which the worker stands where the serial run does, and each queue holds and was taken of as many
+abbrev pub TheSerialRunIsOne : List SchemaNode → List ReceiverInfo → List Entry → Type 0
+TheSerialRunIsOne nodes receivers entries =
+    LeadTo (setup_of receivers 1) (first_world (setup_of receivers 1)) (moments_of nodes receivers entries) (run_of nodes receivers entries).run.standing (run_of nodes receivers entries).posts

@@ -1,15 +1,11 @@
 //! Laws of legal journals that many workers follow; nothing runs.
-ghost use Rattle.std.specs.Prelude.{ℕ, ◌<◌, List, length};
+ghost use Rattle.std.specs.Prelude.{List};
 ghost use Rattle.yp_schema.specs.declared.schema.SchemaNode.{SchemaNode};
 ghost use Rattle.yp_schema.specs.WellFormed.{IsSchema};
 ghost use Rattle.yp_journal.specs.declared.entry.Entry.{Entry};
 ghost use Rattle.yp_journal.specs.declared.receiver.ReceiverInfo.{ReceiverInfo};
 ghost use Rattle.yp_journal.specs.History.{first_state, IsLegal};
-ghost use Rattle.yp_moment.specs.Entries.{moments_of};
-ghost use Rattle.yp_world.specs.Serially.{LeadTo};
-ghost use Rattle.yp_world.specs.World.{Event, first_world};
-ghost use Rattle.yp_promise.specs.Interleaving.{AppendAll, IsServedAfter, setup_of};
-ghost use Rattle.yp_promise.specs.Serving.{run_of};
+ghost use Rattle.yp_promise.specs.Interleaving.{EachInterleavingServes, TheSerialRunIsOne};
 
 use crate::runs::every_run_of_a_receiver_serves_it;
 use yp_moment::acts::what_feeds_are_handed_can_be_followed;
@@ -30,9 +26,7 @@ use yp_world::laws::{
 /// user may not read; suspensions and incomplete updates follow only full queues, and the next
 /// resynchronisation carries its own position's selection.
 pub fn every_interleaving_serves_each_receiver()
-    ensures { (nodes : List SchemaNode) (receivers : List ReceiverInfo) (workers : ℕ) (entries : List Entry) (events : List Event)
-        → IsSchema nodes → IsLegal nodes (first_state receivers) entries → 0 < workers → AppendAll nodes receivers workers entries events
-        → (receiver : ℕ) → receiver < length receivers → IsServedAfter nodes receivers workers entries events receiver }
+    ensures { (nodes : List SchemaNode) (receivers : List ReceiverInfo) (entries : List Entry) → IsSchema nodes → IsLegal nodes (first_state receivers) entries → EachInterleavingServes nodes receivers entries }
 {
     what_feeds_know_of_selections_is_lawful();
     records_lead_from_selection_to_selection();
@@ -45,8 +39,7 @@ pub fn every_interleaving_serves_each_receiver()
 /// The serial run of a legal journal is an interleaving, with one worker: its events lead to the world of the
 /// journal in which the worker stands where the serial run does, and each queue holds and was taken of as many.
 pub fn a_serial_run_is_an_interleaving()
-    ensures { (nodes : List SchemaNode) (receivers : List ReceiverInfo) (entries : List Entry) → IsSchema nodes → IsLegal nodes (first_state receivers) entries
-        → LeadTo (setup_of receivers 1) (first_world (setup_of receivers 1)) (moments_of nodes receivers entries) (run_of nodes receivers entries).run.standing (run_of nodes receivers entries).posts }
+    ensures { (nodes : List SchemaNode) (receivers : List ReceiverInfo) (entries : List Entry) → IsSchema nodes → IsLegal nodes (first_state receivers) entries → TheSerialRunIsOne nodes receivers entries }
 {
     what_feeds_know_of_selections_is_lawful();
     entries_of_a_legal_journal_may_follow();

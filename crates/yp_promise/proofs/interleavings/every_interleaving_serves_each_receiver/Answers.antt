@@ -3,7 +3,7 @@ use Rattle.yp_promise.proofs.Interleaving.{InterleavingLaws, served_after}
 use Rattle.yp_promise.proofs.interleavings.every_interleaving_serves_each_receiver.Goals as goal
 
 pub returns : goal.returns
-returns c nodes receivers workers entries events schema legal some appended receiver there =
+returns c nodes receivers entries schema legal = λ workers events some appended receiver there.
     let laws : InterleavingLaws = record {
       lawful = c.what_feeds_know_of_selections_is_lawful.ensures;
       leads = c.records_lead_from_selection_to_selection.ensures;
