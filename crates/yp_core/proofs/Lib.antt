@@ -1,0 +1,9 @@
+pub mod Absorbed
+pub mod Appended
+pub mod Elements
+pub mod Moments
+pub mod Offered
+pub mod Opened
+pub mod Steps
+pub mod Taken
+pub mod Worlds
