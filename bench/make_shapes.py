@@ -8,6 +8,7 @@
     deep          N rows in lists nested 15 deep, made by patches of one chain each, below a subscription
     long-keys     N entries with keys of 250 bytes, and then a subscription
     many-keys     N entries of a list of 100 keys, and then a subscription
+    below-keys    N rows below one entry of 400 keys, and then a subscription of each of 16 receivers
     wide          N patches that give another value to each of the 3,000 leaves of an entry, below a subscription
     enumerations  N edits among 2,000 entries, whose key and leaf are enumerations of 2,000 names, below a subscription
     chains        N patches of 300 edits, whose values are 15 objects of one member, each in the other
@@ -30,6 +31,8 @@ Line = dict[str, Any]
 Edit = tuple[str, str, Any]
 DEPTH = 15
 KEYS = 100
+MOST_KEYS = 400
+HOPS = 500
 LEAVES = 3_000
 GROUPS = 198
 MEMBERS = 100
@@ -167,6 +170,22 @@ def many_keys(count: int) -> Iterator[Line]:
     yield establish()
 
 
+def below_keys(count: int) -> Iterator[Line]:
+    names = [f"key-{number}" for number in range(MOST_KEYS)]
+    receivers = [f"collector-{number}" for number in range(1, 17)]
+    nodes = [*listing("/acme:flow", *names, sort="uint16"), *listing("/acme:flow/hop", "id", sort="uint16"), leaf("/acme:flow/hop/metric", "uint16")]
+    yield from head([nodes])[:-1]
+    for name in receivers:
+        yield {"receiver": {"name": name, "user": "ann", "queue": 4, "take": "auto"}}
+    keys = dict.fromkeys(names, 7)
+    target = "/acme:flow=" + ",".join(map(str, keys.values()))
+    for begun in range(0, count // 2, HOPS):
+        hops = [{"id": number, "metric": number % 9} for number in range(begun, min(begun + HOPS, count // 2))]
+        yield patch(begun + 1, [("merge", target, {"acme:flow": [{**keys, "hop": hops}]})])
+    for name in receivers:
+        yield {"establish": {"by": name, "datastore": "ietf-datastores:operational", "on-change": {}}}
+
+
 def wide(count: int) -> Iterator[Line]:
     nodes = listing("/acme:card", "id", sort="uint8")
     leaves = [f"c{number:04}" for number in range(LEAVES)]
@@ -255,7 +274,7 @@ def late(count: int) -> Iterator[Line]:
 
 
 SHAPES: dict[str, Callable[[int], Iterator[Line]]] = {
-    "families": families, "subscribers": subscribers, "deep": deep, "long-keys": long_keys, "many-keys": many_keys,
+    "families": families, "subscribers": subscribers, "deep": deep, "long-keys": long_keys, "many-keys": many_keys, "below-keys": below_keys,
     "wide": wide, "enumerations": enumerations, "chains": chains, "replaced": replaced, "late": late, "removed": removed, "nested": nested}
 
 

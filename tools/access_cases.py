@@ -224,15 +224,18 @@ def data(rows: Rows, at: Path) -> Any:
     found: dict[str, Any] = {}
     if node and node.kind == "list":
         found |= {name: as_json(children[name].sort, key) for name, key in zip(node.keys, at[-1][1])}
-    below: dict[Step, None] = {path[len(at)]: None for path in sorted(rows, key=order) if path[:len(at)] == at and len(path) > len(at)}
-    for name, keys in below:
-        kind = children[name].kind
+    below: dict[Step, Rows] = {}
+    for path, value in rows.items():
+        if len(path) > len(at) and path[:len(at)] == at:
+            below.setdefault(path[len(at)], {})[path] = value
+    for name, keys in sorted(below, key=lambda step: order((step,))):
+        kind, inner = children[name].kind, below[name, keys]
         if kind == "list":
-            found.setdefault(name, []).append(data(rows, (*at, (name, keys))))
+            found.setdefault(name, []).append(data(inner, (*at, (name, keys))))
         elif kind == "leaf-list":
             found.setdefault(name, []).append(as_json(children[name].sort, keys[0]))
         else:
-            found[name] = data(rows, (*at, (name, keys)))
+            found[name] = data(inner, (*at, (name, keys)))
     return dict(sorted(found.items(), key=lambda member: member[0].encode()))
 
 
@@ -349,7 +352,7 @@ class Drawing:
                     for place, (name, keys) in enumerate(path))
         return rule
 
-    def give_policy(self) -> None:
+    def drawn_policy(self) -> Policy:
         draw = self.draw
         policy = Policy(draw.random() < 0.9, draw.choice(["permit", "permit", "deny"]), draw.choice(["permit", "permit", "deny"]))
         policy.groups = {name: [user for user in USERS if draw.random() < 0.4] for name in ("one", "two", "three")}
@@ -359,6 +362,10 @@ class Drawing:
         if draw.random() < 0.3:
             # the same but for what decides on nobody's reading
             policy = Policy(self.policy.enabled, self.policy.read, draw.choice(["permit", "deny"]), self.policy.groups, self.policy.lists)
+        return policy
+
+    def give_policy(self) -> None:
+        policy = self.drawn_policy()
         old, self.policy = self.policy, policy
         self.say(compact(policy.said()))
         for number, receiver in self.subscriptions:

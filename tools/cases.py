@@ -5,8 +5,9 @@ text that the program writes, or NAME.fault, which has the line on standard erro
 them, the script is run once for each line of that file, with that line after it, and each run ends so.
 The scripts that are too large to be kept are made by large_cases.py, random ones with policies by
 access_cases.py, with filters and periods by subscription_cases.py, and with queues that fill by queue_cases.py;
-feed_cases.py has a short one for each rule of feeds and queues, and lifetime_cases.py those of calls about
-subscriptions that are there. Streams to replay are made by stream_cases.py.
+feed_cases.py has a short one for each rule of feeds and queues, lifetime_cases.py those of calls about
+subscriptions that are there, and owed_cases.py one for each event in each state of a feed. Streams to replay are
+made by stream_cases.py.
 Nothing here comes of a run: each expected text is worked out from the rules of the guides in docs/.
 """
 
@@ -21,8 +22,9 @@ from dataclasses import dataclass
 
 from access_cases import access_cases
 from feed_cases import feed_cases
-from large_cases import large_cases
+from large_cases import large_cases, wide_entry
 from lifetime_cases import lifetime_cases
+from owed_cases import owed_cases
 from queue_cases import queue_cases
 from stream_cases import endings, stream_cases
 from subscription_cases import subscription_cases
@@ -32,6 +34,8 @@ BAD_ARGUMENTS: list[list[str]] = [
     ["run", "run"], ["run", "--workers", "9"], ["run", "--workers"], ["gen", "--seed", "4294967296"], ["gen", "--seed=-1"],
     ["trial", "--size", "0"], ["trial", "--size", "10001"], ["trial", "--size", "7", "--size", "7"], ["x" * 100_000]]
 REQUESTS: list[list[str]] = [["--help"], ["-h"], ["--version"], ["run", "--help"]]
+SMALLEST = b'{"start":"2026-01-01T00:00:00Z"}\n{"schema":[]}\n'
+STACKS = range(64, 8_193, 32)
 
 
 @dataclass
@@ -79,7 +83,8 @@ def made_cases() -> Iterator[Case]:
     """The large scripts, those with policies, filters and queues, and streams."""
     for name, script, report in access_cases():
         yield Case(name, script, report)
-    for name, script, wanted in itertools.chain(large_cases(), subscription_cases(), feed_cases(), queue_cases(), lifetime_cases()):
+    for name, script, wanted in itertools.chain(
+            large_cases(), subscription_cases(), feed_cases(), queue_cases(), lifetime_cases(), owed_cases()):
         if isinstance(wanted, tuple):
             line, fault = wanted
             yield Case(f"made: {name}", script, b"", f"push: line {line}: fault {fault}\n".encode(), 3)
@@ -121,12 +126,30 @@ def wrong_endings(program: pathlib.Path) -> Iterator[str]:
             yield f"arguments {words}: status {ran.returncode}, and not what was asked for"
     yield from wrong_ending(program, [b"run", b"\xff"], subprocess.DEVNULL, subprocess.PIPE, 2, b"push: bad words\n")
     with tempfile.TemporaryFile("w+b") as source, open("/dev/full", "wb") as full:
-        source.write(b'{"start":"2026-01-01T00:00:00Z"}\n{"schema":[]}\n')
+        source.write(SMALLEST)
         source.seek(0)
         yield from wrong_ending(program, ["run"], source, full, 7, b"push: writing failed\n")
     with open("/dev/null", "wb") as closed:
         # it can be written but not read
         yield from wrong_ending(program, ["run"], closed, subprocess.PIPE, 6, b"push: reading failed\n")
+
+
+def runs_within(program: pathlib.Path, case: tuple[str, bytes, object], stack: int) -> bool:
+    """Whether a script has its report where the stack has so many KiB."""
+    _, script, wanted = case
+    ran = subprocess.run(
+        ["/bin/sh", "-c", f'ulimit -s {stack}; exec "$0" run', str(program)], input=script, capture_output=True, check=False, env={})
+    return ran.returncode == 0 and ran.stdout == wanted
+
+
+def wrong_beginnings(program: pathlib.Path) -> Iterator[str]:
+    """The program's own name isn't looked at, and an entry of many keys needs no more stack than one of a single key."""
+    ran = subprocess.run([b"\xff", b"run"], executable=str(program), input=SMALLEST, capture_output=True, check=False)
+    if ran.returncode != 0 or ran.stdout != b"end\n" or ran.stderr:
+        yield f"a name of the program that isn't UTF-8: status {ran.returncode}"
+    least = next((stack for stack in STACKS if runs_within(program, wide_entry(1), stack)), None)
+    if least is None or not runs_within(program, wide_entry(700), least + STACKS.step):
+        yield f"an entry of 700 keys needs more stack than one of a single key, which needs {least} KiB"
 
 
 def wrong_ending(program, words, source, sink, status: int, error: bytes) -> Iterator[str]:

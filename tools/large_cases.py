@@ -202,14 +202,19 @@ def long_keys() -> Iterator[tuple[str, bytes, Wanted]]:
             yield "a key of 257 bytes", script.encode(), wanted
 
 
-def wide_entries() -> Iterator[tuple[str, bytes, Wanted]]:
-    """A list may have many keys: an entry of 700 is read and written as any other."""
-    names = [f"k{number}" for number in range(100, 800)]
+def wide_entry(count: int) -> tuple[str, bytes, Wanted]:
+    """An entry of a list with so many keys, at most 700, which is read and written as any other."""
+    names = [f"k{number}" for number in range(100, 100 + count)]
     leaves = "".join(f',{{"path":"/acme:box/wide/{name}","kind":"leaf","type":"uint16"}}' for name in names)
     nodes = f'{{"path":"/acme:box","kind":"container"}},{{"path":"/acme:box/wide","kind":"list","keys":{compact(names)}}}'
     data = {"acme:box": {"wide": [{name: number for number, name in enumerate(names, 100)}]}}
     script = START + f'{{"schema":[{nodes}{leaves}]}}\n' + receiver("r1") + patch(edit("e", "create", "/acme:box", data))
-    yield "an entry of 700 keys", (script + establish()).encode(), subscribed(1, data, before=reply(1), past=1)
+    return f"an entry of {count} keys", (script + establish()).encode(), subscribed(1, data, before=reply(1), past=1)
+
+
+def wide_entries() -> Iterator[tuple[str, bytes, Wanted]]:
+    """A list may have many keys."""
+    yield wide_entry(700)
 
 
 def groups(ids: list[int]) -> dict[str, object]:

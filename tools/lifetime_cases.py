@@ -13,7 +13,7 @@ from dataclasses import dataclass, replace
 from typing import Any
 
 from access_cases import COMMANDS, USERS, Policy, Rows, Rule
-from feed_cases import do, offered
+from feed_cases import do, every, fulls, offered, on_change, ticks
 from large_cases import FIRST_ID, compact, given, reply
 from queue_cases import Desk, Feed, Queued, Trigger, Wanted, Written
 from subscription_cases import MOST_FEEDS, OPERATIONAL, SHORTEST_PERIOD, at_tick, least
@@ -259,27 +259,32 @@ class Living(Queued):
             asked["on-change"], trigger = self.on_change()
         return asked, refusal, wanted, trigger
 
-    def draw_call(self) -> None:
+    def drawn_call(self) -> tuple[str, tuple[Any, ...]]:
+        """A call, by its name, and what it is called with."""
         draw, number = self.draw, self.drawn_number()
         by = self.drawn_session(number)
         match draw.choices(range(8), [5, 4, 1, 2, 3, 3, 3, 1])[0]:
             case 0:
-                self.establish(draw.randrange(len(self.desks)), *self.drawn_ask())
+                return "establish", (draw.randrange(len(self.desks)), *self.drawn_ask())
             case 1:
-                self.modify(by, number, self.drawn_amend())
+                return "modify", (by, number, self.drawn_amend())
             case 2:
-                self.delete(by, number)
+                return "delete", (by, number)
             case 3:
-                self.kill(draw.randrange(len(self.desks)), number)
+                return "kill", (draw.randrange(len(self.desks)), number)
             case 4:
-                self.resync(by, number)
+                return "resync", (by, number)
             case 5:
                 names = draw.sample(self.names, draw.randrange(1, len(self.names) + 1)) + ["zoe"] * (draw.random() < 0.1)
-                self.configure(draw.choice([1, 2, 3, 7, 7, MOST_CONFIGURED, number]), names, *self.drawn_ask())
+                return "configure", (draw.choice([1, 2, 3, 7, 7, MOST_CONFIGURED, number]), names, *self.drawn_ask())
             case 6:
-                self.reconfigure(number, self.drawn_amend())
+                return "reconfigure", (number, self.drawn_amend())
             case _:
-                self.unconfigure(number)
+                return "unconfigure", (number,)
+
+    def draw_call(self) -> None:
+        call, arguments = self.drawn_call()
+        getattr(self, call)(*arguments)
 
     def drawn(self) -> tuple[bytes, bytes]:
         for _ in range(COMMANDS):
@@ -333,8 +338,7 @@ def live_by(run: Told, command: str) -> None:
         case "resync":
             run.resync(0, FIRST_ID)
         case "configure":
-            trigger = Trigger(int(words[0]), run.now) if words else Trigger()
-            said = {"periodic": {"period": trigger.period}} if words else {"on-change": {}}
+            trigger, said = every(run, words) if words and words[0].isdigit() else on_change(words)
             run.configure(7, ["ann"], {"datastore": OPERATIONAL, **said}, None, None, trigger)
         case "reconfigure":
             run.reconfigure(7, amendment(words))
@@ -346,7 +350,7 @@ def live_by(run: Told, command: str) -> None:
             do(run, command)
 
 
-SUSPENDED = "tick 1; tick 2; tick 3; tick 4; tick 5; tick 6; tick 7"
+SUSPENDED = ticks(1, 7)
 CASES: list[tuple[str, int, str, str]] = [
     # configured subscriptions
     ("a configured subscription says that it started, and begins with a full update", 4, "configure; take 4", "started, update 1"),
@@ -358,7 +362,32 @@ CASES: list[tuple[str, int, str, str]] = [
      "update 1, started, update 3, change 6, change 6"),
     ("what is reconfigured twice before it can be told is told once", 1,
      "configure; reconfigure dampening=1; reconfigure dampening=2; take 1; tick 1; take 1; tick 2; take 1", "started, full 1, modified, full 5, update 7"),
+    ("a subscription that was reconfigured before it said that it started says both", 1,
+     "on-change; delete; configure; reconfigure; take 1; tick 1; take 1; tick 2; take 1; tick 3; take 1",
+     "update 1, full 3, started, full 6, modified, full 8, update 10"),
+    ("a suspension leaves that a subscription started and has other terms to be told before it", 1,
+     f"on-change; delete; configure; reconfigure; {SUSPENDED}; take 1; tick 8; take 1; tick 9; take 1; tick 10; take 1; tick 11; take 1; tick 12; take 1",
+     f"update 1, full 3, {fulls(5, 11)}, started, full 13, modified, full 15, suspended, full 17, resumed, full 19, update 21"),
+    ("a subscription offers all that it owes before the next one is asked", 3, "configure; on-change; reconfigure; hide mtu; take 3; tick 1; take 3",
+     "started, update 1, update 2, full 3, full 4, modified, update 6, update 6"),
+    ("without sync-on-start changes are counted anew after a reconfiguration", 8,
+     "configure sync=no dampening=100; patch eth0; patch eth1; reconfigure dampening=0; patch eth2; take 8", "started, change 2, modified, change 5"),
+    ("a reconfigured period is counted from the reconfiguration", 8, "configure 10; tick 5; reconfigure every 20; tick 10; tick 24; tick 25; take 8",
+     "started, update 1, modified, update 3, update 6"),
+    ("a reconfiguration drops what was set aside", 1,
+     "configure; take 1; tick 1; patch eth0; many 256; reconfigure filter; take 1; tick 2; take 1; tick 3; take 1",
+     "started, full 1, update 3, full 4, modified, full 8, update 10"),
+    ("a record may be set aside before its subscription said that it started", 1,
+     "on-change; delete; configure sync=no; many 257; take 1; tick 1; take 1; tick 2; take 1", "update 1, full 3, started, full 6, marked 4"),
+    ("a record may be set aside while a modification is to be told, and comes after it", 1,
+     "configure sync=no; reconfigure; many 257; take 1; tick 1; take 1; tick 2; take 1", "started, full 2, modified, full 5, marked 3"),
+    ("a record that was set aside is sent also without an edit", 1,
+     "configure sync=no exclude=create; reconfigure; many 257; take 1; tick 1; take 1; tick 2; take 1", "started, full 2, modified, full 5, marked 3"),
     # ends
+    ("an end drops what was set aside", 1, "configure; take 1; tick 1; patch eth0; many 256; unconfigure; take 1; tick 2; take 1",
+     "started, full 1, update 3, full 4, terminated"),
+    ("a kill drops what was set aside", 1, "may-all; on-change; patch eth0; many 256; kill; take 1; tick 1; take 1", "update 2, full 3, terminated"),
+    ("a subscription that ends sets nothing aside", 1, "configure sync=no; unconfigure; many 257; take 1; tick 1; take 1", "started, full 2, terminated"),
     ("an end waits for room in the queue", 1, "configure; unconfigure; take 1; tick 1; take 1; tick 2; take 1", "started, full 1, terminated"),
     ("a subscription that ends before it said that it started says both", 1,
      "on-change; configure; unconfigure; take 1; tick 1; take 1; tick 2; take 1", "update 1, full 2, started, full 5, terminated"),
@@ -380,11 +409,16 @@ CASES: list[tuple[str, int, str, str]] = [
     ("a modification without terms sends a full update", 8, "on-change; modify; take 8", "update 1, update 2"),
     ("without sync-on-start nothing is sent at a modification, and changes are counted anew", 8,
      "on-change sync=no dampening=100; patch eth0; patch eth1; modify dampening=0; patch eth2; take 8", "change 2, change 5"),
+    ("a modified filter selects from the modification on", 8, "patch eth0; on-change; modify filter; patch eth1; take 8", "update 2, update 3, change 4"),
     ("a modified dampening period is counted from the last record", 8,
      "on-change sync=no dampening=100; patch eth0; modify dampening=10; patch eth1; tick 9; tick 10; take 8", "change 2, change 6"),
     ("a modified period is counted from the modification", 8, "every 10; tick 5; modify every 20; tick 10; tick 24; tick 25; take 8",
      "update 1, update 3, update 6"),
     ("a kept period keeps its anchor", 8, "tick 3; every 10; tick 5; modify filter; tick 12; tick 13; take 8", "update 2, update 4, update 6"),
+    ("a full update at a due tick stands for the periodic one", 8, "every 10; tick 10; modify filter; tick 20; take 8",
+     "update 1, update 2, update 3, update 4"),
+    ("what is set aside doesn't wait for the dampening period", 1,
+     "on-change sync=no; patch eth0; patch eth1; modify dampening=100; many 257; take 1; tick 1; take 1", "change 2, full 3, marked 5"),
     ("a modification doesn't set the count of full queues back", 1,
      "on-change; patch eth0; tick 1; tick 2; tick 3; tick 4; tick 5; modify dampening=1; tick 6; tick 7; take 1; tick 8; take 1",
      "update 1, full 2, full 3, full 4, full 5, full 6, full 7, full 9, full 10, suspended, full 12"),
@@ -399,6 +433,14 @@ CASES: list[tuple[str, int, str, str]] = [
     ("a subscription that is synchronised again sends a full update at once", 8, "on-change dampening=100; patch eth0; resync; take 8", "update 1, update 3"),
     ("a synchronisation begins a dampening period", 8, "on-change dampening=10; tick 5; resync; patch eth0; tick 14; tick 15; take 8",
      "update 1, update 3, change 6"),
+    ("a synchronisation doesn't set the count of full queues back", 1,
+     f"on-change; patch eth0; {ticks(1, 5)}; resync; tick 6; tick 7; take 1; tick 8; take 1",
+     f"update 1, {fulls(2, 7)}, full 9, full 10, suspended, full 12"),
+    ("a synchronisation lets nothing be offered at the tick of a full queue", 1, "on-change; patch eth0; resync; take 1; tick 1; take 1",
+     "update 1, full 2, update 5"),
+    ("a synchronisation leaves that a suspension is to be told", 1,
+     f"on-change; patch eth0; {SUSPENDED}; resync; take 1; tick 8; take 1; tick 9; take 1; tick 10; take 1",
+     f"update 1, {fulls(2, 9)}, suspended, full 12, resumed, full 14, update 16"),
     ("a synchronisation drops what was set aside", 1, "on-change; patch eth0; many 256; resync; take 1; tick 1; take 1; tick 2; take 1",
      "update 1, full 2, update 6"),
 ]

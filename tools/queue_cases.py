@@ -108,6 +108,8 @@ class Window:
     found: list[Path] | None = None
 
     def goes_on(self, rows: Rows) -> None:
+        if rows is self.last:
+            return
         news = changed(self.last, rows)
         if news:
             self.touched |= news
@@ -263,25 +265,35 @@ class Queued(Subscribing):
         kept = {*seen} if wanted is None else kept_by(wanted, (), seen)
         return {path: value for path, value in seen.items() if path in kept}
 
+    def settle(self, feed: Feed, item: str, is_accepted: bool) -> None:
+        """What the answer of the queue makes of a feed that offered an item."""
+        if not is_accepted:
+            feed.met_full(item, self.now)
+            feed.freeze(self.position, self.now)
+            return
+        feed.took(item, self.now)
+        if item == "terminated":
+            self.queued = [other for other in self.queued if other is not feed]
+
     def offer(self, feed: Feed) -> None:
         while item := feed.item(self.now):
-            if self.desks[feed.receiver].offer(feed.packet(item, self.position, self.now), self.position):
-                feed.took(item, self.now)
-                if item == "terminated":
-                    self.queued.remove(feed)
-                    return
-            else:
-                feed.met_full(item, self.now)
-                feed.freeze(self.position, self.now)
+            is_accepted = self.desks[feed.receiver].offer(feed.packet(item, self.position, self.now), self.position)
+            self.settle(feed, item, is_accepted)
+            if is_accepted and item == "terminated":
+                return
 
-    def after(self, ruled: set[int] = frozenset(), started: list[Feed] | None = None, anew: int | None = None) -> None:
-        """What a position makes, where the own rules of these receivers' users changed, or a subscription has new terms or is synchronised again."""
+    def absorb(self, ruled: set[int], started: list[Feed], anew: int | None) -> None:
+        """What a position makes of the feeds, where the own rules of these receivers' users changed, or a subscription has new terms or is synchronised again."""
         for feed in self.queued:
             feed.window.goes_on(self.selection(feed.receiver, feed.filter))
             if feed.number == anew or feed.receiver in ruled and "terminated" not in feed.owed:
                 feed.restart()
             feed.freeze(self.position, self.now)
-        self.queued = sorted([*self.queued, *(started or [])], key=lambda feed: (feed.number, feed.receiver))
+        self.queued = sorted([*self.queued, *started], key=lambda feed: (feed.number, feed.receiver))
+
+    def after(self, ruled: set[int] = frozenset(), started: list[Feed] | None = None, anew: int | None = None) -> None:
+        """What a position makes of the feeds, and then all that they offer."""
+        self.absorb(ruled, started or [], anew)
         for feed in [*self.queued]:
             self.offer(feed)
 
@@ -390,6 +402,14 @@ class Written(Queued):
         self.say(compact({"patch": {"ietf-yang-patch:yang-patch": {"patch-id": "p", "edit": edits}}}))
         self.after()
 
+    def removed(self, name: str) -> None:
+        """A patch that takes this port away, if it is there."""
+        at: Path = (("acme:ports", ()), ("port", (name,)))
+        self.rows = {path: value for path, value in self.rows.items() if path[:2] != at}
+        edit = {"edit-id": "0", "operation": "remove", "target": f"/acme:ports/port={name}"}
+        self.say(compact({"patch": {"ietf-yang-patch:yang-patch": {"patch-id": "p", "edit": [edit]}}}))
+        self.after()
+
     def to_tick(self, tick: int) -> None:
         self.now = max(self.now, tick)
         self.say(compact({"tick": tick}))
@@ -469,6 +489,17 @@ def most_lines(said: dict[str, Any], trigger: Trigger) -> tuple[bytes, bytes]:
     return run.script(), run.report()
 
 
+def most_ticks() -> tuple[bytes, bytes]:
+    """As many ticks as a script may have, whose receiver never takes."""
+    run = Long(1)
+    run.subscribed(Trigger(), {"on-change": {}})
+    run.subscribed(Trigger(10), {"periodic": {"period": 10}})
+    run.edited(["eth0"])
+    for tick in range(1, MOST_LINES - run.script().count(b"\n") + 1):
+        run.to_tick(tick)
+    return run.script(), run.report()
+
+
 def most_subscriptions() -> tuple[bytes, bytes]:
     """As many subscriptions as there may be of one receiver, whose queue has one place: it takes nothing for a while, and then one by one."""
     run = Long(1)
@@ -534,4 +565,5 @@ def queue_cases() -> Iterator[tuple[str, bytes, Wanted]]:
     yield "eight subscriptions share a queue of one place", *never_taken(40, 8)
     yield "the longest dampening period", *longest_dampening()
     yield "100,000 lines of which nothing is taken, on change", *most_lines({"on-change": {}}, plain)
+    yield "as many ticks as a script may have, and nothing is taken", *most_ticks()
     yield "256 subscriptions share a queue of one place", *most_subscriptions()

@@ -29,8 +29,9 @@ from stream_model import (
 from stream_rules import Case, change_update, edit, full_update, leaf, line_of, lines_of, rule_streams, state_change
 
 STREAMS, NOTICES = 60, 30
-SOME_OF_BYTES, SOME_SEEDS, WRONG_LINES = 2_000, [2, 3, 5, 6], 1_200
-EXAMPLE = pathlib.Path(__file__).resolve().parent.parent / "examples/stream.jsonl"
+SOME_OF_BYTES, SOME_SEEDS, WRONG_LINES, SOME_OF_LINE = 2_000, [2, 3, 5, 6], 1_200, 6
+EXAMPLES = pathlib.Path(__file__).resolve().parent.parent / "examples"
+EXAMPLE = EXAMPLES / "stream.jsonl"
 TELLING = [b'"', b"{", b"}", b"[", b",", b"0", b"/", b"%", b"\xff"]
 
 TYPES = [
@@ -290,6 +291,15 @@ def of_bytes(line: bytes) -> list[bytes]:
     return [each for each in found if each != line]
 
 
+def one_of_bytes(draw: random.Random, line: bytes) -> list[bytes]:
+    """A line with each of its bytes in turn changed in one of these ways."""
+    found = []
+    for place in range(len(line)):
+        other = draw.choice([each for each in (b"", line[place:place + 1] * 2, *TELLING) if each != line[place:place + 1]])
+        found.append(line[:place] + other + line[place + 1:])
+    return found
+
+
 JUNK = [None, True, False, 0, -1, 1.5, 70_000, "", "x", "1", "/", [], [None], {}, {"x": 1}, [[]]]
 
 
@@ -382,6 +392,22 @@ def mutated_streams(most: int | None) -> Iterator[Case]:
             said = bent(drawn.draw, said) if drawn.draw.random() < 0.3 and said else said
             wrong.append(drawn.spelled(said).encode())
         yield from mutated(f"notifications of stream {seed} turned wrong", drawn.schema_lines(), wrong, most and WRONG_LINES // 40)
+
+
+def example_streams(most: int | None) -> Iterator[Case]:
+    """What each receiver of an example took; and each line of it with each of its bytes changed, after the lines before it."""
+    draw = random.Random(7)
+    for report in sorted(EXAMPLES.glob("*.txt")):
+        script, told = report.with_suffix(".jsonl").read_bytes().splitlines(), report.read_bytes().splitlines()
+        schema = [line for line in script if line.startswith(b'{"schema":')]
+        for receiver in sorted({line.split(b" ", 2)[1] for line in told if line.startswith(b"to ")}):
+            start = b"to %s " % receiver
+            lines = [line.removeprefix(start) for line in told if line.startswith(start)]
+            held = [line.replace(b" %s " % receiver, b" ", 1) for line in told if line.startswith(b"tree %s " % receiver)]
+            yield f"what {receiver.decode()} took in {report.name}", lines_of(*schema, *lines), lines_of(*held, b"end")
+            for place, line in enumerate(lines):
+                name = f"bytes of line {place + 1} for {receiver.decode()} in {report.name}"
+                yield from mutated(name, lines_of(*schema, *lines[:place]), one_of_bytes(draw, line), most and SOME_OF_LINE)
 
 
 # ---- hostile streams
@@ -555,6 +581,7 @@ def stream_cases(most: int | None = SOME_OF_BYTES) -> Iterator[Case]:
     yield from rule_streams()
     yield from drawn_streams()
     yield from mutated_streams(most)
+    yield from example_streams(most)
     yield from hostile_streams()
 
 

@@ -180,6 +180,15 @@ class Subscribing(Drawing):
             found["nothing"] = draw.choice(["x", {}, [None], {"more": [None]}])
         return found
 
+    def telling_filter(self) -> dict[str, Any] | None:
+        """A filter: none, one that matches on a leaf of entries, or any."""
+        draw = self.draw
+        return draw.choice([
+            None, {"acme:ports": {"port": {"enabled": draw.random() < 0.5}}}, {"acme:ports": {"port": {"mtu": draw.randrange(3), "stats": {}}}},
+            {"acme:ports": {"port": {"stats": {"in": str(draw.randrange(3))}, "mtu": {}}}}, {"acme:ports": {"port": {"name": "eth0"}}},
+            {"acme:route": {"metric": draw.randrange(3)}}, {"acme:route": {"metric": {}, "via": {"weight": draw.randrange(3)}}},
+            {"acme:dns": draw.choice(NAMES)}, self.some_filter(), self.some_filter()])
+
     def faulty_filter(self) -> Any:
         return self.draw.choice([
             None, 1, [], [{}], {"acme:ports": None}, {"acme:ports": []}, {"acme:ports": [1]}, {"acme:ports": [None, None]},

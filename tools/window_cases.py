@@ -136,15 +136,6 @@ class Windows(Subscribing):
         kept = {*seen} if asked is None else kept_by(asked, (), seen)
         return {path: value for path, value in seen.items() if path in kept}
 
-    def asked(self) -> dict[str, Any] | None:
-        """A filter: none, one that matches on a leaf of entries, or any."""
-        draw = self.draw
-        return draw.choice([
-            None, {"acme:ports": {"port": {"enabled": draw.random() < 0.5}}}, {"acme:ports": {"port": {"mtu": draw.randrange(3), "stats": {}}}},
-            {"acme:ports": {"port": {"stats": {"in": str(draw.randrange(3))}, "mtu": {}}}}, {"acme:ports": {"port": {"name": "eth0"}}},
-            {"acme:route": {"metric": draw.randrange(3)}}, {"acme:route": {"metric": {}, "via": {"weight": draw.randrange(3)}}},
-            {"acme:dns": draw.choice(NAMES)}, self.some_filter(), self.some_filter()])
-
     def change_policy(self) -> None:
         """Another policy, as often one by which all may read what has no rule of its own."""
         if self.draw.random() < 0.5:
@@ -154,7 +145,7 @@ class Windows(Subscribing):
 
     def cases(self) -> Iterator[dict[str, Any]]:
         """A window, also by the call for one step where it has one patch and tells all kinds."""
-        draw, user, asked = self.draw, self.draw.choice(USERS), self.asked()
+        draw, user, asked = self.draw, self.draw.choice(USERS), self.telling_filter()
         begun = {"filter": asked, "user": user, "on": data(self.rows, ())}
         excluded = draw.sample(KINDS, draw.randrange(4)) if draw.random() < 0.3 else []
         patches, window = [], Window([self.selection(user, asked)])
