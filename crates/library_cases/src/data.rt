@@ -14,7 +14,7 @@ use yp_base::path::Path;
 use yp_base::payload::Payload;
 use yp_base::row::Rows;
 use yp_data_json::at_path::{read_payload, read_rows};
-use yp_data_json::fault::DataFault;
+use yp_data_json::fault::{DataError, DataFault};
 use yp_data_json::holding::{accepted_data_holds_its_rows, names_stand_once};
 use yp_data_json::writing::write_rows;
 use yp_path::target::read_target;
@@ -53,8 +53,8 @@ fn at_place(alloc: Global, schema: &Schema, call: &str, arguments: &Json) -> OrF
 }
 
 /// What is shown of a fault.
-fn fault(alloc: Global, fault: DataFault) -> OrFault<String> {
-    match fault {
+fn fault(alloc: Global, error: &DataError) -> OrFault<String> {
+    match error.fault {
         DataFault::UnknownElement => shown::quoted(alloc, "UnknownElement"),
         DataFault::InvalidValue => shown::quoted(alloc, "InvalidValue"),
         DataFault::MissingKey => shown::quoted(alloc, "MissingKey"),
@@ -64,7 +64,7 @@ fn fault(alloc: Global, fault: DataFault) -> OrFault<String> {
 }
 
 /// The rows of data at a place: what is read is data of the schema, and its rows are those that the data hold.
-fn held_rows(alloc: Global, schema: &Schema, at: &Path, json: &Json) -> Result<Rows, DataFault>
+fn held_rows(alloc: Global, schema: &Schema, at: &Path, json: &Json) -> Result<Rows, DataError>
     requires { is_place schema.now at.now ≡ true }
     ensures is { IfOk result (λ rows. IsDataAt schema.now at.now (view json.now)) }
     ensures rows { IfOk result (λ rows. (row : Row) → Contains rows row ↔ HoldsAt schema.now at.now (view json.now) row) }
@@ -82,7 +82,7 @@ fn rows_read(alloc: Global, schema: &Schema, at: &Path, json: &Json) -> OrFault<
 {
     match held_rows(alloc, schema, at, json) {
         Ok(rows) => shown::rows(alloc, &rows),
-        Err(found) => fault(alloc, found),
+        Err(found) => fault(alloc, &found),
     }
 }
 
@@ -93,7 +93,7 @@ fn payload_read(alloc: Global, schema: &Schema, at: &Path, json: &Json) -> OrFau
     let payload = Payload::from_json(alloc, json)?;
     match read_payload(alloc, schema, at, &payload) {
         Ok(rows) => shown::rows(alloc, &rows),
-        Err(found) => fault(alloc, found),
+        Err(found) => fault(alloc, &found),
     }
 }
 

@@ -2,7 +2,7 @@
 use std::alloc::{AllocError, AllocFailed};
 use std::str::Utf8Error;
 use yp_base::memory::NoMemory;
-use yp_data_json::fault::DataFault;
+use yp_data_json::fault::DataError;
 use yp_io::whole::ReadError;
 use yp_path::fault::PathFault;
 use yp_schema::fault::SchemaFault;
@@ -76,8 +76,8 @@ impl From<PathFault> for CaseFault {
     }
 }
 
-impl From<DataFault> for CaseFault {
-    fn from(_error: DataFault) -> CaseFault {
+impl From<DataError> for CaseFault {
+    fn from(_error: DataError) -> CaseFault {
         CaseFault::BadArgument
     }
 }

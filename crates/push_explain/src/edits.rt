@@ -6,7 +6,7 @@ use std::alloc::Global;
 use yp_base::memory::NoMemory;
 use yp_base::path::Path;
 use yp_data_json::at_path::read_payload;
-use yp_data_json::fault::DataFault;
+use yp_data_json::fault::{DataError, DataFault};
 use yp_edit::patch::{Edit, EditOp};
 use yp_path::fault::PathFault;
 use yp_path::target::read_target;
@@ -48,6 +48,38 @@ pub fn refused_edit(
     }
 }
 
+/// The name of a node of the schema, as a member of its parent.
+fn member_text(schema: &Schema, node: Option<u32>) -> Option<&str> {
+    let node = node?;
+    if node < schema.count() {
+        Some(schema.member_text(node))
+    } else {
+        None
+    }
+}
+
+/// What is wrong with the value of an edit, and at which member.
+fn value_cause(alloc: Global, schema: &Schema, error: &DataError) -> Result<String, NoMemory> {
+    let fault = error.fault;
+    if fault == DataFault::Memory {
+        return Err(NoMemory);
+    }
+    let at = member_text(schema, error.node);
+    Ok(match &error.member {
+        Some(member) => {
+            let member = member.as_str();
+            match at {
+                Some(at) => format!(in alloc; "{fault} `{member}` in `{at}`")?,
+                None => format!(in alloc; "{fault} `{member}`")?,
+            }
+        }
+        None => match at {
+            Some(at) => format!(in alloc; "{fault}: `{at}`")?,
+            None => format!(in alloc; "{fault}")?,
+        },
+    })
+}
+
 /// Why an edit at a node of the schema is refused.
 fn at_target(
     alloc: Global,
@@ -70,8 +102,10 @@ fn at_target(
     if let Some(value) = &edit.value {
         match read_payload(alloc, schema, path, value) {
             Ok(_) => {}
-            Err(DataFault::Memory) => return Err(NoMemory),
-            Err(fault) => return Ok(format!(in alloc; "the value for `{target}`: {fault}")?),
+            Err(error) => {
+                let cause = value_cause(alloc, schema, &error)?;
+                return Ok(format!(in alloc; "the value for `{target}`: {cause}")?);
+            }
         }
     }
     let meaning = meaning_of(tag, edit.op);

@@ -9,7 +9,7 @@ ghost use Rattle.yp_schema.specs.Nodes.{node_at, qualified_name};
 ghost use Rattle.yp_data_json.specs.Reading.{Gives, Leaves};
 ghost use Rattle.yp_data_json.specs.AtPath.{leaf_row, named_entry, named_value, one_of, named_read, outer_read, has_no_members, object_read, rows_read};
 
-use crate::fault::DataFault;
+use crate::fault::DataError;
 use crate::keys::{atom_of, read_keys, value_of};
 use crate::reading::{
     enter, enter_entry, only_key, path_below, read_datastore, read_members, read_node,
@@ -34,7 +34,7 @@ fn read_named_entry(
     keys: &Keys,
     json: &Json,
     rows: &mut Gathering,
-) -> Result<(), DataFault>
+) -> Result<(), DataError>
     requires { node < length schema.now }
     ensures { Leaves result rows.new (named_entry schema.now node above.now keys.now (view json.now) rows.old) }
 {
@@ -42,12 +42,12 @@ fn read_named_entry(
         Json::Object(members) => {
             let found = read_keys(alloc, schema, schema.keys(node), members)?;
             if found != *keys {
-                return Err(DataFault::InvalidValue);
+                return Err(DataError::invalid(node));
             }
             let path = enter_entry(alloc, above, node, found, rows)?;
             read_members(alloc, schema, Some(node), &path, members, rows)
         }
-        _ => Err(DataFault::InvalidValue),
+        _ => Err(DataError::invalid(node)),
     }
 }
 
@@ -60,17 +60,17 @@ fn read_named_value(
     keys: &Keys,
     json: &Json,
     rows: &mut Gathering,
-) -> Result<(), DataFault>
+) -> Result<(), DataError>
     requires { node < length schema.now }
     ensures { Leaves result rows.new (named_value schema.now node above.now keys.now (view json.now) rows.old) }
 {
     let atom = atom_of(alloc, schema, node, json)?;
     let only = only_key(alloc, atom)?;
     if only != *keys {
-        return Err(DataFault::InvalidValue);
+        return Err(DataError::invalid(node));
     }
     let path = path_below(alloc, above, node, only)?;
-    enter(alloc, path, Value::Member, rows)
+    enter(alloc, node, path, Value::Member, rows)
 }
 
 /// Puts the rows of an array of the one entry that a path names.
@@ -82,16 +82,16 @@ fn read_one(
     keys: &Keys,
     items: &Vec<Json>,
     rows: &mut Gathering,
-) -> Result<(), DataFault>
+) -> Result<(), DataError>
     requires { node < length schema.now }
     ensures { Leaves result rows.new (one_of (items_view items.now.items) (λ d. named_entry schema.now node above.now keys.now d rows.old)) }
 {
     match items.as_slice().split_first() {
         Some((first, rest)) => match rest.split_first() {
             None => read_named_entry(alloc, schema, node, above, keys, first, rows),
-            Some(_) => Err(DataFault::InvalidValue),
+            Some(_) => Err(DataError::invalid(node)),
         },
-        None => Err(DataFault::InvalidValue),
+        None => Err(DataError::invalid(node)),
     }
 }
 
@@ -104,16 +104,16 @@ fn read_one_value(
     keys: &Keys,
     items: &Vec<Json>,
     rows: &mut Gathering,
-) -> Result<(), DataFault>
+) -> Result<(), DataError>
     requires { node < length schema.now }
     ensures { Leaves result rows.new (one_of (items_view items.now.items) (λ d. named_value schema.now node above.now keys.now d rows.old)) }
 {
     match items.as_slice().split_first() {
         Some((first, rest)) => match rest.split_first() {
             None => read_named_value(alloc, schema, node, above, keys, first, rows),
-            Some(_) => Err(DataFault::InvalidValue),
+            Some(_) => Err(DataError::invalid(node)),
         },
-        None => Err(DataFault::InvalidValue),
+        None => Err(DataError::invalid(node)),
     }
 }
 
@@ -126,18 +126,18 @@ fn read_named(
     keys: &Keys,
     json: &Json,
     rows: &mut Gathering,
-) -> Result<(), DataFault>
+) -> Result<(), DataError>
     requires { node < length schema.now }
     ensures { Leaves result rows.new (named_read schema.now node above.now keys.now (view json.now) rows.old) }
 {
     match schema.kind(node) {
         Kind::List => match json {
             Json::Array(items) => read_one(alloc, schema, node, above, keys, items, rows),
-            _ => Err(DataFault::InvalidValue),
+            _ => Err(DataError::invalid(node)),
         },
         Kind::LeafList => match json {
             Json::Array(items) => read_one_value(alloc, schema, node, above, keys, items, rows),
-            _ => Err(DataFault::InvalidValue),
+            _ => Err(DataError::invalid(node)),
         },
         _ => read_node(alloc, schema, node, above, json, rows),
     }
@@ -153,14 +153,14 @@ fn read_outer(
     keys: &Keys,
     members: &Map<String, Json>,
     rows: &mut Gathering,
-) -> Result<(), DataFault>
+) -> Result<(), DataError>
     requires within { node < length schema.now }
     requires name { name.now ≡ qualified_name (node_at node schema.now) }
     ensures { Leaves result rows.new (outer_read schema.now node above.now keys.now (members_view members.now.entries) rows.old) }
 {
     for (other, json) in members.iter() {
         if other.as_str() != name {
-            return Err(DataFault::UnknownElement);
+            return Err(DataError::unknown(alloc, schema.parent(node), other.as_str()));
         }
         read_named(alloc, schema, node, above, keys, json, rows)?;
     }
@@ -193,14 +193,14 @@ fn read_object(
     above: &Path,
     keys: &Keys,
     json: &Json,
-) -> Result<Rows, DataFault>
+) -> Result<Rows, DataError>
     requires { node < length schema.now }
     ensures { Gives result (object_read schema.now node above.now keys.now (view json.now)) }
 {
     match json {
         Json::Object(members) => {
             if has_none(members) {
-                return Err(DataFault::InvalidValue);
+                return Err(DataError::invalid(node));
             }
             let name = qualified(alloc, schema, node)?;
             let mut rows = Gathering::new(alloc);
@@ -216,7 +216,7 @@ fn read_object(
             )?;
             Ok(rows.into_rows(alloc)?)
         }
-        _ => Err(DataFault::InvalidValue),
+        _ => Err(DataError::invalid(node)),
     }
 }
 
@@ -259,7 +259,7 @@ fn read_leaf_row(
     node: u32,
     at: &Path,
     json: &Json,
-) -> Result<Rows, DataFault>
+) -> Result<Rows, DataError>
     requires { node < length schema.now }
     ensures { Gives result (leaf_row schema.now node at.now (view json.now)) }
 {
@@ -279,7 +279,7 @@ fn read_node_rows(
     last: &Seg,
     above: &[Seg],
     json: &Json,
-) -> Result<Rows, DataFault>
+) -> Result<Rows, DataError>
     requires { last.now.node < length schema.now }
     ensures { Gives result (named_read schema.now last.now.node above.now last.now.keys (view json.now) []) }
 {
@@ -300,13 +300,13 @@ fn read_member(
     above: &[Seg],
     name: &str,
     json: &Json,
-) -> Result<Rows, DataFault>
+) -> Result<Rows, DataError>
     requires place { is_place schema.now at.now ≡ true }
     requires parts { at.now ≡ above.now ++ last.now ∷ [] }
     ensures { Gives result (rows_read schema.now at.now (object (member name.now (view json.now) no_members))) }
 {
     if !is_qualified(schema, last.node, name) {
-        return Err(DataFault::UnknownElement);
+        return Err(DataError::unknown(alloc, schema.parent(last.node), name));
     }
     match schema.kind(last.node) {
         Kind::Leaf => read_leaf_row(alloc, schema, last.node, at, json),
@@ -335,7 +335,7 @@ fn read_below(
     last: &Seg,
     above: &[Seg],
     json: &Json,
-) -> Result<Rows, DataFault>
+) -> Result<Rows, DataError>
     requires place { is_place schema.now at.now ≡ true }
     requires parts { at.now ≡ above.now ++ last.now ∷ [] }
     ensures { Gives result (rows_read schema.now at.now (view json.now)) }
@@ -350,7 +350,7 @@ fn read_below(
 }
 
 /// The rows at a path, or of a whole datastore.
-fn read_place(alloc: Global, schema: &Schema, at: &Path, json: &Json) -> Result<Rows, DataFault>
+fn read_place(alloc: Global, schema: &Schema, at: &Path, json: &Json) -> Result<Rows, DataError>
     requires { is_place schema.now at.now ≡ true }
     ensures { Gives result (rows_read schema.now at.now (view json.now)) }
 {
@@ -368,7 +368,7 @@ fn read_place(alloc: Global, schema: &Schema, at: &Path, json: &Json) -> Result<
 /// node's qualified name; `InvalidValue` at a wrong kind of JSON, a wrong value, an object without
 /// members at a path, or keys that aren't the path's; `MissingKey` at the place of a missing key;
 /// `RepeatedKey` at the second of two entries with one path.
-pub fn read_rows(alloc: Global, schema: &Schema, at: &Path, json: &Json) -> Result<Rows, DataFault>
+pub fn read_rows(alloc: Global, schema: &Schema, at: &Path, json: &Json) -> Result<Rows, DataError>
     requires { is_place schema.now at.now ≡ true }
     ensures read { Gives result (rows_read schema.now at.now (view json.now)) }
     ensures rows { IfOk result (λ rows. AreWhole schema.now at.now rows) }
@@ -383,7 +383,7 @@ pub fn read_payload(
     schema: &Schema,
     at: &Path,
     payload: &Payload,
-) -> Result<Rows, DataFault>
+) -> Result<Rows, DataError>
     requires { is_place schema.now at.now ≡ true }
     ensures read { Gives result (rows_read schema.now at.now payload.now) }
     ensures rows { IfOk result (λ rows. AreWhole schema.now at.now rows) }

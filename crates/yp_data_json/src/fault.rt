@@ -1,7 +1,12 @@
 //! What is wrong with data.
-use std::alloc::{AllocError, AllocFailed};
+ghost use Rattle.std.specs.Prelude.{◌≡◌};
+ghost use Rattle.yp_data_json.specs.declared.fault.DataFault.TheVariants.{UnknownElement, InvalidValue, Memory};
+
+use std::alloc::{AllocError, AllocFailed, Global};
+use std::fmt;
+use std::marker::Model;
 use yp_base::memory::NoMemory;
-use yp_base::text::TextFault;
+use yp_base::txt::Txt;
 
 /// What is wrong with data, or that memory ran out.
 #[derive(Debug, Drop, Clone, Copy, PartialEq, Eq, thiserror::Error)]
@@ -23,35 +28,119 @@ pub enum DataFault {
     Memory,
 }
 
-impl From<NoMemory> for DataFault {
-    ghost use Rattle.std.specs.Prelude.{◌≡◌};
-    ghost use Rattle.yp_data_json.specs.declared.fault.DataFault.TheVariants.{Memory};
+/// What is wrong with data, and where. Contracts see what is wrong; where is for people.
+#[derive(Drop, thiserror::Error)]
+#[error("{fault}")]
+pub struct DataError {
+    pub fault: DataFault,
+    /// the node at which it is, of the schema; `None` at the top of a datastore, and where memory ran out
+    pub node: Option<u32>,
+    /// the name of a member that is no child of the node
+    pub member: Option<Txt>,
+}
 
-    ghost from_gives = { λ _ e. e ≡ Memory };
+impl Model for DataError {
+    ghost use Rattle.yp_data_json.specs.declared.fault.DataFault.{DataFault};
 
-    fn from(_error: NoMemory) -> DataFault {
-        DataFault::Memory
+    ghost Value = { DataFault };
+
+    ghost view = { λ e. e.fault };
+}
+
+impl fmt::Debug for DataError {
+    fn fmt<W: fmt::Write>(&self, f: &mut fmt::Formatter<W>) -> fmt::Result {
+        write!(f, "{self}")
     }
 }
 
-impl From<AllocError> for DataFault {
-    ghost use Rattle.std.specs.Prelude.{◌≡◌};
-    ghost use Rattle.yp_data_json.specs.declared.fault.DataFault.TheVariants.{Memory};
+impl DataError {
+    /// A wrong kind of JSON or a wrong value at a node.
+    pub(crate) fn invalid(node: u32) -> DataError
+        ensures { result ≡ InvalidValue }
+    {
+        DataError::at(DataFault::InvalidValue, node)
+    }
 
-    ghost from_gives = { λ _ e. e ≡ Memory };
+    /// No object, at the top of a datastore.
+    pub(crate) fn top() -> DataError
+        ensures { result ≡ InvalidValue }
+    {
+        DataError {
+            fault: DataFault::InvalidValue,
+            node: None,
+            member: None,
+        }
+    }
 
-    fn from(_error: AllocError) -> DataFault {
-        DataFault::Memory
+    /// A fault at a node.
+    pub(crate) fn at(fault: DataFault, node: u32) -> DataError
+        ensures { result ≡ fault }
+    {
+        DataError {
+            fault,
+            node: Some(node),
+            member: None,
+        }
+    }
+
+    /// A member that is no child of a node, or of the top of a datastore.
+    pub(crate) fn unknown(alloc: Global, node: Option<u32>, name: &str) -> DataError
+        ensures { result ≡ UnknownElement }
+    {
+        DataError {
+            fault: DataFault::UnknownElement,
+            node,
+            member: txt(alloc, name),
+        }
+    }
+
+    /// Memory ran out.
+    pub(crate) fn memory() -> DataError
+        ensures { result ≡ Memory }
+    {
+        DataError {
+            fault: DataFault::Memory,
+            node: None,
+            member: None,
+        }
     }
 }
 
-impl<T: Drop> From<AllocFailed<T>> for DataFault {
+// A text, where there is memory for it.
+fn txt(alloc: Global, text: &str) -> Option<Txt> {
+    let text = String::from_str(alloc, text).ok()?;
+    Some(Txt::from_string(text))
+}
+
+impl From<NoMemory> for DataError {
     ghost use Rattle.std.specs.Prelude.{◌≡◌};
     ghost use Rattle.yp_data_json.specs.declared.fault.DataFault.TheVariants.{Memory};
 
     ghost from_gives = { λ _ e. e ≡ Memory };
 
-    fn from(_error: AllocFailed<T>) -> DataFault {
-        DataFault::Memory
+    fn from(_error: NoMemory) -> DataError {
+        DataError::memory()
+    }
+}
+
+impl From<AllocError> for DataError {
+    ghost use Rattle.std.specs.Prelude.{◌≡◌};
+    ghost use Rattle.yp_data_json.specs.declared.fault.DataFault.TheVariants.{Memory};
+
+    ghost from_gives = { λ _ e. e ≡ Memory };
+
+    fn from(_error: AllocError) -> DataError {
+        DataError::memory()
+    }
+}
+
+impl<T: Drop> From<AllocFailed<T>> for DataError {
+    ghost use Rattle.std.specs.Prelude.{◌≡◌};
+    ghost use Rattle.yp_data_json.specs.declared.fault.DataFault.TheVariants.{Memory};
+
+    ghost from_gives = { λ _ e. e ≡ Memory };
+
+    fn from(_error: AllocFailed<T>) -> DataError {
+        DataError::memory()
     }
 }

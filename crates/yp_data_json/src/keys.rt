@@ -6,7 +6,7 @@ ghost use Rattle.yp_schema.specs.Nodes.{node_at};
 ghost use Rattle.yp_schema.specs.Values.{typed_value, typed_atom};
 ghost use Rattle.yp_data_json.specs.Reading.{Gives, valid, at_key, key_in, earliest, keys_in};
 
-use crate::fault::DataFault;
+use crate::fault::{DataError, DataFault};
 use serde_json::{Map, Value as Json};
 use std::alloc::Global;
 use yp_base::atom::{Atom, Keys};
@@ -17,26 +17,26 @@ use yp_base::text::TextFault;
 use yp_schema::schema::Schema;
 
 /// The value that JSON is read as at a node, to be kept, or the fault that it is none.
-pub fn value_of(alloc: Global, schema: &Schema, node: u32, json: &Json) -> Result<Value, DataFault>
+pub fn value_of(alloc: Global, schema: &Schema, node: u32, json: &Json) -> Result<Value, DataError>
     requires { node < length schema.now }
     ensures { Gives result (valid (typed_value (node_at node schema.now).ty (view json.now))) }
 {
     match schema.read_value(alloc, node, json) {
         Ok(value) => Ok(value.share(alloc)?),
-        Err(TextFault::BadText) => Err(DataFault::InvalidValue),
-        Err(TextFault::Memory) => Err(DataFault::Memory),
+        Err(TextFault::BadText) => Err(DataError::invalid(node)),
+        Err(TextFault::Memory) => Err(DataError::memory()),
     }
 }
 
 /// The value that JSON is read as in a key or a leaf-list, or the fault that it is none.
-pub fn atom_of(alloc: Global, schema: &Schema, node: u32, json: &Json) -> Result<Atom, DataFault>
+pub fn atom_of(alloc: Global, schema: &Schema, node: u32, json: &Json) -> Result<Atom, DataError>
     requires { node < length schema.now }
     ensures { Gives result (valid (typed_atom (node_at node schema.now).ty (view json.now))) }
 {
     match schema.read_atom(alloc, node, json) {
         Ok(atom) => Ok(atom),
-        Err(TextFault::BadText) => Err(DataFault::InvalidValue),
-        Err(TextFault::Memory) => Err(DataFault::Memory),
+        Err(TextFault::BadText) => Err(DataError::invalid(node)),
+        Err(TextFault::Memory) => Err(DataError::memory()),
     }
 }
 
@@ -62,8 +62,10 @@ fn read_key(
     match member_in(members, schema.member_text(node)) {
         Some(json) => match atom_of(alloc, schema, node, json) {
             Ok(atom) => Ok(Ok(atom)),
-            Err(DataFault::Memory) => Err(NoMemory),
-            Err(fault) => Ok(Err((node, fault))),
+            Err(error) => match error.fault {
+                DataFault::Memory => Err(NoMemory),
+                fault => Ok(Err((node, fault))),
+            },
         },
         None => Ok(Err((node, DataFault::MissingKey))),
     }
@@ -103,7 +105,7 @@ pub fn read_keys(
     schema: &Schema,
     nodes: &[u32],
     members: &Map<String, Json>,
-) -> Result<Keys, DataFault>
+) -> Result<Keys, DataError>
     requires { All (λ n. n < length schema.now) nodes.now }
     ensures { Gives result (keys_in schema.now nodes.now (members_view members.now.entries)) }
 {
@@ -118,7 +120,7 @@ pub fn read_keys(
         }
     }
     match first {
-        Some((_, fault)) => Err(fault),
+        Some((node, fault)) => Err(DataError::at(fault, node)),
         None => Ok(Series::from_vec(keys)),
     }
 }

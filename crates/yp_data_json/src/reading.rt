@@ -5,7 +5,7 @@ ghost use Rattle.yp_base.specs.Rows.{put_row};
 ghost use Rattle.yp_base.specs.declared.row.Value.TheVariants.{Present};
 ghost use Rattle.yp_data_json.specs.Reading.{Gives, Leaves, below, row_at, entered, leaf_read, value_read, leaf_list_read, members_read, node_read, entries_read, entry_read, datastore_read};
 
-use crate::fault::DataFault;
+use crate::fault::{DataError, DataFault};
 use crate::keys::{atom_of, read_keys, value_of};
 use serde_json::{Map, Value as Json};
 use std::alloc::Global;
@@ -41,7 +41,7 @@ fn read_leaf(
     path: &Path,
     json: &Json,
     rows: &mut Gathering,
-) -> Result<(), DataFault>
+) -> Result<(), DataError>
     requires { node < length schema.now }
     ensures { Leaves result rows.new (leaf_read schema.now node path.now (view json.now) rows.old) }
 {
@@ -51,12 +51,18 @@ fn read_leaf(
     Ok(())
 }
 
-/// Puts the row of an entry, of which there is none yet.
-pub fn enter(alloc: Global, path: Path, value: Value, rows: &mut Gathering) -> Result<(), DataFault>
+/// Puts the row of an entry of a node, of which there is none yet.
+pub fn enter(
+    alloc: Global,
+    node: u32,
+    path: Path,
+    value: Value,
+    rows: &mut Gathering,
+) -> Result<(), DataError>
     ensures { Leaves result rows.new (entered path value rows.old) }
 {
     match rows.replace(alloc, Row { path, value })? {
-        Some(_) => Err(DataFault::RepeatedKey),
+        Some(_) => Err(DataError::at(DataFault::RepeatedKey, node)),
         None => Ok(()),
     }
 }
@@ -68,12 +74,12 @@ pub fn enter_entry(
     node: u32,
     keys: Keys,
     rows: &mut Gathering,
-) -> Result<Path, DataFault>
+) -> Result<Path, DataError>
     ensures path { IfOk result (λ made. made ≡ below path.now node keys) }
     ensures rows { Leaves result rows.new (entered (below path.now node keys) Present rows.old) }
 {
     let path = path_below(alloc, path, node, keys)?;
-    enter(alloc, path.copy(alloc)?, Value::Present, rows)?;
+    enter(alloc, node, path.copy(alloc)?, Value::Present, rows)?;
     Ok(path)
 }
 
@@ -94,13 +100,13 @@ fn read_entry_value(
     path: &Path,
     json: &Json,
     rows: &mut Gathering,
-) -> Result<(), DataFault>
+) -> Result<(), DataError>
     requires { node < length schema.now }
     ensures { Leaves result rows.new (value_read schema.now node path.now (view json.now) rows.old) }
 {
     let atom = atom_of(alloc, schema, node, json)?;
     let path = path_below(alloc, path, node, only_key(alloc, atom)?)?;
-    enter(alloc, path, Value::Member, rows)
+    enter(alloc, node, path, Value::Member, rows)
 }
 
 /// Puts the rows of a leaf-list.
@@ -111,7 +117,7 @@ fn read_values(
     path: &Path,
     items: &Vec<Json>,
     rows: &mut Gathering,
-) -> Result<(), DataFault>
+) -> Result<(), DataError>
     requires { node < length schema.now }
     ensures { Leaves result rows.new (leaf_list_read schema.now node path.now (items_view items.now.items) rows.old) }
 {
@@ -130,14 +136,14 @@ pub fn read_members(
     path: &Path,
     members: &Map<String, Json>,
     rows: &mut Gathering,
-) -> Result<(), DataFault>
+) -> Result<(), DataError>
     requires { IfSome parent (λ parent. parent < length schema.now) }
     ensures { Leaves result rows.new (members_read schema.now parent path.now (members_view members.now.entries) rows.old) }
 {
     for (name, json) in members.iter() {
         let node = match schema.child(parent, name.as_str()) {
             Some(node) => node,
-            None => return Err(DataFault::UnknownElement),
+            None => return Err(DataError::unknown(alloc, parent, name.as_str())),
         };
         if !schema.is_key(node, parent) {
             read_node(alloc, schema, node, path, json, rows)?;
@@ -155,7 +161,7 @@ pub fn read_node(
     path: &Path,
     json: &Json,
     rows: &mut Gathering,
-) -> Result<(), DataFault>
+) -> Result<(), DataError>
     requires { node < length schema.now }
     ensures { Leaves result rows.new (node_read schema.now node path.now (view json.now) rows.old) }
 {
@@ -170,17 +176,17 @@ pub fn read_node(
                 put_presence(alloc, &path, rows)?;
                 read_members(alloc, schema, Some(node), &path, members, rows)
             }
-            _ => Err(DataFault::InvalidValue),
+            _ => Err(DataError::invalid(node)),
         },
         Json::Array(items) => match schema.kind(node) {
             Kind::List => read_entries(alloc, schema, node, path, items, rows),
             Kind::Leaf => read_leaf(alloc, schema, node, path, json, rows),
             Kind::LeafList => read_values(alloc, schema, node, path, items, rows),
-            _ => Err(DataFault::InvalidValue),
+            _ => Err(DataError::invalid(node)),
         },
         _ => match schema.kind(node) {
             Kind::Leaf => read_leaf(alloc, schema, node, path, json, rows),
-            _ => Err(DataFault::InvalidValue),
+            _ => Err(DataError::invalid(node)),
         },
     }
 }
@@ -194,7 +200,7 @@ fn read_entries(
     path: &Path,
     items: &Vec<Json>,
     rows: &mut Gathering,
-) -> Result<(), DataFault>
+) -> Result<(), DataError>
     requires { node < length schema.now }
     ensures { Leaves result rows.new (entries_read schema.now node path.now (items_view items.now.items) rows.old) }
 {
@@ -213,7 +219,7 @@ fn read_entry(
     path: &Path,
     json: &Json,
     rows: &mut Gathering,
-) -> Result<(), DataFault>
+) -> Result<(), DataError>
     requires { node < length schema.now }
     ensures { Leaves result rows.new (entry_read schema.now node path.now (view json.now) rows.old) }
 {
@@ -223,12 +229,12 @@ fn read_entry(
             let path = enter_entry(alloc, path, node, keys, rows)?;
             read_members(alloc, schema, Some(node), &path, members, rows)
         }
-        _ => Err(DataFault::InvalidValue),
+        _ => Err(DataError::invalid(node)),
     }
 }
 
 /// The rows that a datastore's data hold, in the order of their paths.
-pub fn read_datastore(alloc: Global, schema: &Schema, json: &Json) -> Result<Rows, DataFault>
+pub fn read_datastore(alloc: Global, schema: &Schema, json: &Json) -> Result<Rows, DataError>
     ensures { Gives result (datastore_read schema.now (view json.now)) }
 {
     match json {
@@ -238,6 +244,6 @@ pub fn read_datastore(alloc: Global, schema: &Schema, json: &Json) -> Result<Row
             read_members(alloc, schema, None, &top, members, &mut rows)?;
             Ok(rows.into_rows(alloc)?)
         }
-        _ => Err(DataFault::InvalidValue),
+        _ => Err(DataError::top()),
     }
 }

@@ -29,11 +29,13 @@ fn read_rows(alloc: Global, schema: &Schema, at: &Path, json: &Json) -> Result<R
 {
     match at_path::read_rows(alloc, schema, at, json) {
         Ok(rows) => Ok(rows),
-        Err(DataFault::Memory) => Err(StreamFault::Memory),
-        Err(DataFault::UnknownElement) => Err(StreamFault::Data(DataFault::UnknownElement)),
-        Err(DataFault::InvalidValue) => Err(StreamFault::Data(DataFault::InvalidValue)),
-        Err(DataFault::MissingKey) => Err(StreamFault::Data(DataFault::MissingKey)),
-        Err(DataFault::RepeatedKey) => Err(StreamFault::Data(DataFault::RepeatedKey)),
+        Err(error) => match error.fault {
+            DataFault::Memory => Err(StreamFault::Memory),
+            DataFault::UnknownElement => Err(StreamFault::Data(DataFault::UnknownElement)),
+            DataFault::InvalidValue => Err(StreamFault::Data(DataFault::InvalidValue)),
+            DataFault::MissingKey => Err(StreamFault::Data(DataFault::MissingKey)),
+            DataFault::RepeatedKey => Err(StreamFault::Data(DataFault::RepeatedKey)),
+        },
     }
 }
 

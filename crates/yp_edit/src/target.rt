@@ -73,6 +73,19 @@ pub fn read_path(alloc: Global, schema: &Schema, text: &Txt) -> Result<Path, Hal
     }
 }
 
+/// What stops an edit whose value has this fault.
+fn halted(fault: DataFault) -> Halt
+    ensures { Says (Err result) (rows_or (Err fault)) }
+{
+    match fault {
+        DataFault::UnknownElement => refused(Tag::UnknownElement),
+        DataFault::InvalidValue => refused(Tag::InvalidValue),
+        DataFault::MissingKey => refused(Tag::InvalidValue),
+        DataFault::RepeatedKey => refused(Tag::InvalidValue),
+        DataFault::Memory => Halt::Memory,
+    }
+}
+
 /// The rows of a value at a target.
 pub fn read_value(
     alloc: Global,
@@ -86,11 +99,7 @@ pub fn read_value(
     match value {
         Some(value) => match read_payload(alloc, schema, target, value) {
             Ok(rows) => Ok(rows),
-            Err(DataFault::UnknownElement) => Err(refused(Tag::UnknownElement)),
-            Err(DataFault::InvalidValue) => Err(refused(Tag::InvalidValue)),
-            Err(DataFault::MissingKey) => Err(refused(Tag::InvalidValue)),
-            Err(DataFault::RepeatedKey) => Err(refused(Tag::InvalidValue)),
-            Err(DataFault::Memory) => Err(Halt::Memory),
+            Err(error) => Err(halted(error.fault)),
         },
         None => Err(refused(Tag::InvalidValue)),
     }
