@@ -16,5 +16,3 @@ pub mod fault;
 pub mod line;
 mod members;
 mod places;
-#[cfg(test)]
-mod tests;

@@ -1,10 +1,11 @@
-//! A line of each kind, one of each fault, and a change update with its edits.
-use crate::fault::StreamFault;
-use crate::line::{Heard, read_line};
+//! What `yp_decode` reads: a line of each kind, one of each fault, and a change update with its edits. The tests stand
+//! here, since a crate with tests is proved twice.
 use serde_json::Value as Json;
 use std::alloc::{AllocError, Global};
 use std::test::Fail;
 use yp_base::notice::{ChangeKind, Notice};
+use yp_decode::fault::StreamFault;
+use yp_decode::line::{Heard, read_line};
 use yp_schema::schema::Schema;
 
 // Ports with a name and an mtu.
