@@ -1,5 +1,5 @@
-//! Ids to the end of their range, which no script and no case of calls reaches, and each further call where it
-//! is done.
+//! Ids to the end of their range, and modifications that give up a filter, which no script and no case of calls
+//! reaches.
 ghost use Rattle.std.specs.Prelude.{IfOk};
 ghost use Rattle.yp_terms.specs.Amends.{HasGivenAnchor};
 ghost use Rattle.yp_terms.specs.Terms.{HasAnchor};
@@ -182,27 +182,6 @@ fn modified(
     registry.modify(alloc, schema, policy, by, id, &amend, 0)
 }
 
-fn resynced(policy: &Policy, registry: &mut Registry, by: u32, id: u32) -> Result<(), Refused> {
-    if registry.users().len() <= by as usize {
-        return Err(Refused::AccessDenied);
-    }
-    registry.resync(policy, by, id)
-}
-
-fn deleted(policy: &Policy, registry: &mut Registry, by: u32, id: u32) -> Result<(), Refused> {
-    if registry.users().len() <= by as usize {
-        return Err(Refused::AccessDenied);
-    }
-    registry.delete(policy, by, id)
-}
-
-fn killed(policy: &Policy, registry: &mut Registry, by: u32, id: u32) -> Result<(), Refused> {
-    if registry.users().len() <= by as usize {
-        return Err(Refused::AccessDenied);
-    }
-    registry.kill(policy, by, id)
-}
-
 // What is answered where a subscription of everything is configured for b and a.
 fn configured(
     alloc: Global,
@@ -227,64 +206,28 @@ fn reconfigured(
     registry.reconfigure(alloc, schema, id, &dampened(), 0)
 }
 
-fn unconfigured(registry: &mut Registry, id: u32) -> Result<(), Refused> {
-    registry.unconfigure(id)
-}
-
 #[test]
-fn a_receiver_modifies_resyncs_and_deletes_its_own_subscription(
-    rt: HostRuntime,
-) -> Result<(), Fail> {
+fn a_subscription_is_modified_to_have_no_filter(rt: HostRuntime) -> Result<(), Fail> {
     let alloc = rt.alloc();
     let schema = Schema::read(alloc, &[])?;
     let policy = Policy::opening(alloc);
     let mut registry = registry_of_two(alloc)?;
     let id = answer(alloc, &schema, &policy, &mut registry)?;
-    let missing = Err(Refused::NoSuchSubscription { resync: false });
-    assert_eq!(rt;
-        modified(alloc, &schema, &policy, &mut registry, 1, id),
-        missing
-    );
-    assert!(rt; has_dampening(&registry, id, 0));
     assert_eq!(rt;
         modified(alloc, &schema, &policy, &mut registry, 0, id),
         Ok(())
     );
     assert!(rt; has_dampening(&registry, id, 10));
-    assert_eq!(rt; resynced(&policy, &mut registry, 0, id), Ok(()));
-    assert_eq!(rt; deleted(&policy, &mut registry, 0, id), Ok(()));
-    assert!(rt; registry.live().is_empty());
     Ok(())
 }
 
 #[test]
-fn an_operator_kills_the_subscription_of_another_receiver(rt: HostRuntime) -> Result<(), Fail> {
+fn a_configured_subscription_is_modified_to_have_no_filter(rt: HostRuntime) -> Result<(), Fail> {
     let alloc = rt.alloc();
     let schema = Schema::read(alloc, &[])?;
-    let mut policy = Policy::opening(alloc);
     let mut registry = registry_of_two(alloc)?;
-    let id = answer(alloc, &schema, &policy, &mut registry)?;
-    policy.enabled = false;
-    assert_eq!(rt; killed(&policy, &mut registry, 1, id), Ok(()));
-    assert!(rt; registry.live().is_empty());
-    Ok(())
-}
-
-#[test]
-fn a_configured_id_is_taken_for_ever(rt: HostRuntime) -> Result<(), Fail> {
-    let alloc = rt.alloc();
-    let schema = Schema::read(alloc, &[])?;
-    let policy = Policy::opening(alloc);
-    let mut registry = registry_of_two(alloc)?;
-    let id = answer(alloc, &schema, &policy, &mut registry)?;
     assert_eq!(rt; configured(alloc, &schema, &mut registry, 7), Ok(()));
-    assert!(rt; has_ids(&registry, &[7, id]));
-    assert!(rt; registry.receivers(7) == Some(&[0, 1][..]));
     assert_eq!(rt; reconfigured(alloc, &schema, &mut registry, 7), Ok(()));
     assert!(rt; has_dampening(&registry, 7, 10));
-    assert_eq!(rt; unconfigured(&mut registry, 7), Ok(()));
-    let again = configured(alloc, &schema, &mut registry, 7);
-    assert_eq!(rt; again, Err(Refused::InvalidId));
-    assert!(rt; has_ids(&registry, &[id]));
     Ok(())
 }
