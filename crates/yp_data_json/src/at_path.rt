@@ -291,6 +291,11 @@ fn read_node_rows(
     Ok(rows.into_rows(alloc)?)
 }
 
+/// The node in which segments end.
+fn node_of(segments: &[Seg]) -> Option<u32> {
+    Some(segments.last()?.node)
+}
+
 /// The rows of an object of one member at a path, which ends in a segment below others.
 fn read_member(
     alloc: Global,
@@ -306,7 +311,7 @@ fn read_member(
     ensures { Gives result (rows_read schema.now at.now (object (member name.now (view json.now) no_members))) }
 {
     if !is_qualified(schema, last.node, name) {
-        return Err(DataError::unknown(alloc, schema.parent(last.node), name));
+        return Err(DataError::unknown(alloc, node_of(above), name));
     }
     match schema.kind(last.node) {
         Kind::Leaf => read_leaf_row(alloc, schema, last.node, at, json),

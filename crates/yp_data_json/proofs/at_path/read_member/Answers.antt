@@ -2,7 +2,9 @@ use Rattle.std.proofs.Common.{◌≡◌, List, true, sym, subst, ◌∙◌}
 use Rattle.serde_json.specs.View.{view}
 use Rattle.yp_base.specs.declared.path.Seg.{Seg}
 use Rattle.yp_schema.specs.Datastore.{is_place}
-use Rattle.yp_data_json.specs.Reading.{Gives}
+use Rattle.serde_json.specs.Data.{object, member, no_members}
+use Rattle.yp_data_json.specs.AtPath.{rows_read}
+use Rattle.yp_data_json.specs.Reading.{Gives, Fails}
 use Rattle.yp_data_json.proofs.OneMember.{unknown, named, named_leaf}
 use Rattle.yp_data_json.proofs.Places.{place_within}
 use Rattle.yp_data_json.proofs.at_path.read_member.Goals as goal
@@ -24,8 +26,9 @@ read_node_rows-requires c =
 
 pub returns-then-not-is_qualified : goal.returns-then-not-is_qualified
 returns-then-not-is_qualified c =
-    unknown c.args.schema.now c.args.at.now c.args.above.now c.args.last.now c.args.name.now (view c.args.json.now) c.requires.parts
-    (sym c.is_qualified.ensures ∙ c.if-not-is_qualified.true)
+    subst (λ fault. Fails fault (rows_read c.args.schema.now c.args.at.now (object (member c.args.name.now (view c.args.json.now) no_members)))) (sym c.unknown.ensures)
+    (unknown c.args.schema.now c.args.at.now c.args.above.now c.args.last.now c.args.name.now (view c.args.json.now) c.requires.parts
+    (sym c.is_qualified.ensures ∙ c.if-not-is_qualified.true))
 
 pub returns-in-Leaf : goal.returns-in-Leaf
 returns-in-Leaf c =
