@@ -73,19 +73,6 @@ pub fn read_path(alloc: Global, schema: &Schema, text: &Txt) -> Result<Path, Hal
     }
 }
 
-/// What stops an edit whose value has this fault.
-fn halted(fault: DataFault) -> Halt
-    ensures { Says (Err result) (rows_or (Err fault)) }
-{
-    match fault {
-        DataFault::UnknownElement => refused(Tag::UnknownElement),
-        DataFault::InvalidValue => refused(Tag::InvalidValue),
-        DataFault::MissingKey => refused(Tag::InvalidValue),
-        DataFault::RepeatedKey => refused(Tag::InvalidValue),
-        DataFault::Memory => Halt::Memory,
-    }
-}
-
 /// The rows of a value at a target.
 pub fn read_value(
     alloc: Global,
@@ -99,7 +86,13 @@ pub fn read_value(
     match value {
         Some(value) => match read_payload(alloc, schema, target, value) {
             Ok(rows) => Ok(rows),
-            Err(error) => Err(halted(error.fault)),
+            Err(error) => match error.fault {
+                DataFault::UnknownElement => Err(refused(Tag::UnknownElement)),
+                DataFault::InvalidValue => Err(refused(Tag::InvalidValue)),
+                DataFault::MissingKey => Err(refused(Tag::InvalidValue)),
+                DataFault::RepeatedKey => Err(refused(Tag::InvalidValue)),
+                DataFault::Memory => Err(Halt::Memory),
+            },
         },
         None => Err(refused(Tag::InvalidValue)),
     }
