@@ -2,6 +2,7 @@
 """Writes a stream to replay, of about N bytes: a schema line, and then notifications of one receiver.
 
     make_stream.py N one       one full update of 20,000 rows, then change updates of one edit each, to one id
+    make_stream.py N several   the same, with 100 edits in each change update
     make_stream.py N fulls     full updates of 20,000 rows each, to one id, in the order of their paths
     make_stream.py N scattered the same, with the entries of each in no order
     make_stream.py N many      one change update to each id, as many ids as there is room for, and not more than 60,000
@@ -11,9 +12,10 @@ Entries have names of two families. Their leaves are a number, a truth value and
 
 from __future__ import annotations
 
+import itertools
 import json
 import sys
-from collections.abc import Iterator
+from collections.abc import Iterator, Sequence
 from typing import Any
 
 from make_script import scattered
@@ -29,6 +31,7 @@ SCHEMA = [
 ENTRIES = 5_000
 MOST_IDS = 60_000
 FIRST_ID = 2_147_483_648
+EDITS = 100
 
 
 def entry(number: int) -> dict[str, Any]:
@@ -50,33 +53,45 @@ def full(sub: int, in_order: bool = True) -> dict[str, Any]:
     return notification("ietf-yang-push:push-update", {"datastore-contents": contents, "id": sub})
 
 
-def change(sub: int, position: int, number: int) -> dict[str, Any]:
-    """A change update of one edit: in turn an entry is replaced, a leaf is replaced, and an entry is deleted."""
+def edit(position: int, number: int) -> dict[str, Any]:
+    """In turn an entry is replaced, a leaf is replaced, and an entry is deleted."""
     name = escaped(interface_name(number))
     edits = [
         {"operation": "replace", "target": f"/acme:interface={name}", "value": {"acme:interface": [entry(number)]}},
         {"operation": "replace", "target": f"/acme:interface={name}/mtu", "value": {"acme:mtu": 576 + position % 8_192}},
         {"operation": "delete", "target": f"/acme:interface={name}"}]
-    patch = {"edit": [{"edit-id": "1", **edits[position % 3]}], "patch-id": str(position)}
+    return edits[position % 3]
+
+
+def change(sub: int, number: int, edits: Sequence[dict[str, Any]]) -> dict[str, Any]:
+    """A change update of these edits, with a number as its patch id."""
+    numbered = [{"edit-id": str(at), **each} for at, each in enumerate(edits, 1)]
+    patch = {"edit": numbered, "patch-id": str(number)}
     return notification("ietf-yang-push:push-change-update", {"datastore-changes": {"yang-patch": patch}, "id": sub})
+
+
+def full_and_changes(edits: int) -> Iterator[dict[str, Any]]:
+    """A full update, then change updates of so many edits each."""
+    yield full(FIRST_ID)
+    places = list(scattered(ENTRIES))
+    positions = itertools.count()
+    for number in itertools.count():
+        yield change(FIRST_ID, number, [edit(at, places[at % ENTRIES]) for at in itertools.islice(positions, edits)])
 
 
 def notifications(kind: str) -> Iterator[dict[str, Any]]:
     match kind:
         case "one":
-            yield full(FIRST_ID)
-            places = list(scattered(ENTRIES))
-            position = 0
-            while True:
-                yield change(FIRST_ID, position, places[position % ENTRIES])
-                position += 1
+            yield from full_and_changes(1)
+        case "several":
+            yield from full_and_changes(EDITS)
         case "fulls" | "scattered":
             each = full(FIRST_ID, kind == "fulls")
             while True:
                 yield each
         case "many":
             for number in range(MOST_IDS):
-                yield change(FIRST_ID + number, 0, number)
+                yield change(FIRST_ID + number, 0, [edit(0, number)])
         case _:
             sys.exit(__doc__)
 

@@ -1,5 +1,5 @@
 -- Rows of a subscription that are written where they are held.
-use Rattle.std.proofs.Common.{◌≡◌, ℕ, ◌+◌, ◌<◌, ◌++◌, length, take, get_or, Bool, List, [], ◌∷◌, Some, None, refl, sym, ap, ◌∙◌, cond, inl}
+use Rattle.std.proofs.Common.{◌≡◌, ℕ, Bool, List, [], ◌∷◌, Some, None, refl, sym, ap, ◌∙◌, cond}
 use Rattle.std.specs.BTreeMap.{insert_entry, is_at}
 use Rattle.std.specs.List.Sorted.{IsStrictlySortedBy}
 use Rattle.std.specs.Map.{keys_of, lookup, set_value}
@@ -8,18 +8,11 @@ use Rattle.std.specs.Prelude.{Result, Ok, Err, OnOk}
 use Rattle.std.specs.declared.cmp.Ordering.{Ordering}
 use Rattle.std.specs.declared.cmp.Ordering.TheVariants.{Less, Equal, Greater}
 use Rattle.std.proofs.lemmas.Cmp.{nat_cmp_total}
-use Rattle.std.proofs.lemmas.List.{take_more}
 use Rattle.std.proofs.lemmas.Map.{NonePasses}
 use Rattle.std.proofs.lemmas.Map.Entries.{none_below_head}
 use Rattle.std.proofs.lemmas.Map.Keys.{sorted_tail}
-use Rattle.yp_base.specs.declared.notice.Change.{Change}
-use Rattle.yp_base.specs.declared.notice.Notice.{Notice}
-use Rattle.yp_base.specs.declared.notice.Notice.TheVariants.{Full, Changes, Started, Modified, Suspended, Resumed, Terminated}
 use Rattle.yp_base.specs.declared.row.Row.{Row}
-use Rattle.yp_base.specs.Rows.{changed_by, put_rows, rows_within, rows_without}
-use Rattle.yp_decode.specs.declared.fault.StreamFault.{StreamFault}
-use Rattle.yp_decode.specs.declared.line.Heard.{Heard}
-use Rattle.yp_receiver.specs.Held.{HearsPart, TakesPart}
+use Rattle.yp_base.specs.Rows.{rows_within}
 
 pub when_ok : {X E : Type 0} {A C : Type 0} (r : Result X E) → OnOk r A → (A → C) → OnOk r C
 when_ok (Ok x) a f = f a
@@ -52,31 +45,3 @@ module _ {X : Type 0} where
 pub all_within : (rows : List Row) → rows_within [] rows ≡ rows
 all_within [] = refl
 all_within (row ∷ rows) = ap (λ (more : List Row). row ∷ more) (all_within rows)
-
--- ---- edits one after another
-
-changed_on : (some more : List Change) (rows : List Row) → changed_by (some ++ more) rows ≡ changed_by more (changed_by some rows)
-changed_on [] more rows = refl
-changed_on (change ∷ some) more rows = changed_on some more (put_rows change.rows (rows_without change.target rows))
-
--- one more edit
-pub one_more : (changes : List Change) (i : ℕ) (change : Change) (before rows after : List Row) → i < length changes → change ≡ get_or changes i change → rows ≡ changed_by (take i changes) before
-    → after ≡ put_rows change.rows (rows_without change.target rows) → after ≡ changed_by (take (i + 1) changes) before
-one_more changes i change before rows after here at so_far is =
-    is ∙ ap (λ (rs : List Row). put_rows change.rows (rows_without change.target rs)) so_far
-    ∙ sym (ap (λ (cs : List Change). changed_by cs before) (take_more changes i change here ∙ ap (λ (c : Change). take i changes ++ c ∷ []) (sym at)) ∙ changed_on (take i changes) (change ∷ []) before)
-
--- ---- where nothing was heard
-
-pub unheard : (notice : Notice) (before after : List (ℕ × List Row)) → after ≡ before → HearsPart notice before after
-unheard (Full id rows) before after same = same
-unheard (Changes id patch_id changes incomplete) before after same = inl same
-unheard (Started id) before after same = same
-unheard (Modified id) before after same = same
-unheard (Suspended id) before after same = same
-unheard (Resumed id) before after same = same
-unheard (Terminated id) before after same = same
-
-pub untaken : (line : Result Heard StreamFault) (before after : List (ℕ × List Row)) → after ≡ before → TakesPart line before after
-untaken (Ok heard) before after same = unheard heard.notice before after same
-untaken (Err fault) before after same = same

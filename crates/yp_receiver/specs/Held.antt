@@ -1,16 +1,14 @@
 -- What a receiver holds: the fold of the lines that it took (RFC 8641 section 3.7).
-use Rattle.std.specs.Prelude.{ℕ, List, [], ◌∷◌, Option, unwrap_or, Result, Ok, Err, ◌≡◌, ◌⊎◌, take}
+use Rattle.std.specs.Prelude.{ℕ, List, [], ◌∷◌, Option, unwrap_or, Result, Ok, Err, ◌≡◌}
 use Rattle.std.specs.BTreeMap.{insert_entry, is_at}
 use Rattle.std.specs.Map.{lookup}
 use Rattle.std.specs.Ordering.{nat_cmp}
-use Rattle.yp_base.specs.declared.notice.Change.{Change}
 use Rattle.yp_base.specs.declared.row.Row.{Row}
 use Rattle.yp_base.specs.declared.notice.Notice.{Notice}
 use Rattle.yp_base.specs.declared.notice.Notice.TheVariants.{Full, Changes, Started, Modified, Suspended, Resumed, Terminated}
 use Rattle.yp_base.specs.Rows.{changed_by, put_rows}
 use Rattle.yp_schema.specs.declared.schema.SchemaNode.{SchemaNode}
 use Rattle.yp_decode.specs.declared.fault.StreamFault.{StreamFault}
-use Rattle.yp_decode.specs.declared.fault.StreamFault.TheVariants.{Memory}
 use Rattle.yp_decode.specs.declared.line.Heard.{Heard}
 use Rattle.yp_decode.specs.Grammar.{line_heard}
 
@@ -58,32 +56,3 @@ pub record IsTaken (nodes : List SchemaNode) (line : List ℕ) (before after : L
   pub heard : Heard
   pub tells : line_heard nodes line ≡ Ok heard
   pub leaves : after ≡ hears heard.notice before
-
--- a fault other than that memory ran out
-abbrev pub IsOfLine : StreamFault → Type 0
-IsOfLine fault = ¬ (fault ≡ Memory)
-
--- ---- where memory runs out
-
--- rows after the first so many of these changes
-abbrev pub IsPart : List Change → List Row → List Row → Type 0
-IsPart changes before after = (edits : ℕ) × (after ≡ changed_by (take edits changes) before)
-
--- the first so many edits of a change update were heard
-abbrev pub LeavesPart : ℕ → List Change → List (ℕ × List Row) → List (ℕ × List Row) → Type 0
-LeavesPart id changes before after = (edits : ℕ) × (after ≡ insert_entry nat_cmp before id (changed_by (take edits changes) (unwrap_or (held_of id before) [])))
-
--- nothing of a notice was heard, or a part of a change update
-abbrev pub HearsPart : Notice → List (ℕ × List Row) → List (ℕ × List Row) → Type 0
-HearsPart (Full id rows) before after = after ≡ before
-HearsPart (Changes id patch_id changes incomplete) before after = (after ≡ before) ⊎ LeavesPart id changes before after
-HearsPart (Started id) before after = after ≡ before
-HearsPart (Modified id) before after = after ≡ before
-HearsPart (Suspended id) before after = after ≡ before
-HearsPart (Resumed id) before after = after ≡ before
-HearsPart (Terminated id) before after = after ≡ before
-
--- the same of a line, of which nothing is heard where it has a fault
-abbrev pub TakesPart : Result Heard StreamFault → List (ℕ × List Row) → List (ℕ × List Row) → Type 0
-TakesPart (Ok heard) before after = HearsPart heard.notice before after
-TakesPart (Err fault) before after = after ≡ before

@@ -1,4 +1,5 @@
 pub mod Compact
+pub mod Gone
 pub mod Held
 pub mod Hearable
 pub mod Holdings

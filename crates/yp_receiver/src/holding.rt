@@ -1,8 +1,8 @@
 //! What a receiver holds of one subscription.
 ghost use Rattle.std.specs.Prelude.{◌≡◌, [], OnOk, OnErr, IfOk};
-ghost use Rattle.yp_base.specs.Rows.{put_rows, rows_without, changed_by};
-ghost use Rattle.yp_receiver.specs.Held.{IsPart};
+ghost use Rattle.yp_base.specs.Rows.{put_rows, changed_by};
 
+use crate::changing::{changed_from_none, hear_changes};
 use crate::compact::CompactRows;
 use std::alloc::Global;
 use std::marker::Model;
@@ -41,26 +41,6 @@ impl Model for Holding {
     ghost Value = { List Row };
 
     ghost view = { λ h. held_rows h.kept };
-}
-
-/// What an edit does to the rows that are held. After `NoMemory` they are as they were.
-fn hear_change(alloc: Global, change: &Change, rows: &mut Tree) -> Result<(), NoMemory>
-    ensures heard { OnOk result (rows.new ≡ put_rows change.now.rows (rows_without change.now.target rows.old)) }
-    ensures same { OnErr result (rows.new ≡ rows.old) }
-{
-    rows.renew(alloc, &change.target, &change.rows)
-}
-
-/// What the edits of a change update do to them, in order. After `NoMemory` some of them, from the first
-/// on, were made.
-fn hear_changes(alloc: Global, changes: &[Change], rows: &mut Tree) -> Result<(), NoMemory>
-    ensures heard { OnOk result (rows.new ≡ changed_by changes.now rows.old) }
-    ensures part { OnErr result (IsPart changes.now rows.old rows.new) }
-{
-    for change in changes {
-        hear_change(alloc, change, rows)?;
-    }
-    Ok(())
 }
 
 /// The rows of a tree, in order.
@@ -114,8 +94,7 @@ impl Holding {
     pub fn first(alloc: Global, changes: &[Change]) -> Result<Holding, NoMemory>
         ensures { IfOk result (λ rows. rows ≡ changed_by changes.now []) }
     {
-        let mut tree = Tree::new(alloc);
-        hear_changes(alloc, changes, &mut tree)?;
+        let tree = changed_from_none(alloc, changes)?;
         let _count = tree.len();
         let rows = tree.into_rows(alloc)?;
         Holding::compact(alloc, &rows)
@@ -124,7 +103,7 @@ impl Holding {
     // A tree of the rows, which is to be given back. After `NoMemory` they are as they were.
     fn take_tree(&mut self, alloc: Global) -> Result<Tree, NoMemory>
         ensures rows { IfOk result (λ tree. tree ≡ self.old) }
-        ensures same { OnErr result (self.new ≡ self.old) }
+        ensures unchanged { OnErr result (self.new ≡ self.old) }
     {
         match replace(&mut self.kept, Kept::Told(Rows::from_vec(Vec::new(alloc)))) {
             Kept::Changed(tree) => Ok(tree),
@@ -146,10 +125,10 @@ impl Holding {
     }
 
     /// After one more change update: each edit, in order, takes away the rows at or below its target, and
-    /// puts its own. After `NoMemory` some of the edits, from the first on, were made, or none.
+    /// puts its own. After `NoMemory` the rows are as they were.
     pub fn change(&mut self, alloc: Global, changes: &[Change]) -> Result<(), NoMemory>
         ensures heard { OnOk result (self.new ≡ changed_by changes.now self.old) }
-        ensures part { OnErr result (IsPart changes.now self.old self.new) }
+        ensures unchanged { OnErr result (self.new ≡ self.old) }
     {
         let mut tree = self.take_tree(alloc)?;
         let heard = hear_changes(alloc, changes, &mut tree);

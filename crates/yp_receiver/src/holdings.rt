@@ -1,9 +1,9 @@
 //! What a receiver holds: the fold of its notices (RFC 8641 section 3.7).
-ghost use Rattle.std.specs.Prelude.{◌≡◌, ◌⊎◌, [], OnOk, OnErr, IfOk, map, option_copied, unwrap_or};
+ghost use Rattle.std.specs.Prelude.{◌≡◌, [], OnOk, OnErr, IfOk, map, option_copied, unwrap_or};
 ghost use Rattle.std.specs.BTreeMap.{insert_entry};
 ghost use Rattle.std.specs.Ordering.{nat_cmp};
 ghost use Rattle.yp_base.specs.Rows.{put_rows, changed_by};
-ghost use Rattle.yp_receiver.specs.Held.{held_of, hears, LeavesPart, HearsPart};
+ghost use Rattle.yp_receiver.specs.Held.{held_of, hears};
 
 use crate::holding::Holding;
 use std::alloc::Global;
@@ -74,7 +74,7 @@ impl Holdings {
     // Sets the rows of a subscription.
     fn set(&mut self, id: u32, rows: Holding) -> Result<(), NoMemory>
         ensures set { OnOk result (self.new ≡ insert_entry nat_cmp self.old id rows) }
-        ensures same { OnErr result (self.new ≡ self.old) }
+        ensures unchanged { OnErr result (self.new ≡ self.old) }
     {
         self.kept.insert(id, rows)?;
         Ok(())
@@ -83,17 +83,16 @@ impl Holdings {
     // Sets the rows of a subscription to those that its first update, a change update, makes.
     fn hear_first(&mut self, alloc: Global, id: u32, changes: &[Change]) -> Result<(), NoMemory>
         ensures set { OnOk result (self.new ≡ insert_entry nat_cmp self.old id (changed_by changes.now [])) }
-        ensures same { OnErr result (self.new ≡ self.old) }
+        ensures unchanged { OnErr result (self.new ≡ self.old) }
     {
         let rows = Holding::first(alloc, changes)?;
         self.set(id, rows)
     }
 
-    // Changes the rows of a subscription. After `NoMemory` some of the edits, from the first on, were
-    // made, or none.
+    // Changes the rows of a subscription.
     fn hear_update(&mut self, alloc: Global, id: u32, changes: &[Change]) -> Result<(), NoMemory>
         ensures heard { OnOk result (self.new ≡ insert_entry nat_cmp self.old id (changed_by changes.now (unwrap_or (held_of id self.old) []))) }
-        ensures part { OnErr result ((self.new ≡ self.old) ⊎ LeavesPart id changes.now self.old self.new) }
+        ensures unchanged { OnErr result (self.new ≡ self.old) }
     {
         match self.kept.get_mut(&id) {
             Some(rows) => rows.change(alloc, changes),
@@ -102,12 +101,10 @@ impl Holdings {
     }
 
     /// Hears a notification. A full update sets the rows of its subscription, a change update changes
-    /// them, and nothing else does. After `NoMemory` all is as it was, unless the notification is a change
-    /// update of a subscription that had rows: then some of its edits, from the first on, were made, or
-    /// none.
+    /// them, and nothing else does. After `NoMemory` all is as it was.
     pub fn hear(&mut self, alloc: Global, notice: Notice) -> Result<(), NoMemory>
         ensures heard { OnOk result (self.new ≡ hears notice self.old) }
-        ensures part { OnErr result (HearsPart notice self.old self.new) }
+        ensures unchanged { OnErr result (self.new ≡ self.old) }
     {
         match notice {
             Notice::Full { id, rows } => self.set(id, Holding::told(rows)),

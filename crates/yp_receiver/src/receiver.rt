@@ -2,7 +2,7 @@
 ghost use Rattle.std.specs.Prelude.{◌≡◌, [], OnOk, OnErr, IfOk, IfErr, map, option_copied};
 ghost use Rattle.yp_decode.specs.Grammar.{line_heard};
 ghost use Rattle.yp_decode.specs.Readings.{Fails};
-ghost use Rattle.yp_receiver.specs.Held.{held_of, IsTaken, IsOfLine, TakesPart};
+ghost use Rattle.yp_receiver.specs.Held.{held_of, IsTaken};
 
 use crate::holding::Holding;
 use crate::holdings::Holdings;
@@ -64,14 +64,11 @@ impl Receiver {
     /// Takes a line, without its line end, and hears what it tells (RFC 8641 section 3.7). A full update
     /// sets the rows of its subscription; each edit of a change update, in order, takes away the rows at
     /// or below its target and puts its own, and one that is the first update of its subscription begins
-    /// with no rows; no other notice changes anything. A change update costs its own rows, each in a number
-    /// of steps that grows with the logarithm of the rows that are held; the first one after a full update
-    /// costs the rows of this too.
+    /// with no rows; no other notice changes anything. A change update costs the rows that it takes away and
+    /// puts, each in a number of steps that grows with the logarithm of the rows that are held; the first
+    /// one after a full update costs the rows of this too.
     ///
-    /// Its faults are those of `read_line`. After a fault of the line the receiver is as it was. After
-    /// `Memory` it is too, unless the line is a change update of a subscription that had rows: then some
-    /// of its edits, from the first on, were made, and the rows of all other subscriptions are as they
-    /// were.
+    /// Its faults are those of `read_line`. After any of them, `Memory` too, the receiver is as it was.
     pub fn take_line(
         &mut self,
         alloc: Global,
@@ -80,8 +77,7 @@ impl Receiver {
     ) -> Result<(), StreamFault>
         ensures taken { OnOk result (IsTaken schema.now bytes.now self.old self.new) }
         ensures fault { IfErr result (λ fault. Fails fault (line_heard schema.now bytes.now)) }
-        ensures same { IfErr result (λ fault. IsOfLine fault → self.new ≡ self.old) }
-        ensures part { OnErr result (TakesPart (line_heard schema.now bytes.now) self.old self.new) }
+        ensures unchanged { OnErr result (self.new ≡ self.old) }
     {
         let heard = read_line(alloc, schema, bytes)?;
         self.holdings.hear(alloc, heard.notice)?;

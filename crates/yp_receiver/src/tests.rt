@@ -1,4 +1,5 @@
-//! What a receiver holds after lines of each kind, a faulty one among them.
+//! What a receiver holds after lines of each kind, a faulty one among them, and after edits for which memory
+//! may run out.
 ghost use Rattle.std.specs.Prelude.{◌≡◌, ◌<◌};
 
 use crate::receiver::Receiver;
@@ -20,6 +21,10 @@ const FULL: &str =
 
 const CHANGES: &str =
     r#"{"id":9,"datastore-changes":{"yang-patch":{"patch-id":"1","edit":[{"edit-id":"1","operation":"replace","target":"/acme:port=lo","value":{"acme:port":[{"name":"lo"}]}},{"edit-id":"2","operation":"delete","target":"/acme:port=eth0"},{"edit-id":"3","operation":"create","target":"/acme:port=eth1/mtu","value":{"acme:mtu":9000}}]}}}"#;
+
+// A port goes, another loses its mtu, and the first gets its mtu alone.
+const SEVERAL: &str =
+    r#"{"id":9,"datastore-changes":{"yang-patch":{"patch-id":"1","edit":[{"edit-id":"1","operation":"delete","target":"/acme:port=p0"},{"edit-id":"2","operation":"delete","target":"/acme:port=p1/mtu"},{"edit-id":"3","operation":"create","target":"/acme:port=p0/mtu","value":{"acme:mtu":9000}}]}}}"#;
 
 const FIRST: &str =
     r#"{"id":7,"datastore-changes":{"yang-patch":{"patch-id":"2","edit":[{"edit-id":"1","operation":"create","target":"/acme:port=eth2","value":{"acme:port":[{"name":"eth2","mtu":1500}]}}]}}}"#;
@@ -113,6 +118,41 @@ fn lines_make_the_rows_of_each_subscription(rt: HostRuntime) -> Result<(), Fail>
     assert_eq!(rt; ids.len(), 2);
     for (id, want) in ids.as_slice().iter().zip(&[7, 9]) {
         assert_eq!(rt; *id, *want);
+    }
+    Ok(())
+}
+
+// The body of a full update of so many ports, each with a name and an mtu.
+fn full_of(alloc: Global, count: usize) -> Result<String, AllocError> {
+    let mut ports = String::new(alloc);
+    for number in 0..count {
+        let comma = if number == 0 { "" } else { "," };
+        write!(ports, "{comma}{{\"name\":\"p{number}\",\"mtu\":1500}}")?;
+    }
+    let ports = ports.as_str();
+    format!(in alloc; "{{\"id\":9,\"datastore-contents\":{{\"acme:port\":[{ports}]}}}}")
+}
+
+// Some of the edits never leave as many rows as there were before. Run it by `rt try --test --fail-alloc N`
+// too: whichever allocation fails, all edits are made or none, and they can be taken again.
+#[test]
+fn several_edits_are_made_all_or_none(rt: HostRuntime) -> Result<(), Fail> {
+    let alloc = rt.alloc();
+    let schema = ports(alloc)?;
+    let changes = line_of(alloc, "ietf-yang-push:push-change-update", SEVERAL)?;
+    for (number, before, after) in [(2, 4, 2), (40, 80, 78)] {
+        let mut receiver = Receiver::new(alloc);
+        let body = full_of(alloc, number)?;
+        let full = line_of(alloc, "ietf-yang-push:push-update", body.as_str())?;
+        receiver.take_line(alloc, &schema, full.as_bytes())?;
+        if receiver
+            .take_line(alloc, &schema, changes.as_bytes())
+            .is_err()
+        {
+            assert_eq!(rt; count(alloc, &receiver, 9)?, Some(before), "{number} ports");
+            receiver.take_line(alloc, &schema, changes.as_bytes())?;
+        }
+        assert_eq!(rt; count(alloc, &receiver, 9)?, Some(after), "{number} ports");
     }
     Ok(())
 }
