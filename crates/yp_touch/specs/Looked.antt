@@ -37,6 +37,11 @@ abbrev pub looks_of : List SchemaNode → Asked → List Row → List Row → Li
 looks_of nodes asked before after [] = []
 looks_of nodes asked before after (one ∷ changed) = looks_at nodes asked before after one ++ looks_of nodes asked before after changed
 
+-- a changed row with its values in two lists
+pub record IsBetween (old new : List Row) (row : ChangedRow) : Type 0 where
+  pub before : row.old ≡ value_at row.path old
+  pub after : row.new ≡ value_at row.path new
+
 -- ---- what it finds
 
 -- the root that is found at a path: where no root covers it, and the two selections differ there
