@@ -51,6 +51,10 @@ root_found roots old new path = if has_root path roots || are_alike (value_at pa
 abbrev pub roots_found : List (List Seg) → List Row → List Row → List (List Seg) → List Root
 roots_found roots old new paths = filter_map (root_found roots old new) paths
 
+-- what is selected at or below a path, where its own row is
+abbrev pub rows_from : List Row → List Seg → Option (List Row)
+rows_from new path = if has_row path new then Some (rows_within path new) else None
+
 -- ---- what it makes of that
 
 -- topmost paths with one more: it is one of them where none covers it, and takes the place of those below it
