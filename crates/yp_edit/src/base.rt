@@ -17,8 +17,8 @@ use yp_tree::rising::Rising;
 use yp_tree::tree::Tree;
 
 /// A tree, which stays as it is, with those of its rows that edits touch: they count no more. At or below a
-/// bare path each row is touched, so that no edit walks over them again; the last one that edits made bare
-/// is swept, so that no row put there is looked up.
+/// bare path each row is touched, so that no edit walks over them again; the last path at or below which
+/// edits left or found none is swept, so that no row put there is looked up.
 #[derive(Drop)]
 pub struct Base<'a> {
     tree: &'a Tree,
@@ -114,8 +114,17 @@ impl<'a> Base<'a> {
         self.next(first, target, steps).is_some()
     }
 
+    /// Makes a path the one that is swept.
+    fn clear(&mut self, alloc: Global, target: &Path) -> Result<(), NoMemory>
+        requires { has_within target.now (untouched self.old) ≡ false }
+        ensures same { self.new ≡ self.old }
+    {
+        self.swept = Some(target.copy(alloc)?);
+        Ok(())
+    }
+
     /// Whether there are untouched rows at or below a target. Where the tree's rows there are all touched,
-    /// its path is bare.
+    /// its path is bare; where there are none, it is swept.
     pub fn has_within<L: Ledger>(
         &mut self,
         alloc: Global,
@@ -136,7 +145,10 @@ impl<'a> Base<'a> {
                 self.bare.insert(target.copy(alloc)?)?;
                 Ok(false)
             }
-            None => Ok(false),
+            None => {
+                self.clear(alloc, target)?;
+                Ok(false)
+            }
         }
     }
 
@@ -219,7 +231,7 @@ impl<'a> Base<'a> {
         Ok(())
     }
 
-    /// Touches the rows at or below a target. Where there are several, its path is then bare.
+    /// Touches the rows at or below a target, whose path is then swept, and bare where there were several.
     pub fn touch_within<L: Ledger>(
         &mut self,
         alloc: Global,
@@ -237,6 +249,8 @@ impl<'a> Base<'a> {
         self.touch_rows(alloc, target, rows)?;
         if several {
             self.sweep(alloc, target)?;
+        } else {
+            self.clear(alloc, target)?;
         }
         Ok(())
     }

@@ -158,6 +158,43 @@ pub fn select_at<'a, R: Readable, L: Ledger>(
     }
 }
 
+/// The same where the value that the rows have at the path is known: it isn't looked up. It counts at most
+/// one visit for each node of the filter.
+#[tactic(auto, using(crate::specs::KeptLaws::value_kept, crate::proofs::Forms::not_selected, yp_schema::specs::SchemaLaws::path_down))]
+pub fn select_known<'v, R: Readable, L: Ledger>(
+    alloc: Global,
+    schema: &Schema,
+    filter: &Filter,
+    readable: &R,
+    tree: &Tree,
+    path: &Path,
+    value: Option<&'v Value>,
+    steps: &mut Steps<L>,
+) -> Result<Option<&'v Value>, NoMemory>
+    requires path { is_path_of schema.now path.now ≡ true }
+    requires fits { filter_fits schema.now (filter_view filter.now) ≡ true }
+    requires known { option_copied value ≡ value_at path.now tree.now }
+    ensures value { IfOk result (λ value. option_copied value ≡ value_at path.now (selection schema.now (filter_view filter.now) (R.may readable.now schema.now) tree.now)) }
+    ensures visits { OnOk result (steps.new ≤ steps.old + filter_size (filter_view filter.now)) }
+{
+    if !could_be_kept(schema, filter, path) {
+        return Ok(None);
+    }
+    if !readable.readable(schema, path) {
+        return Ok(None);
+    }
+    match value {
+        Some(value) => {
+            if kept(alloc, schema, filter, readable, tree, path, steps)? {
+                Ok(Some(value))
+            } else {
+                Ok(None)
+            }
+        }
+        None => Ok(None),
+    }
+}
+
 /// What of a reader's selection by a filter is at or below a path, in order. It counts at most a visit for
 /// each row there and one more, and as many again for each node of the filter.
 pub fn select_below<R: Readable, L: Ledger>(

@@ -11,10 +11,11 @@ use Rattle.yp_edit.specs.declared.changed.ChangedRow.{ChangedRow}
 use Rattle.yp_edit.specs.Changes.{changed_rows}
 use Rattle.yp_nacm.specs.Decision.{visible_rows}
 use Rattle.yp_edit.specs.Records.{change_record}
+use Rattle.yp_touch.specs.Looked.{IsBetween}
 use Rattle.yp_touch.specs.Roots.{row_edit}
 use Rattle.yp_touch.specs.RecordLaws.{have_paths}
 use Rattle.yp_touch.proofs.Recorded.{topmost, recorded}
-use Rattle.yp_touch.proofs.Selected.{IsBetween, all_between, changed_paths_keep}
+use Rattle.yp_touch.proofs.Selected.{all_between, changed_paths_keep}
 
 -- a changed row of a schema, with its value afterwards
 pub record IsChangeTo (nodes : List SchemaNode) (rows : List Row) (row : ChangedRow) : Type 0 where

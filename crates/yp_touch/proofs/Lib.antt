@@ -7,6 +7,7 @@ pub mod Joining
 pub mod Lasts
 pub mod Narrow
 pub mod Recorded
+pub mod Rows
 pub mod Selected
 pub mod Standing
 pub mod Telling

@@ -12,8 +12,9 @@ use Rattle.yp_edit.specs.Drafts.{is_covered}
 use Rattle.yp_edit.specs.ChangeLaws.{paths_in, changed_sorted}
 use Rattle.yp_base.specs.Paths.{topmost as roots_of}
 use Rattle.yp_edit.specs.Records.{change_at, changed_paths, change_record}
+use Rattle.yp_touch.specs.Looked.{IsBetween}
 use Rattle.yp_touch.specs.Roots.{row_edit}
-use Rattle.yp_touch.proofs.Selected.{IsBetween, all_between, value_readable, chosen, changed_selected}
+use Rattle.yp_touch.proofs.Selected.{all_between, value_readable, chosen, changed_selected}
 use Rattle.yp_touch.proofs.Topmost.{tops, roots_found}
 
 module _ (readable : List Seg → Bool) where

@@ -11,11 +11,7 @@ use Rattle.yp_edit.specs.declared.changed.ChangedRow.{ChangedRow}
 use Rattle.yp_edit.specs.Changes.{are_alike, change_of, row_change as change_at, changed_rows, paths_of_both}
 use Rattle.yp_nacm.specs.Decision.{visible_rows}
 use Rattle.yp_select.specs.SelectionLaws.{value_selected}
-
--- a changed row with its values in two lists
-pub record IsBetween (old new : List Row) (row : ChangedRow) : Type 0 where
-  pub before : row.old ≡ value_at row.path old
-  pub after : row.new ≡ value_at row.path new
+use Rattle.yp_touch.specs.Looked.{IsBetween}
 
 told : (path : List Seg) (old new : Option Value) (row : ChangedRow) → change_of path old new ≡ Some row → row ≡ record { path = path; old = old; new = new }
 told path old new row is =

@@ -37,6 +37,11 @@ abbrev pub looks_of : List SchemaNode → Asked → List Row → List Row → Li
 looks_of nodes asked before after [] = []
 looks_of nodes asked before after (one ∷ changed) = looks_at nodes asked before after one ++ looks_of nodes asked before after changed
 
+-- a changed row with its values in two lists
+pub record IsBetween (old new : List Row) (row : ChangedRow) : Type 0 where
+  pub before : row.old ≡ value_at row.path old
+  pub after : row.new ≡ value_at row.path new
+
 -- ---- what it finds
 
 -- the root that is found at a path: where no root covers it, and the two selections differ there
@@ -45,6 +50,10 @@ root_found roots old new path = if has_root path roots || are_alike (value_at pa
 
 abbrev pub roots_found : List (List Seg) → List Row → List Row → List (List Seg) → List Root
 roots_found roots old new paths = filter_map (root_found roots old new) paths
+
+-- what is selected at or below a path, where its own row is
+abbrev pub rows_from : List Row → List Seg → Option (List Row)
+rows_from new path = if has_row path new then Some (rows_within path new) else None
 
 -- ---- what it makes of that
 

@@ -11,7 +11,7 @@ ghost use Rattle.yp_filter.specs.View.{filter_view};
 ghost use Rattle.yp_select.specs.Places.{path_above, is_compared};
 ghost use Rattle.yp_select.specs.Selection.{selection};
 ghost use Rattle.yp_touch.specs.Absorbed.{AreTopmost};
-ghost use Rattle.yp_touch.specs.Looked.{root_found, roots_found, look_visits, looks_visits, looks_at, looks_of};
+ghost use Rattle.yp_touch.specs.Looked.{IsBetween, root_found, roots_found, look_visits, looks_visits, looks_at, looks_of};
 
 use crate::placing::place_of;
 use crate::root::Root;
@@ -25,7 +25,7 @@ use yp_edit::changed::{ChangedRow, are_alike};
 use yp_filter::filter::Filter;
 use yp_nacm::readable::Readable;
 use yp_schema::schema::{Kind, Schema};
-use yp_select::select::select_at;
+use yp_select::select::{select_at, select_known};
 use yp_tree::tree::Tree;
 
 /// The two sides of a step, what is selected of them for whom, and the roots so far.
@@ -115,6 +115,68 @@ fn look_at<R: Readable, L: Ledger>(
     Ok(())
 }
 
+/// Looks at the path of a changed row in both selections, unless a root is at or above it. Its values are
+/// known, so neither is looked up. It counts at most two visits for each node of the filter.
+fn look_known<R: Readable, L: Ledger>(
+    alloc: Global,
+    sides: &Sides<R>,
+    row: &ChangedRow,
+    steps: &mut Steps<L>,
+) -> Result<Option<Root>, NoMemory>
+    requires topmost { AreTopmost sides.now.roots.now }
+    requires path { is_path_of sides.now.schema.now row.now.path ≡ true }
+    requires between { IsBetween sides.now.before.now sides.now.after.now row.now }
+    requires fits { filter_fits sides.now.schema.now (filter_view sides.now.filter.now) ≡ true }
+    ensures root { IfOk result (λ root. root ≡ root_found sides.now.roots.now (selection sides.now.schema.now (filter_view sides.now.filter.now) (R.may sides.now.readable.now sides.now.schema.now) sides.now.before.now) (selection sides.now.schema.now (filter_view sides.now.filter.now) (R.may sides.now.readable.now sides.now.schema.now) sides.now.after.now) row.now.path) }
+    ensures visits { OnOk result (steps.new ≤ steps.old + look_visits (filter_size (filter_view sides.now.filter.now))) }
+{
+    if place_of(sides.roots, &row.path).is_none() {
+        return Ok(None);
+    }
+    let old = select_known(
+        alloc,
+        sides.schema,
+        sides.filter,
+        sides.readable,
+        sides.before,
+        &row.path,
+        row.old.as_ref(),
+        steps,
+    )?;
+    let new = select_known(
+        alloc,
+        sides.schema,
+        sides.filter,
+        sides.readable,
+        sides.after,
+        &row.path,
+        row.new.as_ref(),
+        steps,
+    )?;
+    root_of(alloc, &row.path, old, new)
+}
+
+/// Looks at the path of a changed row, and adds the root that is found.
+fn look_at_changed<R: Readable, L: Ledger>(
+    alloc: Global,
+    sides: &Sides<R>,
+    row: &ChangedRow,
+    found: &mut Vec<Root>,
+    steps: &mut Steps<L>,
+) -> Result<(), NoMemory>
+    requires topmost { AreTopmost sides.now.roots.now }
+    requires path { is_path_of sides.now.schema.now row.now.path ≡ true }
+    requires between { IsBetween sides.now.before.now sides.now.after.now row.now }
+    requires fits { filter_fits sides.now.schema.now (filter_view sides.now.filter.now) ≡ true }
+    ensures roots { OnOk result (found.new.items ≡ found.old.items ++ roots_found sides.now.roots.now (selection sides.now.schema.now (filter_view sides.now.filter.now) (R.may sides.now.readable.now sides.now.schema.now) sides.now.before.now) (selection sides.now.schema.now (filter_view sides.now.filter.now) (R.may sides.now.readable.now sides.now.schema.now) sides.now.after.now) (row.now.path ∷ [])) }
+    ensures visits { OnOk result (steps.new ≤ steps.old + look_visits (filter_size (filter_view sides.now.filter.now))) }
+{
+    if let Some(root) = look_known(alloc, sides, row, steps)? {
+        found.push(root)?;
+    }
+    Ok(())
+}
+
 /// Looks at the paths of rows, and adds the roots that are found.
 fn look_at_rows<'b, R: Readable, L: Ledger>(
     alloc: Global,
@@ -156,22 +218,23 @@ fn is_compared(schema: &Schema, filter: &Filter, path: &Path) -> bool
 fn look_for<R: Readable, L: Ledger>(
     alloc: Global,
     sides: &Sides<R>,
-    one: &Path,
+    row: &ChangedRow,
     found: &mut Vec<Root>,
     steps: &mut Steps<L>,
 ) -> Result<(), NoMemory>
     requires topmost { AreTopmost sides.now.roots.now }
-    requires path { is_path_of sides.now.schema.now one.now ≡ true }
+    requires path { is_path_of sides.now.schema.now row.now.path ≡ true }
+    requires between { IsBetween sides.now.before.now sides.now.after.now row.now }
     requires old { AllByRecursion (IsRowOf sides.now.schema.now) sides.now.before.now }
     requires new { AllByRecursion (IsRowOf sides.now.schema.now) sides.now.after.now }
     requires fits { filter_fits sides.now.schema.now (filter_view sides.now.filter.now) ≡ true }
-    ensures roots { OnOk result (found.new.items ≡ found.old.items ++ roots_found sides.now.roots.now (selection sides.now.schema.now (filter_view sides.now.filter.now) (R.may sides.now.readable.now sides.now.schema.now) sides.now.before.now) (selection sides.now.schema.now (filter_view sides.now.filter.now) (R.may sides.now.readable.now sides.now.schema.now) sides.now.after.now) (looks_at sides.now.schema.now (filter_view sides.now.filter.now) sides.now.before.now sides.now.after.now one.now)) }
-    ensures visits { OnOk result (steps.new ≤ steps.old + looks_visits sides.now.schema.now (filter_view sides.now.filter.now) sides.now.before.now sides.now.after.now one.now) }
+    ensures roots { OnOk result (found.new.items ≡ found.old.items ++ roots_found sides.now.roots.now (selection sides.now.schema.now (filter_view sides.now.filter.now) (R.may sides.now.readable.now sides.now.schema.now) sides.now.before.now) (selection sides.now.schema.now (filter_view sides.now.filter.now) (R.may sides.now.readable.now sides.now.schema.now) sides.now.after.now) (looks_at sides.now.schema.now (filter_view sides.now.filter.now) sides.now.before.now sides.now.after.now row.now.path)) }
+    ensures visits { OnOk result (steps.new ≤ steps.old + looks_visits sides.now.schema.now (filter_view sides.now.filter.now) sides.now.before.now sides.now.after.now row.now.path) }
 {
-    if !is_compared(sides.schema, sides.filter, one) {
-        return look_at(alloc, sides, one, found, steps);
+    if !is_compared(sides.schema, sides.filter, &row.path) {
+        return look_at_changed(alloc, sides, row, found, steps);
     }
-    let above = one.first(alloc, one.len().saturating_sub(1))?;
+    let above = row.path.first(alloc, row.path.len().saturating_sub(1))?;
     let old = sides.before.within(alloc, &above, steps)?;
     look_at_rows(alloc, sides, old, found, steps)?;
     let new = sides.after.within(alloc, &above, steps)?;
@@ -187,6 +250,7 @@ pub fn find_roots<R: Readable, L: Ledger>(
     steps: &mut Steps<L>,
 ) -> Result<Vec<Root>, NoMemory>
     requires topmost { AreTopmost sides.now.roots.now }
+    requires between { AllByRecursion (IsBetween sides.now.before.now sides.now.after.now) changed.now }
     requires paths { AllByRecursion (λ row. is_path_of sides.now.schema.now row.path ≡ true) changed.now }
     requires old { AllByRecursion (IsRowOf sides.now.schema.now) sides.now.before.now }
     requires new { AllByRecursion (IsRowOf sides.now.schema.now) sides.now.after.now }
@@ -196,7 +260,7 @@ pub fn find_roots<R: Readable, L: Ledger>(
 {
     let mut found = Vec::new(alloc);
     for row in changed {
-        look_for(alloc, sides, &row.path, &mut found, steps)?;
+        look_for(alloc, sides, row, &mut found, steps)?;
     }
     Ok(found)
 }

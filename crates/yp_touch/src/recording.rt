@@ -1,6 +1,8 @@
 //! The record of roots.
 ghost use Rattle.std.specs.Prelude.{◌≡◌, ◌+◌, ◌*◌, ◌≤◌, [], length, is_some, true, if◌then◌else◌, IfOk, OnOk};
-ghost use Rattle.std.specs.List.{AllByRecursion};
+ghost use Rattle.std.specs.List.{list_any, AllByRecursion};
+ghost use Rattle.std.specs.Ordering.{is_eq};
+ghost use Rattle.yp_base.specs.Order.{path_cmp};
 ghost use Rattle.yp_schema.specs.Datastore.{IsDatastore};
 ghost use Rattle.yp_edit.specs.Records.{carried_rows, is_excluded};
 ghost use Rattle.yp_encode.specs.Sendable.{IsSendableChange};
@@ -8,13 +10,14 @@ ghost use Rattle.yp_filter.specs.Fits.{filter_fits};
 ghost use Rattle.yp_filter.specs.View.{filter_view};
 ghost use Rattle.yp_select.specs.Selection.{selection};
 ghost use Rattle.yp_touch.specs.Absorbed.{EndsAsRow, flagged, kind_since, recorded, root_change};
-ghost use Rattle.yp_touch.specs.Looked.{root_visits, window_visits};
+ghost use Rattle.yp_touch.specs.Looked.{root_visits, rows_from, window_visits};
 
 use std::alloc::Global;
 use std::sync::ledger::Ledger;
 use yp_base::memory::{Duplicate, NoMemory};
 use yp_base::notice::{Change, ChangeKind, Changes, Kinds};
 use yp_base::path::Path;
+use yp_base::row::{Row, Rows};
 use yp_base::series::Series;
 use yp_base::steps::Steps;
 use yp_filter::filter::Filter;
@@ -58,6 +61,82 @@ fn is_excluded(excluded: &Kinds, kind: ChangeKind) -> bool
     }
 }
 
+/// Whether one of these rows has this path.
+fn has_row(rows: &[Row], path: &Path) -> bool
+    ensures { result ≡ list_any (λ row. is_eq (path_cmp path.now row.path)) rows.now }
+{
+    rows.iter().any(|row| path.cmp(&row.path).is_eq())
+}
+
+/// What is selected at or below a path by a single look-up: none where its own row isn't among it.
+fn rows_at_once<R: Readable, L: Ledger>(
+    alloc: Global,
+    source: &Source<R>,
+    path: &Path,
+    steps: &mut Steps<L>,
+) -> Result<Option<Rows>, NoMemory>
+    requires datastore { IsDatastore source.now.schema.now source.now.tree.now }
+    requires fits { filter_fits source.now.schema.now (filter_view source.now.filter.now) ≡ true }
+    ensures rows { IfOk result (λ rows. rows ≡ rows_from (selection source.now.schema.now (filter_view source.now.filter.now) (R.may source.now.readable.now source.now.schema.now) source.now.tree.now) path.now) }
+    ensures visits { OnOk result (steps.new ≤ steps.old + root_visits (filter_view source.now.filter.now) source.now.tree.now path.now) }
+{
+    let rows = select_below(
+        alloc,
+        source.schema,
+        source.filter,
+        source.readable,
+        source.tree,
+        path,
+        steps,
+    )?;
+    if has_row(rows.items(), path) {
+        Ok(Some(rows))
+    } else {
+        Ok(None)
+    }
+}
+
+/// What is selected at or below a root, where its own row is. Where no filter can leave that out, and it may
+/// be read, what is below it isn't looked at in vain, so it is looked up only once.
+fn rows_from<R: Readable, L: Ledger>(
+    alloc: Global,
+    source: &Source<R>,
+    path: &Path,
+    steps: &mut Steps<L>,
+) -> Result<Option<Rows>, NoMemory>
+    requires path { EndsAsRow source.now.schema.now path.now }
+    requires datastore { IsDatastore source.now.schema.now source.now.tree.now }
+    requires fits { filter_fits source.now.schema.now (filter_view source.now.filter.now) ≡ true }
+    ensures rows { IfOk result (λ rows. rows ≡ rows_from (selection source.now.schema.now (filter_view source.now.filter.now) (R.may source.now.readable.now source.now.schema.now) source.now.tree.now) path.now) }
+    ensures visits { OnOk result (steps.new ≤ steps.old + root_visits (filter_view source.now.filter.now) source.now.tree.now path.now) }
+{
+    if matches!(source.filter, Filter::All) && source.readable.readable(source.schema, path) {
+        return rows_at_once(alloc, source, path, steps);
+    }
+    let value = select_at(
+        alloc,
+        source.schema,
+        source.filter,
+        source.readable,
+        source.tree,
+        path,
+        steps,
+    )?;
+    if value.is_none() {
+        return Ok(None);
+    }
+    let rows = select_below(
+        alloc,
+        source.schema,
+        source.filter,
+        source.readable,
+        source.tree,
+        path,
+        steps,
+    )?;
+    Ok(Some(rows))
+}
+
 /// The edit of a root.
 fn root_change<R: Readable, L: Ledger>(
     alloc: Global,
@@ -72,31 +151,14 @@ fn root_change<R: Readable, L: Ledger>(
     ensures change { IfOk result (λ change. change ≡ root_change (selection source.now.schema.now (filter_view source.now.filter.now) (R.may source.now.readable.now source.now.schema.now) source.now.tree.now) (record { path = path.now; was = was })) }
     ensures visits { OnOk result (steps.new ≤ steps.old + root_visits (filter_view source.now.filter.now) source.now.tree.now path.now) }
 {
-    let value = select_at(
-        alloc,
-        source.schema,
-        source.filter,
-        source.readable,
-        source.tree,
-        path,
-        steps,
-    )?;
-    let is = value.is_some();
-    let rows = if is {
-        select_below(
-            alloc,
-            source.schema,
-            source.filter,
-            source.readable,
-            source.tree,
-            path,
-            steps,
-        )?
-    } else {
-        Series::from_vec(Vec::new(alloc))
+    let rows = rows_from(alloc, source, path, steps)?;
+    let kind = kind_since(was, rows.is_some());
+    let rows = match rows {
+        Some(rows) => rows,
+        None => Series::from_vec(Vec::new(alloc)),
     };
     Ok(Change {
-        kind: kind_since(was, is),
+        kind,
         target: path.copy(alloc)?,
         rows,
         after: None,

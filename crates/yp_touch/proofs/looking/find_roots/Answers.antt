@@ -2,7 +2,7 @@ use Rattle.std.proofs.Common.{◌≡◌, true}
 use Rattle.yp_schema.specs.Datastore.{is_path_of}
 use Rattle.yp_filter.specs.View.{filter_view}
 use Rattle.yp_select.specs.Selection.{selection}
-use Rattle.yp_touch.specs.Looked.{looks_visits}
+use Rattle.yp_touch.specs.Looked.{IsBetween, looks_visits}
 use Rattle.yp_touch.proofs.Finding.{found_more, visits_more, rest_have}
 use Rattle.yp_touch.proofs.looking.find_roots.Goals as goal
 
@@ -13,6 +13,7 @@ loop-row-preserved g c =
     let asked = filter_view sides.filter.now in
     let may = g.R.Readable.may sides.readable.now nodes in
     record {
+      between = (rest_have (IsBetween sides.before.now sides.after.now) c.args.changed.now c.loop-row.row-index c.row-item.result c.loop-row-test.true c.row-item.is c.loop-row.invariant.between).1;
       paths = (rest_have (λ row. is_path_of nodes row.path ≡ true) c.args.changed.now c.loop-row.row-index c.row-item.result c.loop-row-test.true c.row-item.is c.loop-row.invariant.paths).1;
       roots = found_more nodes asked sides.before.now sides.after.now sides.roots.now (selection nodes asked may sides.before.now) (selection nodes asked may sides.after.now)
           c.loop-row.found.items c.look_for.new.found.items _ c.args.changed.now c.loop-row.row-index c.row-item.result c.loop-row-test.true c.row-item.is c.loop-row.invariant.roots c.in_ok-look_for.ensures.roots;

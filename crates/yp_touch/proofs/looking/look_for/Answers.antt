@@ -23,15 +23,15 @@ returns-clause-roots g c =
     let may = g.R.Readable.may sides.readable.now nodes in
     let old = selection nodes asked may sides.before.now in
     let new = selection nodes asked may sides.after.now in
-    let above = c.in_ok-above.ensures ∙ ap (λ n. take n c.args.one.now) (c.saturating_sub.ensures ∙ ap (λ n. n - 1) c.len.ensures) ∙ above_take c.args.one.now in
+    let above = c.in_ok-above.ensures ∙ ap (λ n. take n c.args.row.now.path) (c.saturating_sub.ensures ∙ ap (λ n. n - 1) c.len.ensures) ∙ above_take c.args.row.now.path in
     two_found sides.roots.now old new _ _ _ _ _ c.in_ok-look_at_rows.ensures.roots c.in_ok-look_at_rows-2.ensures.roots
     ∙ ap (λ (paths : List (List Seg)). c.args.found.now.items ++ roots_found sides.roots.now old new paths)
-    (looked_rows nodes asked sides.before.now sides.after.now c.args.one.now c.in_ok-above.above _ _ (sym c.is_compared.ensures ∙ c.if-not-is_compared.false) above c.in_ok-old.ensures.rows c.in_ok-new.ensures.rows)
+    (looked_rows nodes asked sides.before.now sides.after.now c.args.row.now.path c.in_ok-above.above _ _ (sym c.is_compared.ensures ∙ c.if-not-is_compared.false) above c.in_ok-old.ensures.rows c.in_ok-new.ensures.rows)
 
 pub returns-clause-visits : goal.returns-clause-visits
 returns-clause-visits g c =
     let sides = c.args.sides.now in
-    let above = c.in_ok-above.ensures ∙ ap (λ n. take n c.args.one.now) (c.saturating_sub.ensures ∙ ap (λ n. n - 1) c.len.ensures) ∙ above_take c.args.one.now in
-    looks_bound sides.schema.now (filter_view sides.filter.now) sides.before.now sides.after.now c.args.one.now c.in_ok-above.above _ _ c.args.steps.now _ _ _ _ _ _ (sym c.is_compared.ensures ∙ c.if-not-is_compared.false) above
+    let above = c.in_ok-above.ensures ∙ ap (λ n. take n c.args.row.now.path) (c.saturating_sub.ensures ∙ ap (λ n. n - 1) c.len.ensures) ∙ above_take c.args.row.now.path in
+    looks_bound sides.schema.now (filter_view sides.filter.now) sides.before.now sides.after.now c.args.row.now.path c.in_ok-above.above _ _ c.args.steps.now _ _ _ _ _ _ (sym c.is_compared.ensures ∙ c.if-not-is_compared.false) above
     c.in_ok-old.ensures.rows c.in_ok-new.ensures.rows (length-map c.in_ok-old.old.items _) (length-map c.in_ok-new.new.items _)
     c.in_ok-old.ensures.visits c.in_ok-look_at_rows.ensures.visits c.in_ok-new.ensures.visits c.in_ok-look_at_rows-2.ensures.visits

@@ -16,7 +16,12 @@ invariant_of-self-in-Some g c = (
   c.self.invariant.2,
 )
 
-pub returns-in-None-clause-found : goal.returns-in-None-clause-found
-returns-in-None-clause-found g c =
+pub clear-requires : goal.clear-requires
+clear-requires g c =
+    ap (λ (b : Touched). has_within c.args.target.now (untouched b)) (sym c.self.view_is)
+    ∙ none_left c.args.target.now (map path_of c.self.inside.touched) c.self.inside.tree.now (sym c.in-None.ensures.there)
+
+pub returns-in_ok-clear-in-None-clause-found : goal.returns-in_ok-clear-in-None-clause-found
+returns-in_ok-clear-in-None-clause-found g c =
     sym (none_left c.args.target.now (map path_of c.self.inside.touched) c.self.inside.tree.now (sym c.in-None.ensures.there))
     ∙ ap (λ (b : Touched). has_within c.args.target.now (untouched b)) c.self.view_is

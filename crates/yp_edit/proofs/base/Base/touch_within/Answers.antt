@@ -12,3 +12,6 @@ returns-then-contains-clause-touched g c =
 
 pub sweep-requires : goal.sweep-requires
 sweep-requires g c = ap (has_within c.args.target.now) c.in_ok-touch_rows.ensures.touched.others ∙ none_within c.args.target.now (untouched c.args.self.now)
+
+pub clear-requires : goal.clear-requires
+clear-requires g c = ap (has_within c.args.target.now) c.in_ok-touch_rows.ensures.touched.others ∙ none_within c.args.target.now (untouched c.args.self.now)

@@ -1,14 +1,19 @@
-use Rattle.std.proofs.Common.{◌∙◌, sym, ap, map, arith, List}
+use Rattle.std.proofs.Common.{◌∙◌, sym, ap, subst, map, arith, List}
+use Rattle.std.specs.List.{AllByRecursion}
 use Rattle.yp_base.specs.declared.path.Seg.{Seg}
 use Rattle.yp_edit.specs.declared.changed.ChangedRow.{ChangedRow}
 use Rattle.yp_filter.specs.View.{filter_view}
 use Rattle.yp_select.specs.Selection.{selection}
 use Rattle.yp_touch.specs.declared.root.Root.{Root}
 use Rattle.yp_touch.specs.Absorbed.{absorbed, paths_of}
-use Rattle.yp_touch.specs.Looked.{looks_of, roots_found, with_paths}
+use Rattle.yp_touch.specs.Looked.{IsBetween, looks_of, roots_found, with_paths}
 use Rattle.yp_touch.proofs.Bounds.{step_bound}
 use Rattle.yp_touch.proofs.Enough.{changed_have_paths, found_stand, found_absorb}
+use Rattle.yp_touch.proofs.Selected.{all_between}
 use Rattle.yp_touch.proofs.touched.Touched.absorb.Goals as goal
+
+pub find_roots-requires-clause-between : goal.find_roots-requires-clause-between
+find_roots-requires-clause-between g c = subst (AllByRecursion (IsBetween c.args.before.now c.args.after.now)) (sym c.requires.changed) (all_between c.args.before.now c.args.after.now)
 
 pub find_roots-requires-clause-paths : goal.find_roots-requires-clause-paths
 find_roots-requires-clause-paths g c = changed_have_paths c.args.schema.now c.args.before.now c.args.after.now c.args.changed.now c.requires.old c.requires.new c.requires.changed
