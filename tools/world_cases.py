@@ -399,7 +399,10 @@ def worlds() -> Iterator[World]:
 
 
 def difference(seed: int, world: World, told: list[str]) -> str | None:
-    """What is wrong with what the program told of a case, if anything is."""
+    """What is wrong with what the program told of a case, if anything is: what differs with companions, or from the model."""
+    for line, apart in zip(told, told[1:]):
+        if apart.startswith("differs "):
+            return f"case {seed}: '{line[:300]}' {apart[:300]}"
     for number, (event, wanted) in enumerate(zip(world.events, world.told)):
         got = told[number] if number < len(told) else "the end"
         if got != wanted:

@@ -1,9 +1,13 @@
-//! Runs events on worlds (`yp_core`). Standard input has cases: each is a line with a number of workers and events,
-//! the lines of a script, and an empty line. Standard output tells in a line what each event comes to, and after each
-//! case `end`. `docs/TESTING.md` says how they are written.
+//! Runs events on worlds (`yp_core`), and beside each world workers of their own (`yp_worker`), the companions of the
+//! world's. Standard input has cases: each is a line with a number of workers and events, the lines of a script, and
+//! an empty line. Standard output tells in a line what each event comes to, in another one what it comes to with the
+//! companions, if that differs, and after each case `end`. `docs/TESTING.md` says how they are written.
 #![tactic(auto)]
 
 mod cases;
+mod companions;
+mod comparing;
+mod kept;
 mod plan;
 mod run;
 mod shown;

@@ -9,12 +9,14 @@ use yp_base::json::member;
 pub struct BadCase;
 
 /// An event of a case: the next command of the script is appended, the worker of a number absorbs or offers, or the
-/// receiver of a number takes.
+/// receiver of a number takes. To mislead a worker's companion is that the worker offers, and the companion is told
+/// the other answer.
 #[derive(Clone, Copy, Drop)]
 pub enum Planned {
     Append,
     Absorb(u32),
     Offer(u32),
+    Mislead(u32),
     Take(u32),
 }
 
@@ -42,6 +44,7 @@ fn event_said(json: &Json) -> Option<Planned> {
     match word.as_str()? {
         "absorb" => Some(Planned::Absorb(number)),
         "offer" => Some(Planned::Offer(number)),
+        "mislead" => Some(Planned::Mislead(number)),
         "take" => Some(Planned::Take(number)),
         _ => None,
     }

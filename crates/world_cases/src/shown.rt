@@ -32,6 +32,16 @@ pub fn push_happened(
     }
 }
 
+/// Adds the line of what an event came to with companions, where this isn't what happened.
+pub fn push_difference(
+    alloc: Global,
+    told: &mut String,
+    followed: &Happened,
+) -> Result<(), AllocError> {
+    told.push_str("differs ")?;
+    push_happened(alloc, told, followed)
+}
+
 /// A reply, as a report has it.
 fn reply_text(alloc: Global, reply: &Reply) -> Result<String, AllocError> {
     let json = match reply {
