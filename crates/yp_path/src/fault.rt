@@ -1,6 +1,13 @@
 //! What is wrong with a path's text.
-use std::alloc::{AllocError, AllocFailed};
+ghost use Rattle.std.specs.Prelude.{◌≡◌};
+ghost use Rattle.yp_path.specs.declared.fault.PathFault.TheVariants.{Syntax, Memory};
+
+use std::alloc::{AllocFailed, Global};
+use std::error::Error;
+use std::fmt;
+use std::marker::Model;
 use yp_base::memory::NoMemory;
+use yp_base::txt::Txt;
 
 /// What is wrong with the leftmost segment that has a fault; of its faults the first in this order.
 #[derive(Debug, Drop, Clone, Copy, PartialEq, Eq, thiserror::Error)]
@@ -36,24 +43,114 @@ impl From<NoMemory> for PathFault {
     }
 }
 
-impl From<AllocError> for PathFault {
-    ghost use Rattle.std.specs.Prelude.{◌≡◌};
-    ghost use Rattle.yp_path.specs.declared.fault.PathFault.TheVariants.{Memory};
+/// What is wrong with a path's text, and where. Contracts see what is wrong; where is for people.
+#[derive(Drop)]
+pub struct PathError {
+    pub fault: PathFault,
+    /// the segment that has the fault, counted from 1; `None` where the path has no leading `/`, and where
+    /// memory ran out
+    pub segment: Option<usize>,
+    /// the name of the segment as it stands in the path; `None` also where there was no memory for it
+    pub name: Option<Txt>,
+    /// the node of the schema that the segment names, if it names one
+    pub node: Option<u32>,
+}
 
-    ghost from_gives = { λ _ e. e ≡ Memory };
+impl Model for PathError {
+    ghost use Rattle.yp_path.specs.declared.fault.PathFault.{PathFault};
 
-    fn from(_error: AllocError) -> PathFault {
-        PathFault::Memory
+    ghost Value = { PathFault };
+
+    ghost view = { λ e. e.fault };
+}
+
+impl fmt::Display for PathError {
+    fn fmt<W: fmt::Write>(&self, f: &mut fmt::Formatter<W>) -> fmt::Result {
+        if let Some(segment) = self.segment {
+            write!(f, "segment {segment} of the path")?;
+            if let Some(name) = &self.name {
+                write!(f, ", {:?}", name.as_str())?;
+            }
+            write!(f, ": ")?;
+        }
+        write!(f, "{}", self.fault)
     }
 }
 
-impl<T: Drop> From<AllocFailed<T>> for PathFault {
+impl fmt::Debug for PathError {
+    fn fmt<W: fmt::Write>(&self, f: &mut fmt::Formatter<W>) -> fmt::Result {
+        write!(f, "{self}")
+    }
+}
+
+impl Error for PathError {}
+
+impl PathError {
+    /// No leading `/`.
+    pub(crate) fn rootless() -> PathError
+        ensures { result ≡ Syntax }
+    {
+        PathError::whole(PathFault::Syntax)
+    }
+
+    /// A fault of no segment.
+    fn whole(fault: PathFault) -> PathError
+        ensures { result ≡ fault }
+    {
+        PathError {
+            fault,
+            segment: None,
+            name: None,
+            node: None,
+        }
+    }
+
+    /// A fault of the segment of this name that comes after so many others.
+    pub(crate) fn at(
+        alloc: Global,
+        fault: PathFault,
+        before: usize,
+        name: &str,
+        node: Option<u32>,
+    ) -> PathError
+        ensures { result ≡ fault }
+    {
+        match fault {
+            PathFault::Memory => PathError::whole(fault),
+            _ => PathError {
+                fault,
+                segment: Some(before.saturating_add(1)),
+                name: txt(alloc, name),
+                node,
+            },
+        }
+    }
+}
+
+// A text, where there is memory for it.
+fn txt(alloc: Global, text: &str) -> Option<Txt> {
+    let text = String::from_str(alloc, text).ok()?;
+    Some(Txt::from_string(text))
+}
+
+impl From<NoMemory> for PathError {
     ghost use Rattle.std.specs.Prelude.{◌≡◌};
     ghost use Rattle.yp_path.specs.declared.fault.PathFault.TheVariants.{Memory};
 
     ghost from_gives = { λ _ e. e ≡ Memory };
 
-    fn from(_error: AllocFailed<T>) -> PathFault {
-        PathFault::Memory
+    fn from(_error: NoMemory) -> PathError {
+        PathError::whole(PathFault::Memory)
+    }
+}
+
+impl<T: Drop> From<AllocFailed<T>> for PathError {
+    ghost use Rattle.std.specs.Prelude.{◌≡◌};
+    ghost use Rattle.yp_path.specs.declared.fault.PathFault.TheVariants.{Memory};
+
+    ghost from_gives = { λ _ e. e ≡ Memory };
+
+    fn from(_error: AllocFailed<T>) -> PathError {
+        PathError::whole(PathFault::Memory)
     }
 }

@@ -133,6 +133,16 @@ fn read_behind(alloc: Global, text: &str) -> Result<Option<Predicates>, NoMemory
     Ok(None)
 }
 
+/// The name of a segment: what stands before its predicates.
+pub fn name_of(part: &str) -> &str
+    ensures { result.now ≡ before_first is_bracket part.now }
+{
+    match cut_once(part, '[') {
+        Some((name, _)) => name,
+        None => part,
+    }
+}
+
 /// The name of a segment, and its predicates where they are well formed.
 pub fn read_part<'a>(
     alloc: Global,

@@ -8,10 +8,10 @@ ghost use Rattle.yp_path.specs.Targets.{Gives, asked};
 ghost use Rattle.yp_path.specs.declared.mark.Place.TheVariants.{Outside};
 
 use crate::cut::behind;
-use crate::fault::PathFault;
+use crate::fault::{PathError, PathFault};
 use crate::mark::{Place, cut_bare};
 use crate::name::child_named;
-use crate::predicate::{Predicate, read_part};
+use crate::predicate::{Predicate, name_of, read_part};
 use crate::target::read_value;
 use std::alloc::Global;
 use yp_base::atom::Atom;
@@ -237,9 +237,31 @@ fn read_segment(
     }
 }
 
+/// The segment that comes after so many others, below a node or at the top.
+fn read_next(
+    alloc: Global,
+    schema: &Schema,
+    parent: Option<u32>,
+    part: &str,
+    before: usize,
+) -> Result<RuleSeg, PathError>
+    requires { IfSome parent (λ parent. parent < length schema.now) }
+    ensures read { Gives result (rule_segment_in schema.now parent part.now) }
+    ensures node { IfOk result (λ segment. segment.node < length schema.now) }
+{
+    match read_segment(alloc, schema, parent, part) {
+        Ok(segment) => Ok(segment),
+        Err(fault) => {
+            let name = name_of(part);
+            let node = child_named(schema, parent, name);
+            Err(PathError::at(alloc, fault, before, name, node))
+        }
+    }
+}
+
 /// The segments of a text without its leading `/`, from the top down.
 #[tactic(auto, using(crate::proofs::RuleSegments::one_segment, crate::proofs::RuleSegments::last_segment, crate::proofs::RuleSegments::one_fault, crate::proofs::RuleSegments::last_fault))]
-fn read_segments(alloc: Global, schema: &Schema, text: &str) -> Result<RulePath, PathFault>
+fn read_segments(alloc: Global, schema: &Schema, text: &str) -> Result<RulePath, PathError>
     ensures read { Gives result (rule_segments_in schema.now None (pieces 47 Outside text.now)) }
     ensures nodes { IfOk result (λ path. All (λ segment. segment.node < length schema.now) path) }
 {
@@ -247,23 +269,24 @@ fn read_segments(alloc: Global, schema: &Schema, text: &str) -> Result<RulePath,
     let mut parent = None;
     let mut rest = text;
     while let Some((part, more)) = cut_bare(rest, b'/', Place::Outside) {
-        let segment = read_segment(alloc, schema, parent, part)?;
+        let segment = read_next(alloc, schema, parent, part, segments.len())?;
         parent = Some(segment.node);
         segments.push(segment)?;
         rest = more;
     }
-    segments.push(read_segment(alloc, schema, parent, rest)?)?;
+    let last = read_next(alloc, schema, parent, rest, segments.len())?;
+    segments.push(last)?;
     Ok(Series::from_vec(segments))
 }
 
 /// The rule path that a text is (RFC 8341 section 3.5.2): segments of `/` and a name, in member form or
 /// qualified, and predicates `[name='value']` or `[name="value"]` for keys, `[.='value']` for the value of
 /// a leaf-list. Spaces may stand around a name, the `=` and a value. Keys stand in any order; one that no
-/// predicate names stands for all values. The fault is the first of the leftmost segment that has one:
-/// `Syntax`, `UnknownNode`, `KeyCount` where a predicate names no key, or a key twice, and `KeyValue`
-/// where a value is not of its key's type.
+/// predicate names stands for all values. The fault is the first of the leftmost segment that has one, which
+/// the error names: `Syntax`, `UnknownNode`, `KeyCount` where a predicate names no key, or a key twice, and
+/// `KeyValue` where a value is not of its key's type.
 #[tactic(auto, using(crate::proofs::RuleSegments::unrooted))]
-pub fn read_rule_path(alloc: Global, schema: &Schema, text: &str) -> Result<RulePath, PathFault>
+pub fn read_rule_path(alloc: Global, schema: &Schema, text: &str) -> Result<RulePath, PathError>
     ensures read { Gives result (rule_path_in schema.now text.now) }
     ensures path { IfOk result (λ path. IsRulePathOf schema.now path) }
     ensures nodes { IfOk result (λ path. All (λ segment. segment.node < length schema.now) path) }
@@ -272,6 +295,6 @@ pub fn read_rule_path(alloc: Global, schema: &Schema, text: &str) -> Result<Rule
     read_text_fits();
     match behind(text, '/') {
         Some(rest) => read_segments(alloc, schema, rest),
-        None => Err(PathFault::Syntax),
+        None => Err(PathError::rootless()),
     }
 }

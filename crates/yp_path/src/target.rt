@@ -9,7 +9,7 @@ ghost use Rattle.yp_path.specs.Targets.{Gives, value_of, values_read, with_value
 
 use crate::cut::cut_once;
 use crate::escape::push_key;
-use crate::fault::PathFault;
+use crate::fault::{PathError, PathFault};
 use crate::name::child_named;
 use crate::texts::{Texts, count, read_texts};
 use std::alloc::Global;
@@ -225,41 +225,50 @@ fn read_segment(
     }
 }
 
-/// The same, with keys that its copies share.
-fn read_shared(
+/// The segment that comes after so many others, below a node or at the top. Its copies share its keys.
+fn read_next(
     alloc: Global,
     schema: &Schema,
     parent: Option<u32>,
     part: &str,
-) -> Result<Seg, PathFault>
+    before: usize,
+) -> Result<Seg, PathError>
     requires { IfSome parent (λ parent. parent < length schema.now) }
     ensures read { Gives result (segment_in schema.now parent part.now) }
     ensures node { IfOk result (λ segment. segment.node < length schema.now) }
 {
-    Ok(read_segment(alloc, schema, parent, part)?.share(alloc)?)
+    match read_segment(alloc, schema, parent, part) {
+        Ok(segment) => Ok(segment.share(alloc)?),
+        Err(fault) => {
+            let (name, _keys) = split_part(part);
+            let node = child_named(schema, parent, name);
+            Err(PathError::at(alloc, fault, before, name, node))
+        }
+    }
 }
 
 /// The segments of a text without its leading `/`, from the top down.
 #[tactic(auto, using(crate::proofs::Segments::one_segment, crate::proofs::Segments::last_segment, crate::proofs::Segments::one_fault, crate::proofs::Segments::last_fault))]
-fn read_segments(alloc: Global, schema: &Schema, text: &str) -> Result<Path, PathFault>
+fn read_segments(alloc: Global, schema: &Schema, text: &str) -> Result<Path, PathError>
     ensures { Gives result (segments_in schema.now None (cut 47 text.now)) }
 {
     let mut segments = Vec::new(alloc);
     let mut parent = None;
     let mut rest = text;
     while let Some((part, more)) = cut_once(rest, '/') {
-        let segment = read_shared(alloc, schema, parent, part)?;
+        let segment = read_next(alloc, schema, parent, part, segments.len())?;
         parent = Some(segment.node);
         segments.push(segment)?;
         rest = more;
     }
-    segments.push(read_shared(alloc, schema, parent, rest)?)?;
+    let last = read_next(alloc, schema, parent, rest, segments.len())?;
+    segments.push(last)?;
     Ok(Path::from_vec(segments))
 }
 
 /// The path that a text is.
 #[tactic(auto, using(crate::proofs::Segments::rooted, crate::proofs::Segments::unrooted, crate::proofs::Segments::rootless))]
-fn read_own(alloc: Global, schema: &Schema, text: &str) -> Result<Path, PathFault>
+fn read_own(alloc: Global, schema: &Schema, text: &str) -> Result<Path, PathError>
     ensures read { Gives result (target_in schema.now text.now) }
     ensures path { IfOk result (λ path. is_path_of schema.now path ≡ true) }
 {
@@ -270,17 +279,17 @@ fn read_own(alloc: Global, schema: &Schema, text: &str) -> Result<Path, PathFaul
             if front.is_empty() {
                 read_segments(alloc, schema, rest)
             } else {
-                Err(PathFault::Syntax)
+                Err(PathError::rootless())
             }
         }
-        None => Err(PathFault::Syntax),
+        None => Err(PathError::rootless()),
     }
 }
 
 /// The path that a text is; its copies share its segments and their keys. Names are in member form or
 /// qualified, keys percent-decoded and read by their types. The fault is the first of the leftmost
-/// segment that has one.
-pub fn read_target(alloc: Global, schema: &Schema, text: &str) -> Result<Path, PathFault>
+/// segment that has one, which the error names.
+pub fn read_target(alloc: Global, schema: &Schema, text: &str) -> Result<Path, PathError>
     ensures read { Gives result (target_in schema.now text.now) }
     ensures path { IfOk result (λ path. is_path_of schema.now path ≡ true) }
 {
