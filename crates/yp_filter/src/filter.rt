@@ -7,7 +7,7 @@ ghost use Rattle.yp_filter.specs.Reading.{Gives, filter_in};
 ghost use Rattle.yp_filter.specs.View.{node_view, set_view, filter_view};
 
 use crate::comparing::set_compares;
-use crate::fault::FilterFault;
+use crate::fault::{FilterError, FilterFault};
 use crate::naming::Place;
 use crate::reading::read_set;
 use crate::sizes::{is_small, size_of};
@@ -102,8 +102,8 @@ impl FilterNode {
 
 impl Filter {
     /// Reads a filter. Members are visited in byte order of their names, depth first, and the first fault is
-    /// answered. What is read is of the schema.
-    pub fn read(alloc: Global, schema: &Schema, json: &Json) -> Result<Filter, FilterFault>
+    /// answered, with its member. What is read is of the schema.
+    pub fn read(alloc: Global, schema: &Schema, json: &Json) -> Result<Filter, FilterError>
         ensures read { Gives filter_view result (filter_in schema.now (view json.now)) }
         ensures fits { IfOk result (λ filter. filter_fits schema.now (filter_view filter) ≡ true) }
         ensures few { IfOk result (λ filter. filter_size (filter_view filter) < 2 ^ 32) }
@@ -114,11 +114,11 @@ impl Filter {
                 let nodes = read_set(alloc, schema, 15, top, members)?;
                 let set = FilterSet::from_vec(nodes);
                 if !is_small(&set) {
-                    return Err(FilterFault::Memory);
+                    return Err(FilterError::bare(FilterFault::Memory));
                 }
                 Ok(Filter::Set(set))
             }
-            _ => Err(FilterFault::Shape),
+            _ => Err(FilterError::bare(FilterFault::Shape)),
         }
     }
 

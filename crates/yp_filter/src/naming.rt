@@ -13,6 +13,16 @@ pub enum Place {
     Nowhere,
 }
 
+impl Place {
+    /// The node below which the names of a set stand, if there is one.
+    pub fn parent(self) -> Option<u32> {
+        match self {
+            Place::Children(parent) => parent,
+            Place::Nowhere => None,
+        }
+    }
+}
+
 /// The schema node that a member form names at a place.
 pub fn named_by(schema: &Schema, place: Place, name: &str) -> Option<u32>
     ensures named { result ≡ named_by schema.now place name.now }

@@ -10,7 +10,7 @@ ghost use Rattle.yp_base.specs.Json.{is_one_null};
 ghost use Rattle.yp_filter.specs.Reading.{Gives, Adds, selection, containment, atom_asked, content_match, of_object, some_items, set_in, member_in, items_in, item_in, place_below};
 ghost use Rattle.yp_filter.specs.View.{node_view, nodes_of};
 
-use crate::fault::FilterFault;
+use crate::fault::{FilterError, FilterFault};
 use crate::filter::{FilterNode, FilterSet};
 use crate::naming::{Place, named_by, place_below};
 use serde_json::{Map, Value as Json};
@@ -109,13 +109,16 @@ pub fn read_set(
     room: u32,
     place: Place,
     members: &Map<String, Json>,
-) -> Result<Vec<FilterNode>, FilterFault>
+) -> Result<Vec<FilterNode>, FilterError>
     ensures { Gives (λ nodes. map node_view nodes.items) result (set_in schema.now room place (members_view members.now.entries)) }
 {
     let mut nodes = Vec::new(alloc);
     for (name, json) in members.iter() {
         let named = named_by(schema, place, name.as_str());
-        read_member(alloc, schema, room, named, json, &mut nodes)?;
+        match read_member(alloc, schema, room, named, json, &mut nodes) {
+            Ok(()) => {}
+            Err(error) => return Err(error.at(alloc, place, name.as_str())),
+        }
     }
     Ok(nodes)
 }
@@ -129,12 +132,12 @@ fn read_member(
     named: Option<u32>,
     json: &Json,
     nodes: &mut Vec<FilterNode>,
-) -> Result<(), FilterFault>
+) -> Result<(), FilterError>
     requires { IfSome named (λ node. node < length schema.now) }
     ensures { Adds result (map node_view nodes.old.items) (map node_view nodes.new.items) (member_in schema.now room named (view json.now)) }
 {
     match json {
-        Json::Null => Err(FilterFault::Shape),
+        Json::Null => Err(FilterError::bare(FilterFault::Shape)),
         Json::Array(items) => {
             if are_one_null(items.as_slice()) {
                 nodes.push(selection(named))?;
@@ -162,12 +165,12 @@ fn read_items(
     named: Option<u32>,
     items: &Vec<Json>,
     nodes: &mut Vec<FilterNode>,
-) -> Result<(), FilterFault>
+) -> Result<(), FilterError>
     requires { IfSome named (λ node. node < length schema.now) }
     ensures { Adds result (map node_view nodes.old.items) (map node_view nodes.new.items) (some_items (items_view items.now.items) (items_in schema.now room named (items_view items.now.items))) }
 {
     if items.is_empty() {
-        return Err(FilterFault::Shape);
+        return Err(FilterError::bare(FilterFault::Shape));
     }
     for item in items {
         nodes.push(read_item(alloc, schema, room, named, item)?)?;
@@ -183,13 +186,13 @@ fn read_item(
     room: u32,
     named: Option<u32>,
     json: &Json,
-) -> Result<FilterNode, FilterFault>
+) -> Result<FilterNode, FilterError>
     requires { IfSome named (λ node. node < length schema.now) }
     ensures { Gives node_view result (item_in schema.now room named (view json.now)) }
 {
     match json {
         Json::Object(members) => read_object(alloc, schema, room, named, members),
-        _ => Err(FilterFault::Shape),
+        _ => Err(FilterError::bare(FilterFault::Shape)),
     }
 }
 
@@ -201,7 +204,7 @@ fn read_object(
     room: u32,
     named: Option<u32>,
     members: &Map<String, Json>,
-) -> Result<FilterNode, FilterFault>
+) -> Result<FilterNode, FilterError>
     requires { IfSome named (λ node. node < length schema.now) }
     ensures { Gives node_view result (of_object room named (members_view members.now.entries) (set_in schema.now (room - 1) (place_below named) (members_view members.now.entries))) }
 {
@@ -209,7 +212,7 @@ fn read_object(
         return Ok(selection(named));
     }
     if room == 0 {
-        return Err(FilterFault::TooDeep);
+        return Err(FilterError::bare(FilterFault::TooDeep));
     }
     let nodes = read_set(alloc, schema, room - 1, place_below(named), members)?;
     Ok(containment(named, nodes))

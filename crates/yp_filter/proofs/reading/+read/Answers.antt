@@ -18,12 +18,12 @@ read_set-loop-name-preserved t c =
     let now = map node_view c.read_member.new.nodes.items in
     let nodes = c.args.schema.now in
     let rest = set_in nodes c.args.room c.args.place (members_view c.next.new.self) in
-    let more = joined_more before now (member_in nodes c.args.room c.named_by-named.result (view c.in-Some.json.now)) rest c.in_ok-read_member.ensures in
+    let more = joined_more before now (member_in nodes c.args.room c.named_by-named.result (view c.in-Some.json.now)) rest c.in-Ok.ensures in
     ((done ++ e ∷ [], l.invariant.0.1 ∙ ap (λ es. done ++ es) c.in-Some.ensures.steps ∙ sym (append_assoc done (e ∷ []) c.next.new.self)), search (rules, more))
 
 pub read_object-returns-then-room-eq0 : goal.read_object-returns-then-room-eq0
 read_object-returns-then-room-eq0 t c =
-    too_deep c.args.named c.args.room c.args.members.now.entries c.is_empty.result _ c.is_empty.ensures c.if-is_empty.false (omega (arith, c.if-room-eq0.true))
+    rw c.bare.ensures (too_deep c.args.named c.args.room c.args.members.now.entries c.is_empty.result _ c.is_empty.ensures c.if-is_empty.false (omega (arith, c.if-room-eq0.true)))
 
 pub read_object-returns : goal.read_object-returns
 read_object-returns t c =
