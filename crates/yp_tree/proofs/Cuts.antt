@@ -16,6 +16,7 @@ use Rattle.yp_base.specs.Order.{path_cmp, is_within}
 use Rattle.yp_base.specs.OrderLaws.{segments_total, paths_total}
 use Rattle.yp_base.specs.Rows.{path_of, value_at, has_within, rows_within, rows_without, row_of, rows_of}
 use Rattle.yp_base.specs.Exact.{paths_exact}
+use Rattle.yp_base.specs.PathLaws.{within_itself}
 use Rattle.yp_base.specs.Prefixes.{fronts_together}
 use Rattle.yp_tree.proofs.Nexts.{first_row, less_not_greater, included_from, included_within}
 use Rattle.yp_tree.specs.Listed.{without_row}
@@ -130,3 +131,54 @@ others_are_all under (row ∷ rows) h =
       | true ↦ λ m. cc
       | false ↦ λ m. ap (λ rows. row ∷ rows) (others_are_all under rows m)
     ] h
+
+-- ---- a path below which no row lies
+
+none_leaves : (under : List Seg) (rows : List Row) → map path_of (rows_within under rows) ≡ [] → rows_without under rows ≡ without_row under rows
+none_leaves under [] none = refl
+none_leaves under (row ∷ rows) none =
+    elim (is_within under row.path) as (λ w. is_within under row.path ≡ w → map path_of (cond w (row ∷ rows_within under rows) (rows_within under rows)) ≡ [] → cond (not w) (row ∷ rows_without under rows) (rows_without under rows) ≡ cond (is_eq (path_cmp under row.path)) rows (row ∷ without_row under rows)) [
+      | true ↦ λ within h. cc
+      | false ↦ λ within h. elim (is_eq (path_cmp under row.path)) as (λ b. is_eq (path_cmp under row.path) ≡ b → row ∷ rows_without under rows ≡ cond b rows (row ∷ without_row under rows)) [
+        | true ↦ λ here.
+            let both : true ≡ false = sym (within_itself under) ∙ ap (is_within under) (tells_apart paths_exact under row.path here) ∙ within in
+            cc
+        | false ↦ λ here. ap (λ (rest : List Row). row ∷ rest) (none_leaves under rows h)
+      ] refl
+    ] refl none
+
+one_leaves : (under : List Seg) (rows : List Row) → map path_of (rows_within under rows) ≡ under ∷ [] → rows_without under rows ≡ without_row under rows
+one_leaves under rows one =
+    let t = taken under rows under [] one in
+    let less : List Row = without_row under rows in
+    let whole : under ∷ map path_of (rows_within under less) ≡ under ∷ [] = sym (ap (map path_of) t.2) ∙ one in
+    let none : map path_of (rows_within under less) ≡ [] = cc in
+    sym t.3 ∙ others_are_all under less none
+
+-- where what `range` gives begins with nothing at or below the path, or ends there with its row, the other rows are those without it
+module _ (under : List Seg) (es found : List (List Seg × Value)) (rows : List Row) (order : IsStrictlySortedBy path_cmp (map path_of (rows_of es))) (same : rows_of es ≡ rows) (range : found ≡ entries_between path_cmp (Included under) Unbounded es) where
+  begun : map path_of (rows_within under rows) ≡ map path_of (rows_of (front_within under found))
+  begun = ap (map path_of) (sym (ap (λ es. rows_of (front_within under es)) range ∙ within_comes_first under es order ∙ ap (rows_within under) same))
+
+  pub nothing_leaves : found ≡ [] → rows_without under rows ≡ without_row under rows
+  nothing_leaves none = none_leaves under rows (begun ∙ ap (λ es. map path_of (rows_of (front_within under es))) none)
+
+  pub outside_leaves : (first : List Seg × Value) (rest : List (List Seg × Value)) → found ≡ first ∷ rest → is_within under first.0 ≡ false → rows_without under rows ≡ without_row under rows
+  outside_leaves first rest is outside =
+      none_leaves under rows (begun ∙ ap (λ es. map path_of (rows_of (front_within under es))) is ∙ ap (λ w. map path_of (rows_of (cond w (first ∷ front_within under rest) []))) outside)
+
+  its_row : (first : List Seg × Value) (rest : List (List Seg × Value)) → found ≡ first ∷ rest → is_eq (path_cmp under first.0) ≡ true → rows_of (front_within under rest) ≡ [] → rows_without under rows ≡ without_row under rows
+  its_row first rest is here ends =
+      let at : under ≡ first.0 = tells_apart paths_exact under first.0 here in
+      let within : is_within under first.0 ≡ true = ap (is_within under) (sym at) ∙ within_itself under in
+      one_leaves under rows (
+      begun
+      ∙ ap (λ es. map path_of (rows_of (front_within under es))) is
+      ∙ ap (λ w. map path_of (rows_of (cond w (first ∷ front_within under rest) []))) within
+      ∙ (λ i. sym at i ∷ map path_of (ends i)))
+
+  pub row_leaves : (first : List Seg × Value) → found ≡ first ∷ [] → is_eq (path_cmp under first.0) ≡ true → rows_without under rows ≡ without_row under rows
+  row_leaves first is here = its_row first [] is here refl
+
+  pub row_first_leaves : (first second : List Seg × Value) (rest : List (List Seg × Value)) → found ≡ first ∷ second ∷ rest → is_eq (path_cmp under first.0) ≡ true → is_within under second.0 ≡ false → rows_without under rows ≡ without_row under rows
+  row_first_leaves first second rest is here outside = its_row first (second ∷ rest) is here (ap (λ w. rows_of (cond w (second ∷ front_within under rest) [])) outside)

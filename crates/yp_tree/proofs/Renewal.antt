@@ -6,17 +6,19 @@ use Rattle.std.specs.List.{HoldsAt}
 use Rattle.std.specs.Ordering.{is_eq, match_ordering}
 use Rattle.std.specs.declared.cmp.Ordering.TheVariants.{Less, Equal, Greater}
 use Rattle.std.proofs.lemmas.Cmp.{tied_itself}
-use Rattle.std.proofs.lemmas.List.{drop_more, length_push}
+use Rattle.std.proofs.lemmas.List.{drop_more, length_push, nil_from_length}
+use Rattle.std.proofs.lemmas.Map.Views.{tells_apart}
 use Rattle.std.proofs.lemmas.Option.{slice_get-get_or, slice_get_past}
 use Rattle.yp_base.specs.declared.path.Seg.{Seg}
 use Rattle.yp_base.specs.declared.row.Value.{Value}
 use Rattle.yp_base.specs.declared.row.Row.{Row}
 use Rattle.yp_base.specs.Order.{path_cmp}
 use Rattle.yp_base.specs.OrderLaws.{paths_total}
+use Rattle.yp_base.specs.Exact.{paths_exact}
 use Rattle.yp_base.specs.Rows.{path_of, value_at, put_row, put_rows, rows_within, rows_without, AreInOrder, row_of}
 use Rattle.yp_base.specs.RowLaws.{all_past, first_order, rest_order, none_past, value_at_put}
 use Rattle.yp_tree.specs.Listed.{set_row, without_row, given_back, without_others, undone}
-use Rattle.yp_tree.proofs.Without.{puts_over, puts_apart, still_order}
+use Rattle.yp_tree.proofs.Without.{put_over, puts_over, puts_apart, still_order}
 use Rattle.yp_tree.proofs.Cuts.{taken, others_are_all}
 
 -- ---- a value is given back
@@ -151,3 +153,13 @@ renewed news under (path ∷ paths) rows order is =
     let whole : path ∷ map path_of (rows_within under less) ≡ path ∷ paths = sym (ap (map path_of) t.2) ∙ is in
     let rest : map path_of (rows_within under less) ≡ paths = cc in
     ap (without_others paths (put_rows news [])) (one_out news rows path order) ∙ renewed news under paths less (still_order path rows order) rest ∙ ap (put_rows news) t.3
+
+-- a row that is put takes the place of all at or below its path, where nothing lies below
+pub succeeded : (new : Row) (under : List Seg) (news more rows : List Row) → AreInOrder rows → news ≡ new ∷ more → length more ≡ 0 → is_eq (path_cmp new.path under) ≡ true → rows_without under rows ≡ without_row under rows
+    → put_row new rows ≡ put_rows news (rows_without under rows)
+succeeded new under news more rows order is alone here ends =
+    sym (put_over new rows order)
+    ∙ ap (λ path. put_row new (without_row path rows)) (tells_apart paths_exact new.path under here)
+    ∙ ap (put_row new) (sym ends)
+    ∙ ap (λ (some : List Row). put_rows (new ∷ some) (rows_without under rows)) (sym (nil_from_length more alone))
+    ∙ ap (λ (some : List Row). put_rows some (rows_without under rows)) (sym is)

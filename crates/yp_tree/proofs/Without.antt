@@ -35,7 +35,7 @@ still_order path (row ∷ rows) order =
     ]
 
 -- a row that is put takes the place of the one that has its path
-put_over : (new : Row) (rows : List Row) → AreInOrder rows → put_row new (without_row new.path rows) ≡ put_row new rows
+pub put_over : (new : Row) (rows : List Row) → AreInOrder rows → put_row new (without_row new.path rows) ≡ put_row new rows
 put_over new [] order = refl
 put_over new (row ∷ rows) order =
     let past = first_order row rows order in

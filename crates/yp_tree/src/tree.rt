@@ -1,5 +1,5 @@
 //! Rows in an ordered map.
-ghost use Rattle.std.specs.Prelude.{◌≡◌, ◌+◌, ◌^◌, ◌<◌, ◌≤◌, ◌++◌, ◌∷◌, [], Some, is_some, length, slice_get, map, take, option_map, option_copied, OnOk, OnErr, IfOk, IfSome};
+ghost use Rattle.std.specs.Prelude.{◌≡◌, ◌+◌, ◌^◌, ◌<◌, ◌≤◌, ◌++◌, ◌∷◌, [], true, Some, is_some, length, slice_get, map, take, option_map, option_copied, OnOk, OnErr, IfOk, IfSome};
 ghost use Rattle.std.specs.Bound.{bound_map};
 ghost use Rattle.yp_base.specs.Rows.{path_of, value_at, put_row, put_rows, next_row, has_within, rows_within, rows_without, AreInOrder, row_of, rows_of};
 ghost use Rattle.yp_tree.specs.Begins.{Begins};
@@ -212,6 +212,9 @@ impl Tree {
         ensures rows { OnOk result (self.new ≡ put_rows rows.now (rows_without under.now self.old)) }
         ensures unchanged { OnErr result (self.new ≡ self.old) }
     {
+        if let Some(row) = self.successor(under, rows) {
+            return self.put(alloc, row.copy(alloc)?);
+        }
         if self.len() / SHARE <= rows.len() {
             *self = self.of_others(alloc, under, rows)?;
             return Ok(());
@@ -224,6 +227,38 @@ impl Tree {
         self.put_all(alloc, rows)?;
         self.leave_out_others(paths.as_slice(), &news);
         Ok(())
+    }
+
+    // The only one of these rows, where it has this very path and no row of the tree lies below it: put, it
+    // takes the place of all that is at or below the path.
+    fn successor<'a>(&self, under: &Path, rows: &'a Rows) -> Option<&'a Row>
+        ensures { IfSome result (λ row. put_row row.now self.now ≡ put_rows rows.now (rows_without under.now self.now)) }
+    {
+        let _count = self.len();
+        let (row, more) = rows.items().split_first()?;
+        if more.is_empty() && row.path.cmp(under).is_eq() && self.ends_at(under) {
+            return Some(row);
+        }
+        None
+    }
+
+    // Whether no row lies below a path.
+    fn ends_at(&self, path: &Path) -> bool
+        ensures { result ≡ true → rows_without path.now self.now ≡ without_row path.now self.now }
+    {
+        let mut rows = self.kept.range((Bound::Included(path), Bound::Unbounded));
+        match rows.next() {
+            Some((first, _value)) => {
+                if !path.cmp(first).is_eq() {
+                    return !is_prefix(path, first);
+                }
+                match rows.next() {
+                    Some((second, _value)) => !is_prefix(path, second),
+                    None => true,
+                }
+            }
+            None => true,
+        }
     }
 
     /// Takes out the row that has this path, and gives its value; `None` where there is no such row. It
