@@ -5,7 +5,10 @@ ghost use Rattle.yp_schema.specs.Datastore.{IsDatastore, is_path_of};
 ghost use Rattle.yp_encode.specs.Sendable.{IsSendableChange};
 ghost use Rattle.yp_filter.specs.Fits.{filter_fits};
 ghost use Rattle.yp_filter.specs.View.{filter_view};
-ghost use Rattle.yp_touch.specs.Absorbed.{EndsAsRow, paths_of};
+ghost use Rattle.yp_nacm.specs.Decision.{is_readable};
+ghost use Rattle.yp_edit.specs.Changes.{changed_rows};
+ghost use Rattle.yp_select.specs.Selection.{selection};
+ghost use Rattle.yp_touch.specs.Absorbed.{EndsAsRow, absorbed, paths_of};
 
 use crate::asks::no_kinds;
 use crate::calls::Setting;
@@ -22,10 +25,12 @@ use yp_base::notice::{Changes, Kinds};
 use yp_base::path::Path;
 use yp_base::steps::Steps;
 use yp_edit::applying::apply;
+use yp_edit::changed::ChangedRow;
 use yp_edit::former::{follow, former};
 use yp_edit::patch::Patch;
 use yp_edit::reading::read_patch;
 use yp_encode::contents::patch_text;
+use yp_filter::filter::Filter;
 use yp_path::target::write_target;
 use yp_schema::schema::Schema;
 use yp_touch::changes::record_of_step;
@@ -92,6 +97,29 @@ fn edits_text(alloc: Global, schema: &Schema, changes: &Changes) -> anyhow::Resu
     Ok(String::from_str(alloc, text.as_str())?)
 }
 
+/// Goes on by a step with the places that were touched: where nothing is filtered, from the changed rows alone.
+fn absorb<L: Ledger>(
+    alloc: Global,
+    schema: &Schema,
+    asked: &Asked,
+    before: &Tree,
+    touched: &mut Touched,
+    changed: &[ChangedRow],
+    steps: &mut Steps<L>,
+) -> Result<(), NoMemory>
+    requires old { IsDatastore schema.now before.now }
+    requires new { IsDatastore schema.now asked.now.tree }
+    requires changed { changed.now ≡ changed_rows before.now asked.now.tree }
+    requires fits { filter_fits schema.now (filter_view asked.now.filter) ≡ true }
+    ensures roots { OnOk result (touched.new ≡ absorbed touched.old (selection schema.now (filter_view asked.now.filter) (is_readable schema.now asked.now.rules) before.now) (selection schema.now (filter_view asked.now.filter) (is_readable schema.now asked.now.rules) asked.now.tree)) }
+{
+    let (rules, after) = (&asked.rules, &asked.tree);
+    match &asked.filter {
+        Filter::All => touched.absorb_unfiltered(alloc, schema, rules, changed),
+        filter => touched.absorb(alloc, schema, filter, rules, before, after, changed, steps),
+    }
+}
+
 /// Goes on by the step that a patch makes, with a count of steps of its own.
 fn go_on<L: Ledger>(
     alloc: Global,
@@ -116,11 +144,14 @@ fn go_on<L: Ledger>(
     roots_end_as_rows();
     let mut steps = Steps::<L>::open(blank);
     let changed = apply(alloc, schema, &mut window.asked.tree, patch, &mut steps)?;
-    let (filter, rules) = (&window.asked.filter, &window.asked.rules);
-    let (before, after) = (&window.before, &window.asked.tree);
-    let rows = changed.items();
-    window.touched.absorb(
-        alloc, schema, filter, rules, before, after, rows, &mut steps,
+    absorb(
+        alloc,
+        schema,
+        &window.asked,
+        &window.before,
+        &mut window.touched,
+        changed.items(),
+        &mut steps,
     )?;
     follow(alloc, &mut window.before, &changed, &mut steps)?;
     Ok(())

@@ -10,7 +10,7 @@ use Rattle.yp_journal.specs.History.{JournalState, rules_at}
 use Rattle.yp_slot.specs.declared.classes.Class.{Class}
 use Rattle.yp_roster.specs.declared.roster.Roster.{Roster}
 use Rattle.yp_slot.specs.declared.slot.Slot.{Slot}
-use Rattle.yp_slot.specs.Classes.{AreClasses, HasClass, IsClassOf, KeepNumbers, Member, follow, member_of}
+use Rattle.yp_slot.specs.Classes.{AreClasses, HasClass, IsClassOf, KeepNumbers, Member, look_back, looks_back, member_of}
 use Rattle.yp_roster.specs.Ordered.{AreClassedTo, AreClassesOf, HaveClasses}
 use Rattle.yp_slot.specs.Records.{AreTold}
 use Rattle.yp_roster.specs.Rosters.{AreQuietTo, IsClassed}
@@ -148,8 +148,8 @@ module _ (nodes : List SchemaNode) (before after : JournalState) where
   steps_more (c ∷ classes) [] class step are is = absurd are
   steps_more (c ∷ classes) (s ∷ steps) class step are is = (are.0, steps_more classes steps class step are.1 is)
 
--- a class on change among some is one that follows
-pub follows_one : (classes : List Class) (i : ℕ) (class : Class) → i < length classes → class ≡ get_or classes i class → class.on_change ≡ true → follow classes ≡ true
-follows_one [] i class within is on = absurd (omega (arith, within))
-follows_one (first ∷ classes) zero class within is on = ap (λ (c : Class). c.on_change || follow classes) (sym is) ∙ ap (λ (b : Bool). b || follow classes) on
-follows_one (first ∷ classes) (suc i) class within is on = or_right first.on_change (follow classes) (follows_one classes i class (omega (arith, within)) is on)
+-- where one of some classes looks back, they do
+pub one_looks_back : (classes : List Class) (i : ℕ) (class : Class) → i < length classes → class ≡ get_or classes i class → looks_back class ≡ true → look_back classes ≡ true
+one_looks_back [] i class within is back = absurd (omega (arith, within))
+one_looks_back (first ∷ classes) zero class within is back = ap (λ (c : Class). looks_back c || look_back classes) (sym is) ∙ ap (λ (b : Bool). b || look_back classes) back
+one_looks_back (first ∷ classes) (suc i) class within is back = or_right (looks_back first) (look_back classes) (one_looks_back classes i class (omega (arith, within)) is back)

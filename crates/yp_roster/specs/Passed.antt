@@ -13,7 +13,7 @@ use Rattle.yp_moment.specs.Entries.{selected_at}
 use Rattle.yp_slot.specs.declared.classes.Class.{Class}
 use Rattle.yp_slot.specs.declared.following.Entered.{Entered}
 use Rattle.yp_slot.specs.declared.slot.Slot.{Slot}
-use Rattle.yp_slot.specs.Classes.{follow}
+use Rattle.yp_slot.specs.Classes.{look_back}
 use Rattle.yp_slot.specs.Slots.{IsSlotOf}
 use Rattle.yp_slot.specs.Steps.{IsStepOf, entered_track, names_of, touches}
 use Rattle.yp_roster.specs.Ordered.{AreSlotsOf}
@@ -28,9 +28,9 @@ AreEnteredTo entered before (suc place) (slot ∷ slots) (track ∷ tracks) = Is
 
 -- ---- patches by class
 
--- the tree of the rows before an entry is there for a patch, where a class sends on change
+-- the tree of the rows before an entry is there for a patch, where a class looks back at them
 abbrev pub HasTree : Entered → List Class → Type 0
-HasTree entered classes = (patch : Patch) → entered.entry.now.command ≡ Edit patch → follow classes ≡ true → is_some entered.before ≡ true
+HasTree entered classes = (patch : Patch) → entered.entry.now.command ≡ Edit patch → look_back classes ≡ true → is_some entered.before ≡ true
 
 -- the same of classes in order
 abbrev pub AreStepsOf : List SchemaNode → JournalState → JournalState → List Class → List (List Root) → Type 0

@@ -1,11 +1,11 @@
 //! What a patch makes of slots, by their classes.
-ghost use Rattle.std.specs.Prelude.{◌≡◌, ◌+◌, ◌<◌, [], List, length, map, true, is_some, Some, IfOk, OnOk};
+ghost use Rattle.std.specs.Prelude.{◌≡◌, ◌+◌, ◌<◌, [], List, length, map, true, false, is_some, Some, IfOk, OnOk};
 ghost use Rattle.std.specs.List.{AllByRecursion, slice_get};
 ghost use Rattle.yp_filter.specs.View.{filter_view};
 ghost use Rattle.yp_journal.specs.History.{JournalState};
 ghost use Rattle.yp_attempt.specs.Tracks.{Track};
 ghost use Rattle.yp_slot.specs.declared.classes.Class.{Class as ClassThere};
-ghost use Rattle.yp_slot.specs.Classes.{AreClasses, IsClass, member_of};
+ghost use Rattle.yp_slot.specs.Classes.{AreClasses, IsClass, is_filtered, looks_back, member_of};
 ghost use Rattle.yp_roster.specs.Ordered.{AreClassesOf, HaveClasses, AreSlotsOf};
 ghost use Rattle.yp_roster.specs.Passed.{AreEnteredTo, AreStepsOf, HasTree};
 ghost use Rattle.yp_slot.specs.Steps.{IsEnteredByPatch, IsStepOf, entered_track, step_of};
@@ -14,7 +14,7 @@ use std::alloc::Global;
 use std::sync::ledger::Ledger;
 use yp_base::memory::NoMemory;
 use yp_base::steps::Steps;
-use yp_slot::classes::Class;
+use yp_slot::classes::{Class, is_filtered};
 use yp_slot::following::Entered;
 use yp_slot::laws::what_a_patch_makes_of_slots;
 use yp_slot::slot::Slot;
@@ -50,6 +50,22 @@ fn roots_of<L: Ledger>(
     Ok(step)
 }
 
+/// The same where the class selects all that may be read: what each changed row held is known, and no row
+/// before it is looked at.
+fn unfiltered_roots_of(alloc: Global, entered: &Entered, class: &Class) -> Result<Touched, NoMemory>
+    requires entered { (found : JournalState) × IsEnteredByPatch entered.now found }
+    requires class { IsClass entered.now.present.schema.now (length entered.now.present.state.now.receivers) class.now }
+    requires all { is_filtered (filter_view class.now.filter) ≡ false }
+    ensures { IfOk result (λ step. (found : JournalState) → IsEnteredByPatch entered.now found
+        → step ≡ step_of entered.now.present.schema.now found entered.now.present.state.now (filter_view class.now.filter) class.now.first) }
+{
+    let present = &entered.present;
+    let rules = present.rules_of(class.first);
+    let mut step = Touched::new(alloc);
+    step.absorb_unfiltered(alloc, present.schema, rules, entered.changed)?;
+    Ok(step)
+}
+
 /// The same where the class sends on change.
 fn step_of<L: Ledger>(
     alloc: Global,
@@ -59,11 +75,14 @@ fn step_of<L: Ledger>(
 ) -> Result<Touched, NoMemory>
     requires entered { (before : JournalState) × IsEnteredByPatch entered.now before }
     requires class { IsClass entered.now.present.schema.now (length entered.now.present.state.now.receivers) class.now }
-    requires tree { class.now.on_change ≡ true → is_some entered.now.before ≡ true }
+    requires tree { looks_back class.now ≡ true → is_some entered.now.before ≡ true }
     ensures { IfOk result (λ step. (before : JournalState) → IsEnteredByPatch entered.now before → IsStepOf entered.now.present.schema.now before entered.now.present.state.now class.now step) }
 {
     if !class.on_change {
         return Ok(Touched::new(alloc));
+    }
+    if !is_filtered(&class.filter) {
+        return unfiltered_roots_of(alloc, entered, class);
     }
     match entered.before {
         Some(before) => roots_of(alloc, entered, class, before, steps),

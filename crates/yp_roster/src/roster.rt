@@ -8,7 +8,7 @@ ghost use Rattle.yp_attempt.specs.Moments.{Moment, MayFollow, is_kept_by};
 ghost use Rattle.yp_attempt.specs.Tracks.{Answer, Track};
 ghost use Rattle.yp_slot.specs.declared.records.Record.{Record as RecordThere};
 ghost use Rattle.yp_roster.specs.Ordered.{AreClassesOf, HaveClasses, AreSlotsOf};
-ghost use Rattle.yp_slot.specs.Classes.{follow, member_of};
+ghost use Rattle.yp_slot.specs.Classes.{look_back, member_of};
 ghost use Rattle.yp_slot.specs.Records.{AreTold};
 ghost use Rattle.yp_roster.specs.Rosters.{AreQuietTo, IsClassed, IsFoundAt, IsIdleAt, IsLookedTo, IsNextAt, IsRosterAt, IsRosterOf, IsTurnOf};
 ghost use Rattle.yp_slot.specs.Slots.{IsPresent};
@@ -31,7 +31,7 @@ use yp_journal::command::Command;
 use yp_journal::state::State;
 use yp_moment::laws::what_feeds_know_of_selections_is_lawful;
 use yp_slot::acts::{Act, act_of};
-use yp_slot::classes::{Classes, follow};
+use yp_slot::classes::{Classes, look_back};
 use yp_slot::following::Entered;
 use yp_slot::laws::{
     a_quiet_slot_was_looked_at, a_record_is_set_aside_once,
@@ -111,11 +111,11 @@ impl Roster {
         }
     }
 
-    /// Whether a class sends on change, so that a patch is followed by the rows before it.
-    pub fn follows(&self) -> bool
-        ensures { result ≡ follow self.now.classes.all.items }
+    /// Whether a class sends on change what a filter selects, so that a patch needs the rows before it.
+    pub fn looks_back(&self) -> bool
+        ensures { result ≡ look_back self.now.classes.all.items }
     {
-        follow(self.classes.all.as_slice())
+        look_back(self.classes.all.as_slice())
     }
 
     /// The first offer of its slots, in order. It looks at them one after another until one offers something,

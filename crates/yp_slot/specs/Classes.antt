@@ -1,9 +1,9 @@
 -- The classes of slots: what the slots of a class share.
-use Rattle.std.specs.Prelude.{◌≡◌, ℕ, ◌<◌, List, true, Bool, Some}
+use Rattle.std.specs.Prelude.{◌≡◌, ℕ, ◌<◌, ◌&&◌, List, true, false, Bool, Some}
 use Rattle.std.specs.List.{AllByRecursion, list_any, slice_get}
 use Rattle.yp_base.specs.declared.notice.Trigger.{Trigger}
 use Rattle.yp_schema.specs.declared.schema.SchemaNode.{SchemaNode}
-use Rattle.yp_filter.specs.Filters.{Asked}
+use Rattle.yp_filter.specs.Filters.{Asked, all_rows, of_set}
 use Rattle.yp_filter.specs.Fits.{filter_fits}
 use Rattle.yp_filter.specs.View.{filter_view}
 use Rattle.yp_feed.specs.Machine.{is_on_change}
@@ -25,9 +25,18 @@ AreClasses nodes count classes = AllByRecursion (IsClass nodes count) classes
 abbrev pub KeepNumbers : List Class → List Class → Type 0
 KeepNumbers before after = (number : ℕ) (class : Class) → slice_get before number ≡ Some class → slice_get after number ≡ Some class
 
--- whether a class sends on change
-abbrev pub follow : List Class → Bool
-follow classes = list_any (λ class. class.on_change) classes
+-- whether a filter may leave out a row that may be read
+abbrev pub is_filtered : Asked → Bool
+is_filtered all_rows = false
+is_filtered (of_set set) = true
+
+-- whether a class sends on change what a filter selects: to tell what a step moves there, the rows before it are looked at
+abbrev pub looks_back : Class → Bool
+looks_back class = class.on_change && is_filtered (filter_view class.filter)
+
+-- whether one of some classes does
+abbrev pub look_back : List Class → Bool
+look_back classes = list_any looks_back classes
 
 -- ---- the slots of classes
 

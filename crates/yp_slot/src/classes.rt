@@ -1,11 +1,11 @@
 //! The classes of slots: those of a class are told of a patch by the same roots, and share their records.
 ghost use Rattle.std.specs.Prelude.{◌≡◌, ℕ, ◌<◌, List, length, true, Some, IfOk, IfSome, OnOk};
-ghost use Rattle.std.specs.List.{list_any, slice_get};
+ghost use Rattle.std.specs.List.{slice_get};
 ghost use Rattle.yp_schema.specs.declared.schema.SchemaNode.{SchemaNode};
 ghost use Rattle.yp_filter.specs.Fits.{filter_fits};
 ghost use Rattle.yp_filter.specs.View.{filter_view};
 ghost use Rattle.yp_feed.specs.Machine.{is_on_change};
-ghost use Rattle.yp_slot.specs.Classes.{AreClasses, HasClass, KeepNumbers};
+ghost use Rattle.yp_slot.specs.Classes.{AreClasses, HasClass, KeepNumbers, is_filtered, look_back, looks_back};
 ghost use Rattle.yp_slot.specs.Slots.{IsPresent};
 
 use crate::present::Present;
@@ -101,9 +101,24 @@ pub fn number_of(
     class_of(alloc, first, filter, is_on_change(trigger), classes)
 }
 
-/// Whether a class sends on change.
-pub fn follow(classes: &[Class]) -> bool
-    ensures { result ≡ list_any (λ class. class.on_change) classes.now }
+/// Whether a filter may leave out a row that may be read.
+pub fn is_filtered(filter: &Filter) -> bool
+    ensures { result ≡ is_filtered (filter_view filter.now) }
 {
-    classes.iter().any(|class| class.on_change)
+    !matches!(filter, Filter::All)
+}
+
+/// Whether a class sends on change what a filter selects: to tell what a step moves there, the rows before it
+/// are looked at.
+fn looks_back(class: &Class) -> bool
+    ensures { result ≡ looks_back class.now }
+{
+    class.on_change && is_filtered(&class.filter)
+}
+
+/// Whether one of some classes sends on change what a filter selects.
+pub fn look_back(classes: &[Class]) -> bool
+    ensures { result ≡ look_back classes.now }
+{
+    classes.iter().any(looks_back)
 }

@@ -1,4 +1,5 @@
 pub mod Absorbing
+pub mod AllRows
 pub mod Bounds
 pub mod Edits
 pub mod Enough

@@ -17,3 +17,4 @@ mod placing;
 mod recording;
 pub mod root;
 pub mod touched;
+mod unfiltered;

@@ -40,7 +40,7 @@ pub struct Sides<'a, R> {
 }
 
 /// The root at a path with these values in two selections, if they differ.
-fn root_of(
+pub(crate) fn root_of(
     alloc: Global,
     path: &Path,
     old: Option<&Value>,

@@ -5,6 +5,7 @@ ghost use Rattle.yp_base.specs.declared.row.Row.{Row};
 ghost use Rattle.yp_schema.specs.Datastore.{IsDatastore};
 ghost use Rattle.yp_edit.specs.Changes.{changed_rows};
 ghost use Rattle.yp_encode.specs.Sendable.{IsSendableChange};
+ghost use Rattle.yp_filter.specs.Filters.{all_rows};
 ghost use Rattle.yp_filter.specs.Fits.{filter_fits};
 ghost use Rattle.yp_filter.specs.View.{filter_view};
 ghost use Rattle.yp_select.specs.Selection.{selection};
@@ -14,6 +15,7 @@ ghost use Rattle.yp_touch.specs.Looked.{step_visits, window_visits};
 use crate::looking::{Sides, find_roots};
 use crate::placing::{put_roots, uncovered};
 use crate::recording::{Source, record_roots};
+use crate::unfiltered::find_unfiltered_roots;
 use std::alloc::Global;
 use std::marker::Model;
 use std::sync::ledger::Ledger;
@@ -101,6 +103,28 @@ impl Touched {
             roots: self.paths.as_slice(),
         };
         let found = find_roots(alloc, &sides, changed, steps)?;
+        self.paths.reserve(found.len())?;
+        self.flags.reserve(found.len())?;
+        put_roots(&mut self.paths, &mut self.flags, found);
+        Ok(())
+    }
+
+    /// The same where nothing is filtered. Each changed row tells what it held, and moves no other, so no row
+    /// is looked up. After `NoMemory` the roots are as they were.
+    pub fn absorb_unfiltered<R: Readable>(
+        &mut self,
+        alloc: Global,
+        schema: &Schema,
+        readable: &R,
+        changed: &[ChangedRow],
+    ) -> Result<(), NoMemory>
+        requires { (before : List Row) × (after : List Row) × IsDatastore schema.now before × IsDatastore schema.now after × (changed.now ≡ changed_rows before after) }
+        ensures roots { OnOk result ((before after : List Row) → IsDatastore schema.now before → IsDatastore schema.now after → changed.now ≡ changed_rows before after
+            → self.new ≡ absorbed self.old (selection schema.now all_rows (R.may readable.now schema.now) before) (selection schema.now all_rows (R.may readable.now schema.now) after)) }
+        ensures unchanged { OnErr result (self.new ≡ self.old) }
+    {
+        schema.stands();
+        let found = find_unfiltered_roots(alloc, schema, readable, self.paths.as_slice(), changed)?;
         self.paths.reserve(found.len())?;
         self.flags.reserve(found.len())?;
         put_roots(&mut self.paths, &mut self.flags, found);

@@ -1,5 +1,5 @@
-//! What a worker keeps besides its state from entry to entry: a second tree, for the feeds on change, and
-//! what classes select.
+//! What a worker keeps besides its state from entry to entry: a second tree, for the feeds that send on change
+//! what a filter selects, and what classes select.
 ghost use Rattle.std.specs.Prelude.{◌≡◌, ◌<◌, List, None, true, false, is_some, IfSome, OnOk};
 ghost use Rattle.yp_base.specs.declared.row.Row.{Row};
 ghost use Rattle.yp_base.specs.Rows.{AreInOrder};
@@ -8,7 +8,7 @@ ghost use Rattle.yp_edit.specs.declared.patch.Patch.{Patch};
 ghost use Rattle.yp_edit.specs.Changes.{changed_rows};
 ghost use Rattle.yp_journal.specs.declared.command.Command.TheVariants.{Edit};
 ghost use Rattle.yp_journal.specs.History.{JournalState, next_state};
-ghost use Rattle.yp_slot.specs.Classes.{follow};
+ghost use Rattle.yp_slot.specs.Classes.{look_back};
 ghost use Rattle.yp_worker.specs.declared.contents.Selected.{Selected as SelectedThere};
 ghost use Rattle.yp_worker.specs.Contents.{AreSelected};
 ghost use Rattle.yp_worker.specs.Workers.{IsFormer};
@@ -31,8 +31,8 @@ fn is_patch(command: &Command) -> bool
     matches!(command, Command::Edit(_))
 }
 
-/// Makes a tree of the rows that a patch found, where a class sends on change and there is none yet; and lets
-/// the one that there is go where no class does. It counts no step of it.
+/// Makes a tree of the rows that a patch found, where a class sends on change what a filter selects and there
+/// is none yet; and lets the one that there is go where no class does. It counts no step of it.
 pub(crate) fn find_former<L: Ledger>(
     alloc: Global,
     command: &Command,
@@ -47,13 +47,13 @@ pub(crate) fn find_former<L: Ledger>(
     requires some { 0 < L.parts }
     requires changed { (before : List Row) × AreInOrder before × (changed.now ≡ changed_rows before tree.now) }
     ensures former { OnOk result ((before : List Row) → AreInOrder before → changed.now ≡ changed_rows before tree.now → IsFormer before kept.old → IsFormer before kept.new) }
-    ensures there { OnOk result ((patch : Patch) → command.now ≡ Edit patch → follow roster.now.classes.all.items ≡ true → is_some kept.new ≡ true) }
-    ensures spare { OnOk result ((patch : Patch) → command.now ≡ Edit patch → follow roster.now.classes.all.items ≡ false → kept.new ≡ None) }
+    ensures there { OnOk result ((patch : Patch) → command.now ≡ Edit patch → look_back roster.now.classes.all.items ≡ true → is_some kept.new ≡ true) }
+    ensures spare { OnOk result ((patch : Patch) → command.now ≡ Edit patch → look_back roster.now.classes.all.items ≡ false → kept.new ≡ None) }
 {
     if !is_patch(command) {
         return Ok(());
     }
-    if !roster.follows() {
+    if !roster.looks_back() {
         *kept = None;
         return Ok(());
     }

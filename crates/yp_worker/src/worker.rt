@@ -19,7 +19,7 @@ pub struct Out {
 /// One worker: the start of the ticks, the state of the journal with the own rules of each receiver's user, the
 /// numbers of its receivers and the roster of their feeds, the offer that is out, and whether memory ran out.
 /// Besides it keeps what classes select, as it was made for full updates; and, from the first patch on at which
-/// a class sends on change, a second tree of the rows.
+/// a class sends on change what a filter selects, a second tree of the rows.
 #[derive(Drop)]
 pub struct Worker {
     pub(crate) start: Start,

@@ -5,7 +5,7 @@ use Rattle.yp_touch.specs.declared.root.Root.{Root}
 use Rattle.yp_slot.specs.declared.classes.Class.{Class}
 use Rattle.yp_slot.specs.Classes.{IsClass}
 use Rattle.yp_roster.specs.Passed.{AreStepsOf}
-use Rattle.yp_roster.proofs.Classed.{follows_one, next_of, steps_more}
+use Rattle.yp_roster.proofs.Classed.{one_looks_back, next_of, steps_more}
 use Rattle.yp_roster.proofs.patching.steps_of.Goals as goal
 
 pub step_of-requires-clause-class : goal.step_of-requires-clause-class
@@ -16,7 +16,7 @@ step_of-requires-clause-class g c =
 pub step_of-requires-clause-tree : goal.step_of-requires-clause-tree
 step_of-requires-clause-tree g c = λ on.
     let by = c.requires.entered.1 in
-    c.requires.tree by.patch by.command (follows_one c.args.classes.now c.loop-class.class-index c.class-item.result c.loop-class-test.true c.class-item.is on)
+    c.requires.tree by.patch by.command (one_looks_back c.args.classes.now c.loop-class.class-index c.class-item.result c.loop-class-test.true c.class-item.is on)
 
 pub loop-class-preserved : goal.loop-class-preserved
 loop-class-preserved g c =
