@@ -3,7 +3,9 @@ use Rattle.std.proofs.Common.{◌≡◌, ◌≤◌, ◌-◌, ℕ, List, [], ◌�
 use Rattle.std.specs.Prelude.{filter, is_some, option_map}
 use Rattle.std.specs.List.{AllByRecursion}
 use Rattle.std.specs.List.Sorted.{IsStrictlySortedBy}
-use Rattle.std.specs.Ordering.{is_eq, is_lt}
+use Rattle.std.specs.Ordering.{is_eq, is_lt, is_gt}
+use Rattle.std.specs.declared.cmp.Ordering.{Ordering}
+use Rattle.std.specs.declared.cmp.Ordering.TheVariants.{Less, Equal, Greater}
 use Rattle.std.proofs.lemmas.Bool.{or_parts}
 use Rattle.std.proofs.Math.Bool.{or-true, or-false, and-false}
 use Rattle.yp_base.specs.declared.path.Seg.{Seg}
@@ -11,11 +13,11 @@ use Rattle.yp_base.specs.declared.row.Value.{Value}
 use Rattle.yp_base.specs.declared.row.Row.{Row}
 use Rattle.yp_base.specs.Order.{path_cmp, is_within}
 use Rattle.yp_base.specs.Rows.{path_of, value_at, put_row, next_row, has_within, rows_within, rows_without, AreInOrder}
-use Rattle.yp_base.specs.RowLaws.{value_at_put, value_at_without, without_keeps_order}
+use Rattle.yp_base.specs.RowLaws.{all_past as rows_past, none_past, first_order, rest_order, value_at_put, value_at_without, without_keeps_order}
 use Rattle.yp_tree.specs.Listed.{row_of, without_row}
 use Rattle.yp_edit.specs.Bases.{Touched, IsBase, IsSwept, KeepsValues, is_listed, left, Touches, StaysGone, TouchesWithin}
 use Rattle.yp_edit.specs.Drafts.{is_covered}
-use Rattle.yp_base.specs.PathLaws.{are_one, tie_turned, ties_itself, IsBefore}
+use Rattle.yp_base.specs.PathLaws.{are_one, tie_turned, ties_itself, within_itself, within_not_after, IsBefore}
 use Rattle.yp_tree.specs.Alike.{same_rows}
 use Rattle.yp_edit.proofs.Taking.{one_taken, still_none}
 use Rattle.yp_edit.proofs.Walking.{before_picked}
@@ -56,7 +58,7 @@ still_swept : (swept : Option (List Seg)) (path : List Seg) (rows : List Row) �
 still_swept None path rows none = tt
 still_swept (Some above) path rows none = still_none above path rows none
 
-none_there : (above path : List Seg) (rows : List Row) → has_within above rows ≡ false → is_within above path ≡ true → value_at path rows ≡ None
+pub none_there : (above path : List Seg) (rows : List Row) → has_within above rows ≡ false → is_within above path ≡ true → value_at path rows ≡ None
 none_there above path [] none within = refl
 none_there above path (row ∷ rows) none within =
     let parts = or_parts (is_within above row.path) (has_within above rows) none in
@@ -65,21 +67,36 @@ none_there above path (row ∷ rows) none within =
       | false ↦ λ here. none_there above path rows parts.1 within
     ] refl
 
+-- a path that another isn't at or below is another
+apart_outside : (path other : List Seg) → is_within path other ≡ false → is_eq (path_cmp path other) ≡ false
+apart_outside path other outside =
+    elim (is_eq (path_cmp path other)) as (λ b. is_eq (path_cmp path other) ≡ b → b ≡ false) [
+      | true ↦ λ here. absurd (true≢false (sym (within_itself path) ∙ ap (is_within path) (are_one path other here) ∙ outside))
+      | false ↦ λ here. refl
+    ] refl
+
+neither_less : (o : Ordering) → is_gt o ≡ false → is_eq o ≡ false → o ≡ Less
+neither_less Less after apart = refl
+neither_less Equal after apart = absurd (true≢false apart)
+neither_less Greater after apart = absurd (true≢false after)
+
 -- a path that is swept has no row
 pub none_swept : (swept : Option (List Seg)) (path : List Seg) (rows : List Row) → IsSwept swept rows → is_covered swept path ≡ true → value_at path rows ≡ None
 none_swept None path rows none covered = absurd (true≢false (sym covered))
 none_swept (Some above) path rows none covered = none_there above path rows none covered
 
 -- a base with one more row touched
-abbrev pub Holds : List Row → List Row → List (List Seg) → ℕ → Option (List Seg) → Type 0
-Holds rows taken bare count swept = IsBase rows (map path_of taken) bare count × KeepsValues rows taken × IsSwept swept (left (map path_of taken) rows)
+abbrev pub Holds : List Row → List Row → List (List Seg) → ℕ → Option (List Seg) → Option (List Seg) → Type 0
+Holds rows taken bare count swept missing = IsBase rows (map path_of taken) bare count × KeepsValues rows taken × IsSwept swept (left (map path_of taken) rows) × IsSwept missing (left (map path_of taken) rows)
 
-pub one_more_row : (row : Row) (rows taken : List Row) (bare : List (List Seg)) (count : ℕ) (swept : Option (List Seg)) → is_listed row.path (map path_of taken) ≡ false → value_at row.path rows ≡ Some row.value → Holds rows taken bare count swept → Holds rows (put_row row taken) bare (count - 1) swept
-one_more_row row rows taken bare count swept unlisted there base = (
-  one_fewer row.path rows (map path_of taken) (map path_of (put_row row taken)) bare count base.0 (one_more_path row taken) (ap is_some (other_there row.path (map path_of taken) rows unlisted ∙ there)),
-  one_more_value row rows taken there base.1,
-  subst (IsSwept swept) (sym (touched_left row.path (map path_of taken) (map path_of (put_row row taken)) rows base.0.in_order (one_more_path row taken))) (still_swept swept row.path (left (map path_of taken) rows) base.2),
-)
+pub one_more_row : (row : Row) (rows taken : List Row) (bare : List (List Seg)) (count : ℕ) (swept missing : Option (List Seg)) → is_listed row.path (map path_of taken) ≡ false → value_at row.path rows ≡ Some row.value → Holds rows taken bare count swept missing → Holds rows (put_row row taken) bare (count - 1) swept missing
+one_more_row row rows taken bare count swept missing unlisted there base =
+    let less : left (map path_of (put_row row taken)) rows ≡ without_row row.path (left (map path_of taken) rows) = touched_left row.path (map path_of taken) (map path_of (put_row row taken)) rows base.0.in_order (one_more_path row taken) in (
+      one_fewer row.path rows (map path_of taken) (map path_of (put_row row taken)) bare count base.0 (one_more_path row taken) (ap is_some (other_there row.path (map path_of taken) rows unlisted ∙ there)),
+      one_more_value row rows taken there base.1,
+      subst (IsSwept swept) (sym less) (still_swept swept row.path (left (map path_of taken) rows) base.2),
+      subst (IsSwept missing) (sym less) (still_swept missing row.path (left (map path_of taken) rows) base.3),
+    )
 
 -- where a row is there, it is counted
 pub one_counted : (path : List Seg) (rows : List Row) (count : ℕ) → count ≡ length rows → is_some (value_at path rows) ≡ true → 1 ≤ count
@@ -96,6 +113,29 @@ touched_already path base listed = record {
 }
 
 -- ---- the first row at or below a target
+
+-- where it has the path of the target, it is found there
+pub first_found : (path : List Seg) (rows : List Row) (first : Row) → slice_get (rows_within path rows) 0 ≡ Some first → is_eq (path_cmp path first.path) ≡ true → value_at path rows ≡ Some first.value
+first_found path [] first is here = cc
+first_found path (row ∷ rows) first is here =
+    elim (is_within path row.path) as (λ w. is_within path row.path ≡ w → slice_get (cond w (row ∷ rows_within path rows) (rows_within path rows)) 0 ≡ Some first → value_at path (row ∷ rows) ≡ Some first.value) [
+      | true ↦ λ within h.
+          let same : row ≡ first = cc in
+          ap (λ b. cond b (Some row.value) (value_at path rows)) (ap (λ (r : Row). is_eq (path_cmp path r.path)) same ∙ here) ∙ ap (λ (r : Row). Some r.value) same
+      | false ↦ λ within h. ap (λ b. cond b (Some row.value) (value_at path rows)) (apart_outside path row.path within) ∙ first_found path rows first h here
+    ] refl is
+
+-- where it lies below the target, none is
+pub first_below : (path : List Seg) (rows : List Row) (first : Row) → AreInOrder rows → slice_get (rows_within path rows) 0 ≡ Some first → is_eq (path_cmp path first.path) ≡ false → value_at path rows ≡ None
+first_below path [] first order is apart = refl
+first_below path (row ∷ rows) first order is apart =
+    elim (is_within path row.path) as (λ w. is_within path row.path ≡ w → slice_get (cond w (row ∷ rows_within path rows) (rows_within path rows)) 0 ≡ Some first → value_at path (row ∷ rows) ≡ None) [
+      | true ↦ λ within h.
+          let same : row ≡ first = cc in
+          let before : path_cmp path row.path ≡ Less = neither_less _ (within_not_after path row.path within) (ap (λ (r : Row). is_eq (path_cmp path r.path)) same ∙ apart) in
+          none_past path (row ∷ rows) (before, rows_past path row.path rows before (first_order row rows order))
+      | false ↦ λ within h. ap (λ b. cond b (Some row.value) (value_at path rows)) (apart_outside path row.path within) ∙ first_below path rows first (rest_order row rows order) h apart
+    ] refl is
 
 pub none_left : (target : List Seg) (paths : List (List Seg)) (rows : List Row) → has_within target rows ≡ false → has_within target (left paths rows) ≡ false
 none_left target paths [] none = refl

@@ -1,5 +1,5 @@
 //! The tree that a patch is applied to, and what its edits touch.
-ghost use Rattle.std.specs.Prelude.{◌≡◌, ◌<◌, ◌^◌, [], Some, false, length, map, slice_get, is_some, option_map, IfOk, OnOk, OnErr};
+ghost use Rattle.std.specs.Prelude.{◌≡◌, ◌<◌, ◌^◌, [], Some, None, true, false, length, map, slice_get, is_some, option_map, option_copied, IfOk, OnOk, OnErr};
 ghost use Rattle.yp_base.specs.Rows.{path_of, value_at, next_row, has_within, rows_within, AreInOrder};
 ghost use Rattle.yp_tree.specs.Listed.{row_of};
 ghost use Rattle.yp_edit.specs.Bases.{is_listed, untouched, Touches, Loses, TouchesWithin, StaysGone, AreTouched};
@@ -17,14 +17,16 @@ use yp_tree::rising::Rising;
 use yp_tree::tree::Tree;
 
 /// A tree, which stays as it is, with those of its rows that edits touch: they count no more. At or below a
-/// bare path each row is touched, so that no edit walks over them again; the last path at or below which
-/// edits left or found none is swept, so that no row put there is looked up.
+/// bare path each row is touched, so that no edit walks over them again. The last path at or below which
+/// edits left or found none is swept, and the last one at or below which a touch found none is missing: no row
+/// put there is looked up.
 #[derive(Drop)]
 pub struct Base<'a> {
     tree: &'a Tree,
     touched: Rising,
     bare: BTreeSet<Path>,
     swept: Option<Path>,
+    missing: Option<Path>,
     count: usize,
 }
 
@@ -37,7 +39,7 @@ impl<'a> Model for Base<'a> {
 
     ghost view = { λ b. record { rows = b.tree.now; paths = map path_of b.touched } };
 
-    ghost invariant = { λ b. IsBase b.tree.now (map path_of b.touched) b.bare.keys b.count × KeepsValues b.tree.now b.touched × IsSwept b.swept (left (map path_of b.touched) b.tree.now) };
+    ghost invariant = { λ b. IsBase b.tree.now (map path_of b.touched) b.bare.keys b.count × KeepsValues b.tree.now b.touched × IsSwept b.swept (left (map path_of b.touched) b.tree.now) × IsSwept b.missing (left (map path_of b.touched) b.tree.now) };
 }
 
 /// Whether a path is at or below another, where there is one.
@@ -60,6 +62,7 @@ impl<'a> Base<'a> {
             touched: Rising::new(alloc),
             bare: BTreeSet::new(alloc),
             swept: None,
+            missing: None,
             count: tree.len(),
         }
     }
@@ -168,6 +171,46 @@ impl<'a> Base<'a> {
         Ok(())
     }
 
+    /// Makes a path the one that is missing.
+    fn miss(&mut self, alloc: Global, path: &Path) -> Result<(), NoMemory>
+        requires { has_within path.now (untouched self.old) ≡ false }
+        ensures same { self.new ≡ self.old }
+    {
+        self.missing = Some(path.copy(alloc)?);
+        Ok(())
+    }
+
+    /// The value of the tree's row of a path. Where the tree has no row at or below it, the path is missing.
+    fn find<L: Ledger>(
+        &mut self,
+        alloc: Global,
+        path: &Path,
+        steps: &mut Steps<L>,
+    ) -> Result<Option<&'a Value>, NoMemory>
+        ensures found { IfOk result (λ found. option_copied found ≡ value_at path.now self.old.rows) }
+        ensures same { self.new ≡ self.old }
+    {
+        match self.tree.first_within(path, steps) {
+            Some((first, value)) => {
+                if path.cmp(first).is_eq() {
+                    return Ok(Some(value));
+                }
+                Ok(None)
+            }
+            None => {
+                self.miss(alloc, path)?;
+                Ok(None)
+            }
+        }
+    }
+
+    /// Whether a path lies at or below the one that is swept or the one that is missing.
+    fn is_clear(&self, path: &Path) -> bool
+        ensures { result ≡ true → value_at path.now (untouched self.now) ≡ None }
+    {
+        is_covered(&self.swept, path) || is_covered(&self.missing, path)
+    }
+
     /// Touches the row of a path, where there is one that isn't touched.
     pub fn touch<L: Ledger>(
         &mut self,
@@ -178,13 +221,13 @@ impl<'a> Base<'a> {
         ensures lost { OnOk result (Loses path.now self.old self.new) }
         ensures unchanged { OnErr result (self.new ≡ self.old) }
     {
-        if is_covered(&self.swept, path) {
+        if self.is_clear(path) {
             return Ok(());
         }
         if self.touched.has(path) {
             return Ok(());
         }
-        if let Some(value) = self.tree.get(path, steps) {
+        if let Some(value) = self.find(alloc, path, steps)? {
             self.keep(alloc, path, value)?;
         }
         Ok(())

@@ -10,4 +10,5 @@ invariant_of-self c =
       c.self.invariant.0,
       c.self.invariant.1,
       ap (λ path. has_within path (left paths rows)) c.in_ok-copy.ensures ∙ ap (λ (b : Touched). has_within c.args.target.now (untouched b)) c.self.view_is ∙ c.requires,
+      c.self.invariant.3,
     )

@@ -14,6 +14,7 @@ invariant_of-self-in-Some g c = (
       ∙ sym c.finds_from.ensures ∙ c.if-finds_from.false),
   c.self.invariant.1,
   c.self.invariant.2,
+  c.self.invariant.3,
 )
 
 pub clear-requires : goal.clear-requires

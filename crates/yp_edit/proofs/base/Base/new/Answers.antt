@@ -13,4 +13,5 @@ invariant_of-result c = (
   },
   subst (KeepsValues c.args.tree.now) (sym c.new.ensures) (λ path h. absurd (true≢false (sym h))),
   tt,
+  tt,
 )

@@ -14,4 +14,5 @@ invariant_of-self-2 c =
           (ap (λ path. has_within path (left paths rows)) c.in_ok-copy.ensures ∙ none),
       c.self.invariant.1,
       ap (λ path. has_within path (left paths rows)) c.in_ok-swept.ensures ∙ none,
+      c.self.invariant.3,
     )

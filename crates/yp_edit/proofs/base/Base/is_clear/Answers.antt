@@ -1,0 +1,15 @@
+use Rattle.std.proofs.Common.{ap, sym, ◌∙◌, map}
+use Rattle.yp_base.specs.Rows.{path_of, value_at}
+use Rattle.yp_edit.specs.Bases.{Touched, left, untouched}
+use Rattle.yp_edit.proofs.Touching.{none_swept}
+use Rattle.yp_edit.proofs.base.Base.is_clear.Goals as goal
+
+pub returns-then-is_covered : goal.returns-then-is_covered
+returns-then-is_covered c covered =
+    ap (λ (b : Touched). value_at c.args.path.now (untouched b)) (sym c.self.view_is)
+    ∙ none_swept c.self.inside.swept c.args.path.now (left (map path_of c.self.inside.touched) c.self.inside.tree.now) c.self.invariant.2 (sym c.is_covered.ensures ∙ covered)
+
+pub returns-else-is_covered : goal.returns-else-is_covered
+returns-else-is_covered c covered =
+    ap (λ (b : Touched). value_at c.args.path.now (untouched b)) (sym c.self.view_is)
+    ∙ none_swept c.self.inside.missing c.args.path.now (left (map path_of c.self.inside.touched) c.self.inside.tree.now) c.self.invariant.3 (sym c.is_covered-else-is_covered.ensures ∙ covered)
