@@ -1,14 +1,12 @@
-use Rattle.std.proofs.Common.{◌≡◌, ◌∙◌, sym, ap, subst, List, map}
+use Rattle.std.proofs.Common.{◌∙◌, sym, ap, subst, List, map}
 use Rattle.std.specs.List.{AllByRecursion}
 use Rattle.yp_base.specs.declared.path.Seg.{Seg}
-use Rattle.yp_base.specs.declared.row.Row.{Row}
 use Rattle.yp_edit.specs.declared.changed.ChangedRow.{ChangedRow}
-use Rattle.yp_edit.specs.Changes.{changed_rows}
 use Rattle.yp_filter.specs.Filters.{all_rows}
 use Rattle.yp_select.specs.Selection.{selection}
 use Rattle.yp_touch.specs.declared.root.Root.{Root}
 use Rattle.yp_touch.specs.Absorbed.{absorbed, paths_of}
-use Rattle.yp_touch.specs.Looked.{IsBetween, looks_of, roots_found, with_paths}
+use Rattle.yp_touch.specs.Looked.{IsBetween, roots_found, with_paths}
 use Rattle.yp_touch.proofs.AllRows.{looks_unfiltered}
 use Rattle.yp_touch.proofs.Enough.{changed_have_paths, found_stand, found_absorb}
 use Rattle.yp_touch.proofs.Selected.{all_between}
