@@ -4,7 +4,7 @@ use std::str::Utf8Error;
 use yp_base::memory::NoMemory;
 use yp_data_json::fault::DataError;
 use yp_io::whole::ReadError;
-use yp_path::fault::PathFault;
+use yp_path::fault::PathError;
 use yp_schema::fault::SchemaFault;
 use yp_time::instant::InstantFault;
 
@@ -70,8 +70,8 @@ impl From<SchemaFault> for CaseFault {
     }
 }
 
-impl From<PathFault> for CaseFault {
-    fn from(_error: PathFault) -> CaseFault {
+impl From<PathError> for CaseFault {
+    fn from(_error: PathError) -> CaseFault {
         CaseFault::BadArgument
     }
 }

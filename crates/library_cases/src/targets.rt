@@ -6,7 +6,7 @@ use serde_json::Value as Json;
 use std::alloc::Global;
 use yp_base::atom::Atom;
 use yp_base::text::write_text;
-use yp_path::fault::PathFault;
+use yp_path::fault::{PathError, PathFault};
 use yp_path::rule::read_rule_path;
 use yp_path::target::{read_target, write_target};
 use yp_schema::rule_path::{RulePath, RuleSeg};
@@ -22,8 +22,8 @@ pub fn answer(alloc: Global, schema: &Schema, call: &str, arguments: &Json) -> A
 }
 
 /// What is shown of a fault.
-fn fault(alloc: Global, fault: PathFault) -> OrFault<String> {
-    match fault {
+fn fault(alloc: Global, error: &PathError) -> OrFault<String> {
+    match error.fault {
         PathFault::Syntax => shown::quoted(alloc, "Syntax"),
         PathFault::UnknownNode => shown::quoted(alloc, "UnknownNode"),
         PathFault::KeyCount => shown::quoted(alloc, "KeyCount"),
@@ -36,7 +36,7 @@ fn fault(alloc: Global, fault: PathFault) -> OrFault<String> {
 fn read_again(alloc: Global, schema: &Schema, text: &str) -> OrFault<String> {
     match read_target(alloc, schema, text) {
         Ok(path) => shown::quoted(alloc, write_target(alloc, schema, &path)?.as_str()),
-        Err(found) => fault(alloc, found),
+        Err(found) => fault(alloc, &found),
     }
 }
 
@@ -44,7 +44,7 @@ fn read_again(alloc: Global, schema: &Schema, text: &str) -> OrFault<String> {
 fn target_path(alloc: Global, schema: &Schema, text: &str) -> OrFault<String> {
     match read_target(alloc, schema, text) {
         Ok(path) => shown::path(alloc, &path),
-        Err(found) => fault(alloc, found),
+        Err(found) => fault(alloc, &found),
     }
 }
 
@@ -52,7 +52,7 @@ fn target_path(alloc: Global, schema: &Schema, text: &str) -> OrFault<String> {
 fn rule_path(alloc: Global, schema: &Schema, text: &str) -> OrFault<String> {
     match read_rule_path(alloc, schema, text) {
         Ok(path) => shown::quoted(alloc, shown_rule_path(alloc, schema, &path)?.as_str()),
-        Err(found) => fault(alloc, found),
+        Err(found) => fault(alloc, &found),
     }
 }
 

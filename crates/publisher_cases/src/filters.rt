@@ -25,8 +25,10 @@ pub fn answer(alloc: Global, schema: &Schema, call: &str, arguments: &Json) -> A
 fn read(alloc: Global, schema: &Schema, json: &Json) -> anyhow::Result<String> {
     match Filter::read(alloc, schema, json) {
         Ok(filter) => shown(alloc, schema, &filter.copy(alloc)?, filter.size()),
-        Err(FilterFault::Memory) => Ok(Err(FilterFault::Memory)?),
-        Err(fault) => quoted(alloc, format!(in alloc; "{fault}")?.as_str()),
+        Err(error) => match error.fault {
+            FilterFault::Memory => Ok(Err(error)?),
+            fault => quoted(alloc, format!(in alloc; "{fault}")?.as_str()),
+        },
     }
 }
 

@@ -35,8 +35,10 @@ pub fn answer(alloc: Global, schema: &Schema, call: &str, arguments: &Json) -> A
 fn read(alloc: Global, json: &Json) -> anyhow::Result<String> {
     match read_patch(alloc, json) {
         Ok(patch) => shown(alloc, &patch.copy(alloc)?),
-        Err(PatchFault::Shape) => quoted(alloc, "shape"),
-        Err(fault) => Ok(Err(fault)?),
+        Err(error) => match error.fault {
+            PatchFault::Shape => quoted(alloc, "shape"),
+            PatchFault::Memory => Ok(Err(error)?),
+        },
     }
 }
 

@@ -5,14 +5,16 @@ use crate::forms::{form_name, members_of, place_of, range_of};
 use crate::lines::{Lines, json_of};
 use crate::members::names_cause;
 use crate::patches::patch_cause;
+use crate::paths::path_cause;
 use serde_json::Value as Json;
 use std::alloc::Global;
 use yp_base::json::member;
 use yp_base::memory::NoMemory;
 use yp_command::fault::ScriptKind;
 use yp_command::words::{sole_member, text_in};
-use yp_nacm_text::fault::{Place, PolicyFault};
+use yp_nacm_text::fault::{Place, PolicyFault, PolicyKind};
 use yp_nacm_text::policy::read_policy;
+use yp_path::rule::read_rule_path;
 use yp_schema::fault::SchemaFault;
 use yp_schema::schema::Schema;
 use yp_time::start::Start;
@@ -198,24 +200,46 @@ fn policy_cause(alloc: Global, before: &Before, value: &Json) -> Result<String, 
         Ok(_) => own(alloc, "it is a policy"),
         Err(PolicyFault::Memory) => Err(NoMemory),
         Err(PolicyFault::At { place, kind }) => match part_at(alloc, value, place)? {
-            Some(part) => Ok(format!(in alloc; "{place}: {kind}: {part}")?),
+            Some(part) => {
+                let cause = part_cause(alloc, &schema, kind, part)?;
+                let part = part.to_string(alloc)?;
+                Ok(format!(in alloc; "{place}: {cause}: {part}")?)
+            }
             None => Ok(format!(in alloc; "{place}: {kind}")?),
         },
     }
 }
 
-/// The text of what stands at a place of a policy, but not of a whole policy or rule list.
-fn part_at(alloc: Global, policy: &Json, place: Place) -> Result<Option<String>, NoMemory> {
+/// What is wrong with a part of a policy: of a path also at which segment.
+fn part_cause(
+    alloc: Global,
+    schema: &Schema,
+    kind: PolicyKind,
+    part: &Json,
+) -> Result<String, NoMemory> {
+    if let PolicyKind::Path(_) = kind {
+        if let Some(text) = text_in(part, "path") {
+            if let Err(error) = read_rule_path(alloc, schema, text) {
+                return path_cause(alloc, schema, &error);
+            }
+        }
+    }
+    Ok(format!(in alloc; "{kind}")?)
+}
+
+/// What stands at a place of a policy, but not a whole policy or rule list.
+fn part_at<'a>(
+    alloc: Global,
+    policy: &'a Json,
+    place: Place,
+) -> Result<Option<&'a Json>, NoMemory> {
     let way = match place {
         Place::Group(group) => format!(in alloc; "groups/group/{group}")?,
         Place::Rule { list, rule } => format!(in alloc; "rule-list/{list}/rule/{rule}")?,
         Place::Policy | Place::List(_) => return Ok(None),
     };
     let way = format!(in alloc; "/ietf-netconf-acm:nacm/{way}")?;
-    match policy.pointer(way.as_str()) {
-        Some(part) => Ok(Some(part.to_string(alloc)?)),
-        None => Ok(None),
-    }
+    Ok(policy.pointer(way.as_str()))
 }
 
 /// What is wrong with an instant.

@@ -2,6 +2,8 @@
 ghost use Rattle.std.specs.Prelude.{◌≡◌, true};
 ghost use Rattle.yp_schema.specs.Datastore.{is_path_of};
 
+use crate::members::member_text;
+use crate::paths::path_cause;
 use std::alloc::Global;
 use yp_base::memory::NoMemory;
 use yp_base::path::Path;
@@ -37,24 +39,14 @@ pub fn refused_edit(
 ) -> Result<String, NoMemory> {
     match read_target(alloc, schema, edit.target.as_str()) {
         Ok(path) => at_target(alloc, schema, edit, &path, tag),
-        Err(PathFault::Memory) => Err(NoMemory),
-        Err(fault) => {
+        Err(error) => {
             let target = edit.target.as_str();
+            let cause = path_cause(alloc, schema, &error)?;
             match escaped(alloc, schema, target)? {
-                Some(hint) => Ok(format!(in alloc; "`{target}`: {fault}{hint}")?),
-                None => Ok(format!(in alloc; "`{target}`: {fault}")?),
+                Some(hint) => Ok(format!(in alloc; "`{target}`: {cause}{hint}")?),
+                None => Ok(format!(in alloc; "`{target}`: {cause}")?),
             }
         }
-    }
-}
-
-/// The name of a node of the schema, as a member of its parent.
-fn member_text(schema: &Schema, node: Option<u32>) -> Option<&str> {
-    let node = node?;
-    if node < schema.count() {
-        Some(schema.member_text(node))
-    } else {
-        None
     }
 }
 
@@ -125,8 +117,11 @@ fn escaped(alloc: Global, schema: &Schema, target: &str) -> Result<Option<String
             Ok(_) => {
                 return Ok(Some(format!(in alloc; "; a `/` in a key is escaped: write `{whole}`")?));
             }
-            Err(PathFault::Memory) => return Err(NoMemory),
-            Err(_) => {}
+            Err(error) => {
+                if error.fault == PathFault::Memory {
+                    return Err(NoMemory);
+                }
+            }
         }
     }
     Ok(None)

@@ -12,6 +12,7 @@ mod forms;
 mod lines;
 mod members;
 mod patches;
+mod paths;
 mod refusals;
 
 use crate::explain::{explain, status_of};

@@ -1,8 +1,9 @@
-//! Members that are missing or unknown.
+//! Members of objects and of nodes.
 use serde_json::Value as Json;
 use std::alloc::Global;
 use yp_base::json::member;
 use yp_base::memory::NoMemory;
+use yp_schema::schema::Schema;
 
 /// Whether a name is among names with blanks between them.
 fn is_among(name: &str, names: &str) -> bool {
@@ -36,4 +37,14 @@ pub fn names_cause(
         }
     }
     Ok(None)
+}
+
+/// The name of a node of the schema, as a member of its parent.
+pub fn member_text(schema: &Schema, node: Option<u32>) -> Option<&str> {
+    let node = node?;
+    if node < schema.count() {
+        Some(schema.member_text(node))
+    } else {
+        None
+    }
 }

@@ -5,11 +5,22 @@ use std::alloc::Global;
 use yp_base::json::member;
 use yp_base::memory::NoMemory;
 use yp_command::words::text_in;
-use yp_edit::fault::PatchFault;
+use yp_edit::fault::{PatchError, PatchFault};
 use yp_edit::reading::read_patch;
 
 /// What is wrong with a patch: of which edit, where it is one's.
 pub fn patch_cause(alloc: Global, value: &Json) -> Result<String, NoMemory> {
+    match read_patch(alloc, value) {
+        Ok(_) => Ok(String::from_str(alloc, "it is a patch")?),
+        Err(error) => match error.fault {
+            PatchFault::Shape => shape_cause(alloc, value, &error),
+            PatchFault::Memory => Err(NoMemory),
+        },
+    }
+}
+
+/// What is wrong with the form of a patch.
+fn shape_cause(alloc: Global, value: &Json, error: &PatchError) -> Result<String, NoMemory> {
     if let Some(cause) = names_cause(alloc, value, "ietf-yang-patch:yang-patch", "")? {
         return Ok(cause);
     }
@@ -19,71 +30,64 @@ pub fn patch_cause(alloc: Global, value: &Json) -> Result<String, NoMemory> {
     if let Some(cause) = names_cause(alloc, patch, "patch-id", "comment edit")? {
         return Ok(cause);
     }
-    let Some(Json::Array(items)) = member(patch, "edit") else {
-        return Ok(String::from_str(
-            alloc,
-            "`edit` is an array, and `patch-id` and `comment` are texts",
-        )?);
+    let name = match &error.member {
+        Some(name) => name.as_str(),
+        None => "",
     };
-    match edits_cause(alloc, items.as_slice())? {
-        Some(cause) => Ok(cause),
-        None => Ok(String::from_str(
-            alloc,
-            "an `edit-id` stands twice, or `patch-id` or `comment` is no text",
-        )?),
-    }
-}
-
-/// What is wrong with the first of some edits that has a fault by itself.
-fn edits_cause(alloc: Global, items: &[Json]) -> Result<Option<String>, NoMemory> {
-    let mut number = 0u32;
-    for item in items {
-        number = number.saturating_add(1);
-        if !is_good(alloc, item)? {
-            let cause = edit_cause(alloc, item)?;
-            return Ok(Some(format!(in alloc; "edit {number}: {cause}")?));
+    match error.edit {
+        Some(number) => {
+            let cause = match edit_at(patch, number) {
+                Some(edit) => edit_cause(alloc, edit, name)?,
+                None => String::new(alloc),
+            };
+            Ok(format!(in alloc; "edit {number}: {cause}")?)
         }
-    }
-    Ok(None)
-}
-
-/// Whether an edit is good by itself: whether a patch that has it alone can be read.
-fn is_good(alloc: Global, item: &Json) -> Result<bool, NoMemory> {
-    let edit = item.to_string(alloc)?;
-    let text = format!(in alloc;
-        "{{\"ietf-yang-patch:yang-patch\":{{\"patch-id\":\"\",\"edit\":[{edit}]}}}}"
-    )?;
-    let Ok(patch) = Json::from_str(alloc, text.as_str()) else {
-        return Ok(true);
-    };
-    match read_patch(alloc, &patch) {
-        Ok(_) => Ok(true),
-        Err(PatchFault::Shape) => Ok(false),
-        Err(PatchFault::Memory) => Err(NoMemory),
+        None => Ok(String::from_str(alloc, form_of(name))?),
     }
 }
 
-/// What is wrong with an edit.
-fn edit_cause(alloc: Global, item: &Json) -> Result<String, NoMemory> {
-    let names = names_cause(alloc, item, "edit-id operation target", "value point where")?;
+/// The form of a member of a patch.
+fn form_of(name: &str) -> &'static str {
+    match name {
+        "patch-id" => "`patch-id` is a text",
+        "comment" => "`comment` is a text",
+        _ => "`edit` is an array",
+    }
+}
+
+/// The edit of a patch that has this number, from 1 on.
+fn edit_at(patch: &Json, number: usize) -> Option<&Json> {
+    let edits = member(patch, "edit")?.as_array()?;
+    edits.as_slice().get(number.saturating_sub(1))
+}
+
+/// What is wrong with an edit, by the member of this name where all that it must have is there.
+fn edit_cause(alloc: Global, edit: &Json, name: &str) -> Result<String, NoMemory> {
+    let names = names_cause(alloc, edit, "edit-id operation target", "value point where")?;
     if let Some(cause) = names {
         return Ok(cause);
     }
-    let operation = text_in(item, "operation").unwrap_or("");
-    let has_value = member(item, "value").is_some();
-    Ok(match operation {
-        "create" | "insert" | "merge" | "replace" if !has_value => {
-            format!(in alloc; "`{operation}` needs a `value`")?
-        }
-        "delete" | "move" | "remove" if has_value => {
-            format!(in alloc; "`{operation}` has no `value`")?
-        }
-        "create" | "insert" | "merge" | "replace" | "delete" | "move" | "remove" => {
-            String::from_str(
-                alloc,
-                "`edit-id` and `target` are texts, and `where` and `point` stand with `insert` and `move` alone",
-            )?
-        }
-        _ => format!(in alloc; "there is no operation `{operation}`")?,
+    let operation = text_in(edit, "operation").unwrap_or("");
+    Ok(match name {
+        "operation" => format!(in alloc; "there is no operation `{operation}`")?,
+        "value" => match member(edit, "value") {
+            Some(_) => format!(in alloc; "`{operation}` has no `value`")?,
+            None => format!(in alloc; "`{operation}` needs a `value`")?,
+        },
+        _ => String::from_str(alloc, rule_of(edit, name))?,
     })
+}
+
+/// The rule that a member of an edit is against.
+fn rule_of(edit: &Json, name: &str) -> &'static str {
+    match name {
+        "edit-id" => match text_in(edit, "edit-id") {
+            Some(_) => "an edit before it has the same `edit-id`",
+            None => "`edit-id` is a text",
+        },
+        "target" => "`target` is a text",
+        "point" => "`point` is a text, and stands where `where` is `before` or `after`",
+        _ =>
+            "`where` is `before`, `after`, `first` or `last`, and stands with `insert` and `move` alone",
+    }
 }

@@ -7,6 +7,7 @@ use crate::before::Before;
 use crate::edits::refused_edit;
 use crate::forms::form_name;
 use crate::lines::{Lines, json_of};
+use crate::members::member_text;
 use serde_json::Value as Json;
 use std::alloc::Global;
 use yp_base::json::member;
@@ -15,7 +16,7 @@ use yp_command::command::request_named;
 use yp_command::words::{sole_member, text_in};
 use yp_edit::fault::PatchFault;
 use yp_edit::reading::read_patch;
-use yp_filter::fault::FilterFault;
+use yp_filter::fault::{FilterError, FilterFault, FilterMember};
 use yp_filter::filter::Filter;
 use yp_live::script::report_of_script;
 use yp_schema::schema::Schema;
@@ -170,8 +171,10 @@ fn patch_refusal(
     let id = text_in(answer, "edit-id").unwrap_or("");
     let patch = match read_patch(alloc, value) {
         Ok(patch) => patch,
-        Err(PatchFault::Shape) => return Ok(String::from_str(alloc, error)?),
-        Err(PatchFault::Memory) => return Err(NoMemory),
+        Err(wrong) => match wrong.fault {
+            PatchFault::Shape => return Ok(String::from_str(alloc, error)?),
+            PatchFault::Memory => return Err(NoMemory),
+        },
     };
     for edit in patch.edits.items() {
         if edit.id.as_str() == id {
@@ -192,9 +195,36 @@ fn filter_refusal(alloc: Global, schema: &Schema, value: &Json) -> Result<String
     };
     match Filter::read(alloc, schema, filter) {
         Ok(_) => Ok(String::from_str(alloc, "filter-unsupported")?),
-        Err(FilterFault::Memory) => Err(NoMemory),
-        Err(fault) => Ok(format!(in alloc; "filter-unsupported: {fault}")?),
+        Err(error) => {
+            let cause = filter_cause(alloc, schema, &error)?;
+            Ok(format!(in alloc; "filter-unsupported: {cause}")?)
+        }
     }
+}
+
+/// The name of a member of a filter, and of the node below which it stands.
+fn member_and_parent<'a>(
+    schema: &'a Schema,
+    member: &'a FilterMember,
+) -> Option<(&'a str, &'a str)> {
+    let name = member.name.as_ref()?;
+    Some((name.as_str(), member_text(schema, member.parent)?))
+}
+
+/// What is wrong with a filter, and at which member.
+fn filter_cause(alloc: Global, schema: &Schema, error: &FilterError) -> Result<String, NoMemory> {
+    let fault = error.fault;
+    if fault == FilterFault::Memory {
+        return Err(NoMemory);
+    }
+    let names = match &error.member {
+        Some(member) => member_and_parent(schema, member),
+        None => None,
+    };
+    Ok(match names {
+        Some((name, parent)) => format!(in alloc; "member {name:?} of `{parent}`: {fault}")?,
+        None => format!(in alloc; "{error}")?,
+    })
 }
 
 /// The explanation of a refusal: a line.

@@ -107,8 +107,10 @@ fn read_edit(alloc: Global, json: &Json) -> Result<Command, Halt>
 {
     match read_patch(alloc, json) {
         Ok(patch) => Ok(Command::Edit(patch)),
-        Err(PatchFault::Shape) => Err(Halt::Fault(ScriptKind::Patch)),
-        Err(PatchFault::Memory) => Err(Halt::Memory),
+        Err(error) => match error.fault {
+            PatchFault::Shape => Err(Halt::Fault(ScriptKind::Patch)),
+            PatchFault::Memory => Err(Halt::Memory),
+        },
     }
 }
 

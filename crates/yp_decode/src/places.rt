@@ -34,17 +34,15 @@ fn read_place(alloc: Global, schema: &Schema, text: &str) -> Result<Path, Stream
                 Ok(path)
             }
         }
-        Err(PathFault::Memory) => Err(StreamFault::Memory),
-        Err(PathFault::Syntax) => Err(StreamFault::Target(TargetFault::Path(PathFault::Syntax))),
-        Err(PathFault::UnknownNode) => Err(StreamFault::Target(TargetFault::Path(
-            PathFault::UnknownNode,
-        ))),
-        Err(PathFault::KeyCount) => Err(StreamFault::Target(TargetFault::Path(
-            PathFault::KeyCount,
-        ))),
-        Err(PathFault::KeyValue) => Err(StreamFault::Target(TargetFault::Path(
-            PathFault::KeyValue,
-        ))),
+        Err(error) => match error.fault {
+            PathFault::Memory => Err(StreamFault::Memory),
+            PathFault::Syntax => Err(StreamFault::Target(TargetFault::Path(PathFault::Syntax))),
+            PathFault::UnknownNode => Err(StreamFault::Target(TargetFault::Path(
+                PathFault::UnknownNode,
+            ))),
+            PathFault::KeyCount => Err(StreamFault::Target(TargetFault::Path(PathFault::KeyCount))),
+            PathFault::KeyValue => Err(StreamFault::Target(TargetFault::Path(PathFault::KeyValue))),
+        },
     }
 }
 

@@ -6,7 +6,7 @@ ghost use Rattle.serde_json.specs.Events.{members_len};
 ghost use Rattle.yp_base.specs.Json.{text_member};
 ghost use Rattle.yp_edit.specs.Shapes.{ReadsAs, some_text, one_if, sole};
 
-use crate::fault::PatchFault;
+use crate::fault::PatchError;
 use serde_json::{Map, Value as Json};
 use std::alloc::Global;
 use yp_base::txt::Txt;
@@ -36,12 +36,12 @@ pub fn text_in<'a>(members: &'a Map<String, Json>, name: &str) -> Option<&'a str
 }
 
 /// The text of a member.
-pub fn read_text(alloc: Global, members: &Map<String, Json>, name: &str) -> Result<Txt, PatchFault>
+pub fn read_text(alloc: Global, members: &Map<String, Json>, name: &str) -> Result<Txt, PatchError>
     ensures { ReadsAs result (text_member name.now (members_view members.now.entries)) }
 {
     match text_in(members, name) {
         Some(text) => Ok(Txt::from_string(String::from_str(alloc, text)?)),
-        None => Err(PatchFault::Shape),
+        None => Err(PatchError::shape(alloc, Some(name))),
     }
 }
 
@@ -50,13 +50,13 @@ pub fn read_some_text(
     alloc: Global,
     members: &Map<String, Json>,
     name: &str,
-) -> Result<Option<Txt>, PatchFault>
+) -> Result<Option<Txt>, PatchError>
     ensures { ReadsAs result (some_text name.now (members_view members.now.entries)) }
 {
     match member_in(members, name) {
         Some(json) => match json.as_str() {
             Some(text) => Ok(Some(Txt::from_string(String::from_str(alloc, text)?))),
-            None => Err(PatchFault::Shape),
+            None => Err(PatchError::shape(alloc, Some(name))),
         },
         None => Ok(None),
     }
@@ -70,6 +70,16 @@ pub fn one_if<X>(part: &Option<X>) -> usize
         Some(_) => 1,
         None => 0,
     }
+}
+
+/// The first member of an object whose name is none of these.
+pub fn other_than<'a>(members: &'a Map<String, Json>, names: &[&str]) -> Option<&'a str> {
+    for (name, _) in members.iter() {
+        if !(&*names).contains(&name.as_str()) {
+            return Some(name.as_str());
+        }
+    }
+    None
 }
 
 /// The members of an object of one member, where that has this name and is an object.

@@ -65,11 +65,13 @@ pub fn read_path(alloc: Global, schema: &Schema, text: &Txt) -> Result<Path, Hal
             }
             Ok(path)
         }
-        Err(PathFault::Syntax) => Err(refused(Tag::InvalidValue)),
-        Err(PathFault::UnknownNode) => Err(refused(Tag::UnknownElement)),
-        Err(PathFault::KeyCount) => Err(refused(Tag::InvalidValue)),
-        Err(PathFault::KeyValue) => Err(refused(Tag::InvalidValue)),
-        Err(PathFault::Memory) => Err(Halt::Memory),
+        Err(error) => match error.fault {
+            PathFault::Syntax => Err(refused(Tag::InvalidValue)),
+            PathFault::UnknownNode => Err(refused(Tag::UnknownElement)),
+            PathFault::KeyCount => Err(refused(Tag::InvalidValue)),
+            PathFault::KeyValue => Err(refused(Tag::InvalidValue)),
+            PathFault::Memory => Err(Halt::Memory),
+        },
     }
 }
 

@@ -92,17 +92,11 @@ impl FilterError {
         FilterError {
             fault: self.fault,
             member: Some(FilterMember {
-                name: txt(alloc, name),
+                name: String::from_str(alloc, name).ok().map(Txt::from_string),
                 parent: place.parent(),
             }),
         }
     }
-}
-
-// A text, where there is memory for it.
-fn txt(alloc: Global, text: &str) -> Option<Txt> {
-    let text = String::from_str(alloc, text).ok()?;
-    Some(Txt::from_string(text))
 }
 
 impl From<FilterFault> for FilterError {

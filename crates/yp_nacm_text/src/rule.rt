@@ -106,11 +106,13 @@ fn read_subject(
     match text_in(members, "path") {
         Some(text) => match read_rule_path(alloc, schema, text) {
             Ok(path) => Ok(Subject::Path(path)),
-            Err(PathFault::Memory) => Err(PolicyFault::Memory),
-            Err(fault) => Err(PolicyFault::At {
-                place,
-                kind: PolicyKind::Path(fault),
-            }),
+            Err(error) => match error.fault {
+                PathFault::Memory => Err(PolicyFault::Memory),
+                fault => Err(PolicyFault::At {
+                    place,
+                    kind: PolicyKind::Path(fault),
+                }),
+            },
         },
         None => Ok(subject_named(alloc, members)?),
     }

@@ -120,17 +120,11 @@ impl PathError {
             _ => PathError {
                 fault,
                 segment: Some(before.saturating_add(1)),
-                name: txt(alloc, name),
+                name: String::from_str(alloc, name).ok().map(Txt::from_string),
                 node,
             },
         }
     }
-}
-
-// A text, where there is memory for it.
-fn txt(alloc: Global, text: &str) -> Option<Txt> {
-    let text = String::from_str(alloc, text).ok()?;
-    Some(Txt::from_string(text))
 }
 
 impl From<NoMemory> for PathError {

@@ -56,8 +56,10 @@ fn read_subtree(alloc: Global, schema: &Schema, json: &Payload) -> Result<Filter
 {
     match Filter::read(alloc, schema, &json.json(alloc)?) {
         Ok(filter) => Ok(filter),
-        Err(FilterFault::Memory) => Err(Refused::Memory),
-        Err(_) => Err(Refused::FilterUnsupported),
+        Err(error) => match error.fault {
+            FilterFault::Memory => Err(Refused::Memory),
+            _ => Err(Refused::FilterUnsupported),
+        },
     }
 }
 

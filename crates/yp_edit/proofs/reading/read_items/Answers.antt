@@ -4,6 +4,6 @@ use Rattle.yp_edit.proofs.reading.read_items.Goals as goal
 
 pub loop-item-preserved : goal.loop-item-preserved
 loop-item-preserved c = record {
-  read = one_more_at c.deref-item-items.result.now c.loop-item.item-index c.item-item.result c.loop-item.edits.items c.push.new.self.items c.in_ok-read_item.field-0 _ (omega arith) c.item-item.is c.in_ok-read_item.ensures c.in_ok-push.ensures.items c.loop-item.invariant.read;
-  count = omega (arith, c.loop-item.invariant.count, c.in_ok-push.ensures.len);
+  read = one_more_at c.deref-item-items.result.now c.loop-item.item-index c.item-item.result c.loop-item.edits.items c.push.new.self.items c.in-Ok.edit _ (omega arith) c.item-item.is c.in-Ok.ensures c.in_ok-push-in-Ok.ensures.items c.loop-item.invariant.read;
+  count = omega (arith, c.loop-item.invariant.count, c.in_ok-push-in-Ok.ensures.len);
 }

@@ -3,7 +3,7 @@ use Rattle.std.proofs.lemmas.List.{take_all}
 use Rattle.yp_base.specs.Types.{are_distinct}
 use Rattle.yp_edit.specs.Shapes.{ids_of}
 use Rattle.yp_edit.proofs.Distinct.{is_seen, seen_more, edit_seen, told_new, told_old, still_distinct, seen_twice}
-use Rattle.yp_edit.proofs.reading.are_distinct.Goals as goal
+use Rattle.yp_edit.proofs.reading.first_repeated.Goals as goal
 
 pub loop-edit-init : goal.loop-edit-init
 loop-edit-init c = record {

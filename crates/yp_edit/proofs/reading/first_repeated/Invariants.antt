@@ -2,7 +2,7 @@ use Rattle.std.proofs.Common.{◌≡◌, ℕ, List, take, true}
 use Rattle.yp_base.specs.Types.{is_among, are_distinct}
 use Rattle.yp_edit.specs.Shapes.{ids_of}
 use Rattle.yp_edit.proofs.Distinct.{is_seen}
-use Rattle.yp_edit.proofs.reading.are_distinct.Given as goal
+use Rattle.yp_edit.proofs.reading.first_repeated.Given as goal
 
 abbrev pub invariant-loop-edit : goal.invariant-loop-edit
 invariant-loop-edit l = record {
