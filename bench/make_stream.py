@@ -2,7 +2,7 @@
 """Writes a stream to replay, of about N bytes: a schema line, and then notifications of one receiver.
 
     make_stream.py N one       one full update of 20,000 rows, then change updates of one edit each, to one id
-    make_stream.py N several   the same, with 100 edits in each change update
+    make_stream.py N several   the same, with 100 edits in each change update, in the order of their paths
     make_stream.py N fulls     full updates of 20,000 rows each, to one id, in the order of their paths
     make_stream.py N scattered the same, with the entries of each in no order
     make_stream.py N many      one change update to each id, as many ids as there is room for, and not more than 60,000
@@ -76,7 +76,9 @@ def full_and_changes(edits: int) -> Iterator[dict[str, Any]]:
     places = list(scattered(ENTRIES))
     positions = itertools.count()
     for number in itertools.count():
-        yield change(FIRST_ID, number, [edit(at, places[at % ENTRIES]) for at in itertools.islice(positions, edits)])
+        found = [(places[at % ENTRIES], at) for at in itertools.islice(positions, edits)]
+        found.sort(key=lambda each: interface_name(each[0]).encode())
+        yield change(FIRST_ID, number, [edit(at, place) for place, at in found])
 
 
 def notifications(kind: str) -> Iterator[dict[str, Any]]:

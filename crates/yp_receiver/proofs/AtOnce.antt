@@ -20,6 +20,7 @@ over : (here : Bool) (value : Value) (upper lower : Option Value) → cond here 
 over true value upper lower = refl
 over false value upper lower = refl
 
+-- a row that is put over both is one of the upper ones
 put_over : (new : Row) (upper lower : List Row) → AreInOrder upper → AreInOrder lower → put_row new (put_rows upper lower) ≡ put_rows (put_row new upper) lower
 put_over new upper lower one two =
     same_rows (put_row new (put_rows upper lower)) (put_rows (put_row new upper) lower) (put_keeps_order new (put_rows upper lower) (puts_order upper lower two)) (puts_order (put_row new upper) lower two) (λ path.
@@ -61,6 +62,7 @@ changed_order : (changes : List Change) (rows : List Row) → AreInOrder rows �
 changed_order [] rows order = order
 changed_order (change ∷ changes) rows order = changed_order changes (put_rows change.rows (rows_without change.target rows)) (puts_order change.rows (rows_without change.target rows) (without_keeps_order change.target rows order))
 
+-- edits of rows that are put over others: they change the upper ones, and take away lower ones
 changed_over : (changes : List Change) (upper lower : List Row) → AreInOrder upper → AreInOrder lower → changed_by changes (put_rows upper lower) ≡ put_rows (changed_by changes upper) (others changes lower)
 changed_over [] upper lower one two = refl
 changed_over (change ∷ changes) upper lower one two =
@@ -95,6 +97,7 @@ once false true None (Some old) = refl
 once false true None None = refl
 once false false new old = refl
 
+-- what edits make of no rows is put over what is not at or below the first target, and then the rows that are gone are taken out
 pub all_at_once : (first : Change) (later : List Change) (rows news : List Row) (gone : List (List Seg)) → AreInOrder rows → news ≡ changed_by (first ∷ later) [] → AreGone later news rows gone
     → without_paths gone (put_rows news (rows_without first.target rows)) ≡ changed_by (first ∷ later) rows
 all_at_once first later rows news gone order is are =

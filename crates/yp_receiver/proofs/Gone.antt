@@ -1,25 +1,22 @@
 -- Paths of rows that go, and the rows without them.
-use Rattle.std.proofs.Common.{◌≡◌, ℕ, ◌+◌, ◌<◌, List, [], ◌∷◌, ◌++◌, length, take, get_or, map, refl, sym, ap, subst, ◌∙◌, cond, Bool, true, false, true≢false, not, ◌||◌, ◌&&◌, Option, Some, None, Bor}
+use Rattle.std.proofs.Common.{◌≡◌, ℕ, ◌+◌, ◌<◌, List, [], ◌∷◌, ◌++◌, length, take, get_or, map, refl, sym, ap, subst, ◌∙◌, cond, Bool, true, false, not, ◌||◌, ◌&&◌, Option, Some, None, Bor}
 use Rattle.std.specs.BTreeMap.{is_at}
-use Rattle.std.specs.BTreeSet.{BTreeSet, contains}
 use Rattle.std.specs.List.{list_any}
 use Rattle.std.specs.Ordering.{is_eq}
-use Rattle.std.specs.declared.cmp.Ordering.{Ordering}
 use Rattle.std.specs.Prelude.{is_some}
+use Rattle.std.proofs.Math.Bool.{or-true, and-or_distrib_right}
 use Rattle.std.proofs.lemmas.List.Folds.{list_any-append, list_any_more}
-use Rattle.yp_base.specs.declared.notice.Change.{Change}
 use Rattle.yp_base.specs.declared.path.Seg.{Seg}
 use Rattle.yp_base.specs.declared.row.Row.{Row}
 use Rattle.yp_base.specs.declared.row.Value.{Value}
 use Rattle.yp_base.specs.Order.{path_cmp, is_within}
-use Rattle.yp_base.specs.PathLaws.{are_one, tie_turned}
+use Rattle.yp_base.specs.PathLaws.{are_one, tie_turned, within_through}
 use Rattle.yp_base.specs.Rows.{path_of, value_at, rows_within, AreInOrder}
 use Rattle.yp_base.specs.RowLaws.{AllPast, first_order, rest_order, picked, some_keep_order}
 use Rattle.yp_tree.specs.Listed.{without_row}
-use Rattle.yp_receiver.specs.Gone.{is_targeted, is_lost, lost_paths, AreGone, without_paths}
+use Rattle.yp_receiver.specs.Gone.{is_below_one, is_swept, is_lost, lost_paths, without_paths}
 
--- ---- rows that are picked by their paths
-
+-- the value at a path, of rows that are picked by their paths
 value_at_picked : (p : List Seg → Bool) (path : List Seg) (rows : List Row) → value_at path (picked p rows) ≡ cond (p path) (value_at path rows) None
 value_at_picked p path [] = elim (p path) as (λ b. value_at path [] ≡ cond b (value_at path []) None) [ true ↦ refl | false ↦ refl ]
 value_at_picked p path (row ∷ rows) =
@@ -44,6 +41,7 @@ value_at_picked p path (row ∷ rows) =
 abbrev is_other : List Seg → List Seg → Bool
 is_other one two = not (is_eq (path_cmp one two))
 
+-- all rows past a path have other ones
 all_others : (path : List Seg) (rows : List Row) → AllPast path rows → picked (is_other path) rows ≡ rows
 all_others path [] past = refl
 all_others path (row ∷ rows) past =
@@ -83,6 +81,7 @@ value_at_gone path (other ∷ paths) rows order =
 
 -- ---- rows that have no new one
 
+-- a path is among those of rows where it has one
 listed_rows : (path : List Seg) (rows : List Row) → list_any (is_at (path_cmp path)) (map path_of rows) ≡ is_some (value_at path rows)
 listed_rows path [] = refl
 listed_rows path (row ∷ rows) =
@@ -96,6 +95,7 @@ all_three true false (Some value) = refl
 all_three false true value = refl
 all_three false false value = refl
 
+-- a path is among those of the rows below a target that have no new one
 lost_within : (path target : List Seg) (news rows : List Row) → list_any (is_at (path_cmp path)) (lost_paths news (rows_within target rows)) ≡ (is_within target path && is_lost news rows path)
 lost_within path target news rows =
     let free = λ (other : List Seg). not (is_some (value_at other news)) in
@@ -103,65 +103,52 @@ lost_within path target news rows =
     ∙ ap is_some (value_at_picked free path (rows_within target rows) ∙ ap (λ (v : Option Value). cond (free path) v None) (value_at_picked (is_within target) path rows))
     ∙ all_three (is_within target path) (free path) (value_at path rows)
 
--- ---- loops
+-- ---- targets
 
--- paths in their order
-abbrev pub by_path : Bor (List Seg) → Bor (List Seg) → Ordering
-by_path one other = path_cmp one.now other.now
+-- what is at or below the target that was swept last is at or below one of the targets
+abbrev pub AreSwept : List (Bor (List Seg)) → Option (List Seg) → Type 0
+AreSwept targets swept = (path : List Seg) → is_swept swept path ≡ true → is_below_one targets path ≡ true
 
--- what is at or below a target that was seen is at or below the target of an edit
-abbrev pub AreSeen : List Change → BTreeSet (Bor (List Seg)) → Type 0
-AreSeen changes seen = (key : Bor (List Seg)) → contains by_path seen key ≡ true → (path : List Seg) → is_within key.now path ≡ true → is_targeted changes path ≡ true
+-- these are the paths of the rows at or below a target that have no new one
+abbrev pub AreLost : List (Bor (List Seg)) → List Row → List Row → List (List Seg) → Type 0
+AreLost targets news rows gone = (path : List Seg) → list_any (is_at (path_cmp path)) gone ≡ (is_below_one targets path && is_lost news rows path)
 
--- whether a target is new tells whether it was seen
-pub told_seen : (new seen : Bool) → new ≡ not seen → new ≡ false → seen ≡ true
-told_seen new true told old = refl
-told_seen new false told old = absurd (true≢false (sym told ∙ old))
+swept_below : (swept : Option (List Seg)) (target path : List Seg) → is_swept swept target ≡ true → is_within target path ≡ true → is_swept swept path ≡ true
+swept_below None target path h within = h
+swept_below (Some above) target path h within = within_through above target path h within
 
-or_second : (one two : Bool) → two ≡ true → (one || two) ≡ true
-or_second true two is = refl
-or_second false two is = is
-
+-- what is true where the other is, is so with the other
 or_same : (one two : Bool) → (two ≡ true → one ≡ true) → one ≡ (one || two)
 or_same true two is = refl
 or_same false true is = is refl
 or_same false false is = refl
 
-both_share : (one two lost : Bool) → ((one && lost) || (two && lost)) ≡ ((one || two) && lost)
-both_share true true true = refl
-both_share true true false = refl
-both_share true false true = refl
-both_share true false false = refl
-both_share false two lost = refl
+module _ (targets : List (Bor (List Seg))) (i : ℕ) (target : Bor (List Seg)) (here : i < length targets) (at : target ≡ get_or targets i target) where
+  below_more : (path : List Seg) → is_below_one (take (i + 1) targets) path ≡ (is_below_one (take i targets) path || is_within target.now path)
+  below_more path =
+      list_any_more (λ (t : Bor (List Seg)). is_within t.now path) targets i target here ∙ ap (λ (t : Bor (List Seg)). is_below_one (take i targets) path || is_within t.now path) (sym at)
 
-module _ (changes : List Change) (i : ℕ) (change : Change) (here : i < length changes) (at : change ≡ get_or changes i change) where
-  targeted_more : (path : List Seg) → is_targeted (take (i + 1) changes) path ≡ (is_targeted (take i changes) path || is_within change.target path)
-  targeted_more path =
-      list_any_more (λ (c : Change). is_within c.target path) changes i change here ∙ ap (λ (c : Change). is_targeted (take i changes) path || is_within c.target path) (sym at)
+  -- the target is swept
+  pub swept_more : AreSwept (take (i + 1) targets) (Some target.now)
+  swept_more path within = below_more path ∙ ap (λ b. is_below_one (take i targets) path || b) within ∙ or-true (is_below_one (take i targets) path)
 
-  pub seen_more : (key : Bor (List Seg)) (seen more : BTreeSet (Bor (List Seg))) → key.now ≡ change.target
-      → ((q : Bor (List Seg)) → contains by_path more q ≡ cond (is_eq (path_cmp key.now q.now)) true (contains by_path seen q))
-      → AreSeen (take i changes) seen → AreSeen (take (i + 1) changes) more
-  seen_more key seen more is grown are q found path within =
-      targeted_more path
-      ∙ elim (is_eq (path_cmp key.now q.now)) as (λ b. is_eq (path_cmp key.now q.now) ≡ b → cond b true (contains by_path seen q) ≡ true → (is_targeted (take i changes) path || is_within change.target path) ≡ true) [
-        | true ↦ λ same h. or_second (is_targeted (take i changes) path) (is_within change.target path) (ap (λ target. is_within target path) (sym is ∙ are_one key.now q.now same) ∙ within)
-        | false ↦ λ apart h. ap (λ b. b || is_within change.target path) (are q h path within)
-      ] refl (sym (grown q) ∙ found)
-
-  pub gone_more : (news rows : List Row) (gone more : List (List Seg)) → more ≡ gone ++ lost_paths news (rows_within change.target rows) → AreGone (take i changes) news rows gone → AreGone (take (i + 1) changes) news rows more
-  gone_more news rows gone more grown are path =
+  pub lost_more : (news rows : List Row) (gone more : List (List Seg)) → more ≡ gone ++ lost_paths news (rows_within target.now rows) → AreLost (take i targets) news rows gone → AreLost (take (i + 1) targets) news rows more
+  lost_more news rows gone more grown are path =
       let lost = is_lost news rows path in
       let test = is_at (path_cmp path) in
       ap (list_any test) grown
-      ∙ list_any-append test gone (lost_paths news (rows_within change.target rows))
-      ∙ (λ j. are path j || lost_within path change.target news rows j)
-      ∙ both_share (is_targeted (take i changes) path) (is_within change.target path) lost
-      ∙ ap (λ b. b && lost) (sym (targeted_more path))
+      ∙ list_any-append test gone (lost_paths news (rows_within target.now rows))
+      ∙ (λ j. are path j || lost_within path target.now news rows j)
+      ∙ sym (and-or_distrib_right (is_below_one (take i targets) path) (is_within target.now path) lost)
+      ∙ ap (λ b. b && lost) (sym (below_more path))
 
-  -- a target that was seen brings nothing
-  pub gone_same : (news rows : List Row) (gone : List (List Seg)) (key : Bor (List Seg)) (seen : BTreeSet (Bor (List Seg))) → key.now ≡ change.target → contains by_path seen key ≡ true → AreSeen (take i changes) seen
-      → AreGone (take i changes) news rows gone → AreGone (take (i + 1) changes) news rows gone
-  gone_same news rows gone key seen is found seen_are are path =
-      are path
-      ∙ ap (λ b. b && is_lost news rows path) (or_same (is_targeted (take i changes) path) (is_within change.target path) (λ within. seen_are key found path (ap (λ target. is_within target path) is ∙ within)) ∙ sym (targeted_more path))
+  -- a target at or below the one that was swept last brings nothing
+  module _ (swept : Option (List Seg)) (below : is_swept swept target.now ≡ true) (are : AreSwept (take i targets) swept) where
+    nothing_more : (path : List Seg) → is_below_one (take i targets) path ≡ is_below_one (take (i + 1) targets) path
+    nothing_more path = or_same (is_below_one (take i targets) path) (is_within target.now path) (λ within. are path (swept_below swept target.now path below within)) ∙ sym (below_more path)
+
+    pub swept_same : AreSwept (take (i + 1) targets) swept
+    swept_same path h = sym (nothing_more path) ∙ are path h
+
+    pub lost_same : (news rows : List Row) (gone : List (List Seg)) → AreLost (take i targets) news rows gone → AreLost (take (i + 1) targets) news rows gone
+    lost_same news rows gone lost path = lost path ∙ ap (λ b. b && is_lost news rows path) (nothing_more path)

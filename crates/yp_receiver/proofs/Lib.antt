@@ -1,6 +1,7 @@
 pub mod Again
 pub mod AtOnce
 pub mod Bodies
+pub mod Finding
 pub mod Gone
 pub mod Held
 pub mod Lines

@@ -1,4 +1,5 @@
 pub mod Compact
+pub mod Finding
 pub mod Gone
 pub mod Held
 pub mod Hearable

@@ -1,16 +1,19 @@
 //! Change updates, of which a tree takes all edits or none.
-ghost use Rattle.std.specs.Prelude.{◌≡◌, ◌++◌, ◌<◌, [], OnOk, OnErr, IfOk};
-ghost use Rattle.yp_base.specs.Rows.{put_rows, rows_within, rows_without, changed_by};
-ghost use Rattle.yp_receiver.specs.Gone.{AreGone, lost_paths, without_paths};
+ghost use Rattle.std.specs.Prelude.{◌≡◌, ◌++◌, ◌<◌, [], List, option_copied, OnOk, OnErr, IfOk};
+ghost use Rattle.yp_base.specs.declared.path.Seg.{Seg};
+ghost use Rattle.yp_base.specs.Rows.{AreInOrder, put_rows, rows_within, rows_without, changed_by};
+ghost use Rattle.yp_receiver.specs.Gone.{AreGone, is_below_one, is_swept, is_targeted, lost_paths, without_paths};
 
+use crate::finder::Finder;
 use std::alloc::Global;
-use std::collections::BTreeSet;
 use std::marker::Brand;
 use std::sync::ledger::{Blank, Ledger};
 use yp_base::memory::{Duplicate, NoMemory};
 use yp_base::notice::Change;
-use yp_base::path::Path;
+use yp_base::path::{Path, is_prefix};
+use yp_base::row::{Row, Rows};
 use yp_base::steps::Steps;
+use yp_tree::rising::Rising;
 use yp_tree::tree::Tree;
 
 /// Makes one edit: it takes away the rows at or below its target, and puts its own. After `NoMemory` the
@@ -22,57 +25,107 @@ fn hear_change(alloc: Global, change: &Change, tree: &mut Tree) -> Result<(), No
     tree.renew(alloc, &change.target, &change.rows)
 }
 
-/// A tree of the rows that edits, one after another, make of none.
-pub fn changed_from_none(alloc: Global, changes: &[Change]) -> Result<Tree, NoMemory>
-    ensures { IfOk result (λ tree. tree ≡ changed_by changes.now []) }
+/// Makes one edit of rows that are put. After `NoMemory` part of it may be made.
+fn put_edit(alloc: Global, change: &Change, rows: &mut Rising) -> Result<(), NoMemory>
+    ensures { OnOk result (rows.new ≡ put_rows change.now.rows (rows_without change.now.target rows.old)) }
 {
-    let mut tree = Tree::new(alloc);
-    for change in changes {
-        hear_change(alloc, change, &mut tree)?;
+    rows.cut(alloc, &change.target)?;
+    for row in change.rows.items() {
+        rows.put(alloc, row.copy(alloc)?)?;
     }
-    Ok(tree)
+    Ok(())
+}
+
+/// The rows that edits, one after another, make of none, in the order of their paths.
+pub fn changed_from_none(alloc: Global, changes: &[Change]) -> Result<Rows, NoMemory>
+    ensures rows { IfOk result (λ rows. rows ≡ changed_by changes.now []) }
+    ensures order { IfOk result (λ rows. AreInOrder rows) }
+{
+    let mut rows = Rising::new(alloc);
+    for change in changes {
+        put_edit(alloc, change, &mut rows)?;
+    }
+    let _count = rows.len();
+    rows.into_rows(alloc)
+}
+
+/// The targets of edits, in order.
+fn targets_of<'a>(alloc: Global, changes: &'a [Change]) -> Result<Vec<&'a Path>, NoMemory>
+    ensures { IfOk result (λ targets. (path : List Seg) → is_below_one targets.items path ≡ is_targeted changes.entry.now path) }
+{
+    let mut targets = Vec::with_capacity(alloc, changes.len())?;
+    for change in changes {
+        targets.push(&change.target)?;
+    }
+    targets.sort()?;
+    Ok(targets)
+}
+
+/// Whether a path is at or below another, where there is one.
+fn is_swept(above: Option<&Path>, path: &Path) -> bool
+    ensures { result ≡ is_swept (option_copied above.entry) path.now }
+{
+    match above {
+        Some(above) => is_prefix(above, path),
+        None => false,
+    }
 }
 
 /// The rows of a tree, and the rows that edits put over them.
 #[derive(Drop)]
 struct Layers<'a> {
     rows: &'a Tree,
-    news: &'a Tree,
+    news: Finder<'a>,
 }
 
 impl<'a> Layers<'a> {
+    fn new(rows: &'a Tree, news: &'a [Row]) -> Layers<'a>
+        requires { AreInOrder news.now }
+        ensures rows { result.rows.now ≡ rows.now }
+        ensures news { result.news ≡ news.now }
+    {
+        Layers {
+            rows,
+            news: Finder::new(news),
+        }
+    }
+
     /// Adds copies of the paths of the rows at or below a target that have no new row.
     fn add_lost<L: Ledger>(
-        &self,
+        &mut self,
         alloc: Global,
         target: &Path,
         gone: &mut Vec<Path>,
         steps: &mut Steps<L>,
     ) -> Result<(), NoMemory>
-        ensures { OnOk result (gone.new.items ≡ gone.old.items ++ lost_paths self.now.news.now (rows_within target.now self.now.rows.now)) }
+        ensures lost { OnOk result (gone.new.items ≡ gone.old.items ++ lost_paths self.old.news (rows_within target.now self.old.rows.now)) }
+        ensures same { self.new ≡ self.old }
     {
         for (path, _value) in self.rows.within(alloc, target, steps)? {
-            if self.news.get(path, steps).is_none() {
+            if !self.news.has(path) {
                 gone.push(path.copy(alloc)?)?;
             }
         }
         Ok(())
     }
 
-    /// Copies of the paths of the rows that edits take away. Each target is looked at once.
+    /// Copies of the paths of the rows that edits take away. What is at or below a target is looked at
+    /// once, whatever other targets it has.
     fn gone<L: Ledger>(
-        &self,
+        &mut self,
         alloc: Global,
         changes: &[Change],
         steps: &mut Steps<L>,
     ) -> Result<Vec<Path>, NoMemory>
-        ensures { IfOk result (λ gone. AreGone changes.now self.now.news.now self.now.rows.now gone.items) }
+        ensures { IfOk result (λ gone. AreGone changes.now self.old.news self.old.rows.now gone.items) }
     {
+        let targets = targets_of(alloc, changes)?;
         let mut gone = Vec::new(alloc);
-        let mut seen = BTreeSet::new(alloc);
-        for change in changes {
-            if seen.insert(&change.target)? {
-                self.add_lost(alloc, &change.target, &mut gone, steps)?;
+        let mut swept = None;
+        for target in targets.as_slice() {
+            if !is_swept(swept, target) {
+                self.add_lost(alloc, target, &mut gone, steps)?;
+                swept = Some(*target);
             }
         }
         Ok(gone)
@@ -109,13 +162,9 @@ fn hear_several<L: Ledger>(
     let _count = tree.len();
     let news = changed_from_none(alloc, changes)?;
     let mut steps = Steps::<L>::open(blank);
-    let layers = Layers {
-        rows: tree,
-        news: &news,
-    };
+    let mut layers = Layers::new(tree, news.items());
     let gone = layers.gone(alloc, later, &mut steps)?;
-    let rows = news.into_rows(alloc)?;
-    tree.renew(alloc, &first.target, &rows)?;
+    tree.renew(alloc, &first.target, &news)?;
     take_out(tree, gone.as_slice());
     Ok(())
 }

@@ -94,9 +94,7 @@ impl Holding {
     pub fn first(alloc: Global, changes: &[Change]) -> Result<Holding, NoMemory>
         ensures { IfOk result (λ rows. rows ≡ changed_by changes.now []) }
     {
-        let tree = changed_from_none(alloc, changes)?;
-        let _count = tree.len();
-        let rows = tree.into_rows(alloc)?;
+        let rows = changed_from_none(alloc, changes)?;
         Holding::compact(alloc, &rows)
     }
 

@@ -10,6 +10,7 @@
 
 mod changing;
 mod compact;
+mod finder;
 pub mod holding;
 pub mod holdings;
 pub mod laws;

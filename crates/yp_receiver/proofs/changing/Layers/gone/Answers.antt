@@ -1,27 +1,35 @@
-use Rattle.std.proofs.Common.{◌+◌, ◌<◌, length, refl, ap, sym, subst, ◌∙◌, List, take, Bor, arith}
-use Rattle.yp_base.specs.declared.notice.Change.{Change}
+use Rattle.std.proofs.Common.{◌+◌, ◌<◌, ◌++◌, List, length, take, Bor, sym, ap, subst, ◌∙◌, arith}
+use Rattle.std.specs.Prelude.{option_copied}
 use Rattle.yp_base.specs.declared.path.Seg.{Seg}
-use Rattle.yp_receiver.specs.Gone.{AreGone}
-use Rattle.yp_receiver.proofs.Gone.{seen_more, gone_more, gone_same, told_seen}
+use Rattle.yp_base.specs.Rows.{rows_within}
+use Rattle.yp_receiver.specs.Gone.{lost_paths}
+use Rattle.yp_receiver.proofs.Gone.{AreSwept, AreLost, swept_more, lost_more, swept_same, lost_same}
 use Rattle.yp_receiver.proofs.changing.Layers.gone.Goals as goal
-use Rattle.yp_receiver.proofs.changing.Layers.gone.Goals.{then-branch+in_ok-add_lost, else-branch}
+use Rattle.yp_receiver.proofs.changing.Layers.gone.Goals.{then-not-is_swept+in_ok-add_lost, else-not-is_swept}
 
-pub loop-change-preserved : goal.loop-change-preserved
-loop-change-preserved g c =
-    let changes : List Change = c.args.changes.now in
-    let news = c.args.self.now.news.now in
+pub loop-target-preserved : goal.loop-target-preserved
+loop-target-preserved g c =
+    let targets : List (Bor (List Seg)) = c.as_slice-target-items.result.now in
+    let news = c.args.self.now.news in
     let rows = c.args.self.now.rows.now in
-    let i = c.loop-change.change-index in
-    let change = c.change-item.result in
-    let here : i < length changes = omega arith in
-    let key : Bor (List Seg) = record { ref_ptr = c.args.changes.ref_ptr; now = change.target } in
-    record {
-      seen = seen_more changes i change here c.change-item.is key c.loop-change.seen c.insert.new.self refl c.in_ok-insert.ensures.updates.0 c.loop-change.invariant.seen;
-      gone = elim c.if-branch.branch [
-        | then-branch+in_ok-add_lost w ↦
-            gone_more changes i change here c.change-item.is news rows c.loop-change.gone.items c.if-branch.gone.items (ap (λ paths. paths.items) w.gone-is ∙ w.in_ok-add_lost.ensures) c.loop-change.invariant.gone
-        | else-branch w ↦
-            subst (AreGone (take (i + 1) changes) news rows) (sym (ap (λ paths. paths.items) w.gone-is))
-            (gone_same changes i change here c.change-item.is news rows c.loop-change.gone.items key c.loop-change.seen refl (told_seen c.in_ok-insert.field-0 _ c.in_ok-insert.ensures.added w.if-branch.false) c.loop-change.invariant.seen c.loop-change.invariant.gone)
-      ];
-    }
+    let i = c.loop-target.target-index in
+    let target = c.target-item.result in
+    let here : i < length targets = omega arith in
+    let at = c.target-item.is in
+    let before = c.loop-target.invariant in
+    elim c.if-not-is_swept.branch [
+      | then-not-is_swept+in_ok-add_lost w ↦ record {
+        swept = subst (λ swept. AreSwept (take (i + 1) targets) (option_copied swept)) (sym w.swept-is) (swept_more targets i target here at);
+        lost =
+            lost_more targets i target here at news rows c.loop-target.gone.items c.if-not-is_swept.gone.items
+            (ap (λ paths. paths.items) w.gone-is ∙ w.in_ok-add_lost.ensures.lost ∙ ap (λ self. c.loop-target.gone.items ++ lost_paths self.news (rows_within target.now self.rows.now)) before.same) before.lost;
+        same = w.self-is ∙ w.add_lost.ensures.same ∙ before.same;
+      }
+      | else-not-is_swept w ↦
+          let below = sym c.is_swept.ensures ∙ w.if-not-is_swept.false in
+          record {
+            swept = subst (λ swept. AreSwept (take (i + 1) targets) (option_copied swept)) (sym w.swept-is) (swept_same targets i target here at (option_copied c.loop-target.swept) below before.swept);
+            lost = subst (AreLost (take (i + 1) targets) news rows) (sym (ap (λ paths. paths.items) w.gone-is)) (lost_same targets i target here at (option_copied c.loop-target.swept) below before.swept news rows c.loop-target.gone.items before.lost);
+            same = w.self-is ∙ before.same;
+          }
+    ]
