@@ -13,3 +13,4 @@ pub mod Following
 pub mod Histories
 pub mod Promises
 pub mod Examples
+pub mod Keeping

@@ -32,7 +32,7 @@ abbrev pub RunsAreLinked : Type 0
 RunsAreLinked = (c : Content) → IsLawful c → (story : Story) → Leads c story → (receiver : ℕ) (journal : List Moment) → IsStory story receiver journal → (past : List Moment) (answers : List Answer) (run : Run) → Reaches c (receiver ∷ []) past answers run
     → (rest : List Moment) → past ++ rest ≡ journal → RunIsLinked c story receiver past run
 
-linked_run : RunsAreLinked → (c : Content) (story : Story) (receiver : ℕ) (run : Run) → (of : IsRunOf c story receiver run) → RunIsLinked c story receiver of.past run
+pub linked_run : RunsAreLinked → (c : Content) (story : Story) (receiver : ℕ) (run : Run) → (of : IsRunOf c story receiver run) → RunIsLinked c story receiver of.past run
 linked_run laws c story receiver run of = laws c of.lawful story of.leads receiver of.journal of.tells of.past of.answers run of.reaches of.rest of.within
 
 follows : RunsAreLinked → (c : Content) (story : Story) (receiver : ℕ) (run : Run) → IsRunOf c story receiver run → (sub : ℕ) (before : List Attempt) (a : Attempt) → IsAttemptOf run sub before a → Follows c story sub (told_by c before) a

@@ -3,3 +3,4 @@ pub mod Stories
 pub mod Following
 pub mod Links
 pub mod FullQueues
+pub mod Keeping

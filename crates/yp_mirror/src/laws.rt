@@ -1,5 +1,5 @@
 //! Laws of what receivers are told; nothing runs.
-ghost use Rattle.std.specs.Prelude.{◌≡◌, ℕ, ◌≤◌, ◌++◌, Bool, true, false, List, [], ◌∷◌, length, Some, None};
+ghost use Rattle.std.specs.Prelude.{◌≡◌, ℕ, ◌≤◌, ◌++◌, Bool, true, false, List, [], ◌∷◌, length, Some, None, is_some};
 ghost use Rattle.std.specs.List.{AllByRecursion};
 ghost use Rattle.yp_base.specs.declared.notice.Trigger.{Trigger};
 ghost use Rattle.yp_feed.specs.declared.item.Item.TheVariants.{Suspended};
@@ -12,6 +12,7 @@ ghost use Rattle.yp_attempt.specs.Examples.{counting, full_queue, many_rows, som
 ghost use Rattle.yp_mirror.specs.Heard.{told_by, of_sub, is_full_update, is_incomplete_update, IsTakenUpdate};
 ghost use Rattle.yp_mirror.specs.Stories.{Story, Steady, Leads, IsStory, story_of};
 ghost use Rattle.yp_mirror.specs.Following.{IsMadeOf, IsLessThan};
+ghost use Rattle.yp_mirror.specs.Keeping.{HasUpdateAtBase, IsSteadySinceBase, KeepsFromUpdate};
 ghost use Rattle.yp_mirror.specs.Links.{RunIsLinked, IsRunOf, IsAttemptOf};
 ghost use Rattle.yp_mirror.specs.FullQueues.{SuspendsAtEighth, FreezesAfterFull, HasFull, HasEightFull};
 
@@ -143,6 +144,23 @@ pub fn incomplete_updates_follow_full_queues()
         → AllByRecursion (λ track. FreezesAfterFull c run.standing.position run.standing.stamp track (told_by c (of_sub track.feed.sub run.done))) run.standing.tracks }
     ensures told { (c : Content) (story : Story) (receiver : ℕ) (run : Run) → IsRunOf c story receiver run
         → (sub : ℕ) (before : List Attempt) (a : Attempt) → IsAttemptOf run sub before a → is_incomplete_update a.made.body ≡ true → HasFull before }
+{
+    every_run_of_a_receiver_is_linked();
+}
+
+/// What a feed owes tells what it keeps, wherever a run stands. A record is set aside exactly where it is owed.
+/// Where neither all that is selected nor the end is owed, nothing changed past the base what the subscription
+/// asks for or the rules of its user, and the base of a mirrored one on change is where its last update was
+/// made that was taken. And there the record begins that is set aside of a mirrored one.
+pub fn what_a_feed_owes_tells_what_it_keeps()
+    ensures kept { (c : Content) (story : Story) (receiver : ℕ) (run : Run) → IsRunOf c story receiver run
+        → AllByRecursion (λ track. is_some track.frozen ≡ track.feed.owed.incomplete) run.standing.tracks }
+    ensures steady { (c : Content) (story : Story) (receiver : ℕ) (run : Run) → IsRunOf c story receiver run
+        → AllByRecursion (IsSteadySinceBase story run.standing.position) run.standing.tracks }
+    ensures base { (c : Content) (story : Story) (receiver : ℕ) (run : Run) → IsRunOf c story receiver run
+        → AllByRecursion (HasUpdateAtBase c story run.done) run.standing.tracks }
+    ensures begins { (c : Content) (story : Story) (receiver : ℕ) (run : Run) → IsRunOf c story receiver run
+        → AllByRecursion (KeepsFromUpdate c story run.done) run.standing.tracks }
 {
     every_run_of_a_receiver_is_linked();
 }
