@@ -16,7 +16,7 @@ use Rattle.push_program.specs.declared.job.Job.{Job}
 use Rattle.push_program.specs.declared.job.Job.TheVariants.{Run, Replay, Gen, Trial}
 use Rattle.push_program.specs.declared.top.Status.{Status}
 use Rattle.push_program.specs.declared.top.Status.TheVariants.{Done, BadWords, BadScript, BadStream, ReadFault, WriteFault, NoMemory}
-use Rattle.push_program.specs.Answers.{Answers, AnswersJob, Fits, FitsReplay, FitsScript, IsComplete, ReadsAll, Streams, TellsReading, TellsWords, TellsWriting, WritesPrefix, WritesText, tells_no_writing, tells_whole_reading}
+use Rattle.push_program.specs.Answers.{Answers, AnswersJob, Fits, FitsReplay, FitsScript, IsComplete, ReadsAll, ReadsNothing, Streams, TellsReading, TellsWords, TellsWriting, WritesPrefix, WritesText, tells_no_writing, tells_whole_reading}
 use Rattle.push_program.specs.Jobs.{HasScriptFault, HasStreamFault, IsTextOf, reads}
 
 -- a job that reads
@@ -37,9 +37,9 @@ words_told None s WriteFault h = absurd h
 words_told None s NoMemory h = tt
 words_told (Some job) s Done h = (job, refl)
 words_told (Some job) s BadWords h = absurd h
-words_told (Some job) s (BadScript line kind) h = (job, refl)
+words_told (Some job) s (BadScript line kind) h = (job, refl, h.0)
 words_told (Some job) s (BadStream line kind) h = ap (λ (j : Job). Some j) h.0
-words_told (Some job) s ReadFault h = (job, refl)
+words_told (Some job) s ReadFault h = (job, refl, h.0)
 words_told (Some job) s WriteFault h = (job, refl)
 words_told (Some job) s NoMemory h = tt
 
@@ -48,25 +48,25 @@ unread_told None s status h is = (subst (λ (t : Status). Answers None s t) is h
 unread_told (Some job) s status h is = absurd (subst (λ (t : Status). AnswersJob job s t) is h)
 
 -- a job that doesn't read
-aside_job : (job : Job) (s : Streams) (status : Status) → reads job ≡ false → AnswersJob job s status → s.left_after ≡ s.left_before
+aside_job : (job : Job) (s : Streams) (status : Status) → reads job ≡ false → AnswersJob job s status → ReadsNothing s
 aside_job Run s status not h = absurd (true≢false not)
 aside_job Replay s status not h = absurd (true≢false not)
-aside_job (Gen seed size) s Done not h = h.0.0
+aside_job (Gen seed size) s Done not h = h.0
 aside_job (Gen seed size) s BadWords not h = absurd h
 aside_job (Gen seed size) s (BadScript line kind) not h = absurd (true≢false (sym h.0 ∙ not))
 aside_job (Gen seed size) s (BadStream line kind) not h = absurd (true≢false (sym (ap reads h.0) ∙ not))
 aside_job (Gen seed size) s ReadFault not h = absurd (true≢false (sym h.0 ∙ not))
-aside_job (Gen seed size) s WriteFault not h = h.0.0
-aside_job (Gen seed size) s NoMemory not h = h.0.0
-aside_job (Trial seed size) s Done not h = h.0.0
+aside_job (Gen seed size) s WriteFault not h = h.0
+aside_job (Gen seed size) s NoMemory not h = h.0
+aside_job (Trial seed size) s Done not h = h.0
 aside_job (Trial seed size) s BadWords not h = absurd h
 aside_job (Trial seed size) s (BadScript line kind) not h = absurd (true≢false (sym h.0 ∙ not))
 aside_job (Trial seed size) s (BadStream line kind) not h = absurd (true≢false (sym (ap reads h.0) ∙ not))
 aside_job (Trial seed size) s ReadFault not h = absurd (true≢false (sym h.0 ∙ not))
-aside_job (Trial seed size) s WriteFault not h = h.0.0
-aside_job (Trial seed size) s NoMemory not h = h.0.0
+aside_job (Trial seed size) s WriteFault not h = h.0
+aside_job (Trial seed size) s NoMemory not h = h.0
 
-pub aside_told : (asked : Option Job) (s : Streams) (status : Status) → Answers asked s status → (job : Job) → asked ≡ Some job → reads job ≡ false → s.left_after ≡ s.left_before
+pub aside_told : (asked : Option Job) (s : Streams) (status : Status) → Answers asked s status → (job : Job) → asked ≡ Some job → reads job ≡ false → ReadsNothing s
 aside_told asked s status h job is not = aside_job job s status not (of_job asked job s status is h)
 
 pub done_told : (asked : Option Job) (s : Streams) (status : Status) → Answers asked s status → (job : Job) → asked ≡ Some job → status ≡ Done → WritesText job s.left_before s.written_before s.written_after

@@ -91,9 +91,9 @@ Answers (Some job) s status = AnswersJob job s status
 abbrev pub TellsWords : Status → Option Job → Type 0
 TellsWords Done asked = (job : Job) × (asked ≡ Some job)
 TellsWords BadWords asked = asked ≡ None
-TellsWords (BadScript line kind) asked = (job : Job) × (asked ≡ Some job)
+TellsWords (BadScript line kind) asked = (job : Job) × (asked ≡ Some job) × (reads job ≡ true)
 TellsWords (BadStream line kind) asked = asked ≡ Some Replay
-TellsWords ReadFault asked = (job : Job) × (asked ≡ Some job)
+TellsWords ReadFault asked = (job : Job) × (asked ≡ Some job) × (reads job ≡ true)
 TellsWords WriteFault asked = (job : Job) × (asked ≡ Some job)
 TellsWords NoMemory asked = Unit {0}
 

@@ -170,7 +170,7 @@ pub fn push_main<S: Source, K: Sink>(
 ) -> Status
     ensures words { TellsWords result (job_in words.now) }
     ensures unread { result ≡ BadWords → S.left source.new ≡ S.left source.old }
-    ensures aside { (job : Asked) → job_in words.now ≡ Some job → reads job ≡ false → S.left source.new ≡ S.left source.old }
+    ensures aside { (job : Asked) → job_in words.now ≡ Some job → reads job ≡ false → (S.left source.new ≡ S.left source.old) × (S.faults source.new ≡ S.faults source.old) }
     ensures told { (job : Asked) → job_in words.now ≡ Some job → result ≡ Done → WritesText job (S.left source.old) (K.written sink.old) (K.written sink.new) }
     ensures end { (job : Asked) → job_in words.now ≡ Some job → reads job ≡ true → result ≡ Done → IfSome (S.left source.old) (λ bytes. S.left source.new ≡ Some []) }
     ensures read { (job : Asked) → job_in words.now ≡ Some job → reads job ≡ true → tells_whole_reading result ≡ true → IfSome (S.left source.old) (λ bytes. S.left source.new ≡ Some (drop (byte_limit + 1) bytes)) }

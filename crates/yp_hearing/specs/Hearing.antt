@@ -1,10 +1,12 @@
 -- What a receiver takes, as the lines that it hears (RFC 8641 section 3.7).
-use Rattle.std.specs.Prelude.{◌≡◌, ◌<◌, ◌^◌, ◌++◌, ℕ, List, [], ◌∷◌, length, map, true, Some}
+use Rattle.std.specs.Prelude.{◌≡◌, ◌<◌, ◌^◌, ◌++◌, ℕ, List, [], ◌∷◌, length, map, true, Some, Ok}
 use Rattle.std.specs.List.{AllByRecursion}
 use Rattle.yp_base.specs.declared.notice.Notice.{Notice}
 use Rattle.yp_schema.specs.declared.schema.SchemaNode.{SchemaNode}
 use Rattle.yp_schema.specs.WellFormed.{IsSchema}
+use Rattle.yp_time.specs.Instants.{event_text}
 use Rattle.yp_encode.specs.Lines.{line_of}
+use Rattle.yp_decode.specs.Grammar.{line_heard}
 use Rattle.yp_terms.specs.declared.ask.Ask.{Ask}
 use Rattle.yp_feed.specs.Machine.{is_mirrored}
 use Rattle.yp_journal.specs.declared.entry.Entry.{Entry}
@@ -36,6 +38,10 @@ told_of n = (n.made.tick, notice_of n.sub n.made)
 -- and as a line
 abbrev pub line_for : List SchemaNode → ℕ → Notification → List ℕ
 line_for nodes start n = line_of nodes start n.made.tick (notice_of n.sub n.made)
+
+-- a receiver hears its line as just this notification, with the event time of its tick
+abbrev pub IsHeardAsMade : List SchemaNode → ℕ → Notification → Type 0
+IsHeardAsMade nodes start n = line_heard nodes (line_for nodes start n) ≡ Ok (record { time = event_text start n.made.tick; notice = notice_of n.sub n.made })
 
 -- after the line of each update of a mirrored subscription, a receiver of lines alone holds what is selected at the position at which the update was made
 abbrev pub LinesMirror : List SchemaNode → List ReceiverInfo → List Entry → ℕ → ℕ → List Notification → Type 0

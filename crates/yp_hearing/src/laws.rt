@@ -16,7 +16,7 @@ ghost use Rattle.yp_promise.specs.Serving.{run_of};
 ghost use Rattle.yp_promise.specs.Shown.{got_by, offered_to};
 ghost use Rattle.yp_receiver.specs.Hearable.{IsTold};
 ghost use Rattle.yp_receiver.specs.Held.{lines_heard};
-ghost use Rattle.yp_hearing.specs.Hearing.{CanBeTold, LinesMirror, line_for, told_of};
+ghost use Rattle.yp_hearing.specs.Hearing.{CanBeTold, IsHeardAsMade, LinesMirror, line_for, told_of};
 ghost use Rattle.yp_hearing.specs.Windows.{WindowsAreHeard};
 
 use yp_attempt::laws::{the_first_offer_is_found, what_replaying_gives_is_reached};
@@ -28,7 +28,7 @@ use yp_promise::laws::{
     a_receivers_part_of_a_serial_run_is_its_own_run, what_a_serial_run_makes_serves,
     what_receivers_hold_can_be_shown,
 };
-use yp_receiver::laws::lines_tell_their_notices;
+use yp_receiver::laws::{a_written_line_is_heard, lines_tell_their_notices};
 use yp_texts::laws::a_journal_keeps_texts;
 use yp_touch::laws::a_datastore_is_whole;
 
@@ -63,6 +63,17 @@ pub fn what_a_receiver_is_sent_is_told()
     a_journal_keeps_texts();
     a_datastore_is_whole();
     the_record_of_a_window_is_heard();
+}
+
+/// The line of each notification that a receiver took is heard as this notification, of whatever
+/// subscription, at its event time.
+pub fn each_line_is_heard_as_its_notification()
+    ensures { (nodes : List SchemaNode) (receivers : List ReceiverInfo) (entries : List Entry) (receiver start : ℕ)
+        → CanBeTold nodes receivers entries → receiver < length receivers → IsStart start
+        → AllByRecursion (IsHeardAsMade nodes start) (got_by receiver (run_of nodes receivers entries)) }
+{
+    what_a_receiver_is_sent_is_told();
+    a_written_line_is_heard();
 }
 
 /// So a receiver that makes its trees from the bytes of its lines alone holds what the notifications leave

@@ -13,13 +13,14 @@ use Rattle.yp_script.specs.declared.script.Script.{Script}
 use Rattle.yp_script.specs.Script.{AreReceivers, IsReceiver, script_in}
 use Rattle.yp_serial.specs.Serial.{Served}
 use Rattle.yp_receiver.specs.Held.{lines_heard}
-use Rattle.yp_promise.specs.Interleaving.{EachInterleavingServes, TheSerialRunIsOne}
+use Rattle.yp_promise.specs.Interleaving.{EachInterleavingServes, EndsWhereTheSerialRunEnds}
+use Rattle.yp_promise.specs.Posts.{HavePosts}
 use Rattle.yp_promise.specs.Promise.{Serves}
 use Rattle.yp_promise.specs.Received.{CanBeShown, received}
-use Rattle.yp_promise.specs.Serving.{run_of}
+use Rattle.yp_promise.specs.Serving.{IsComplete, run_of}
 use Rattle.yp_promise.specs.Shown.{got_by, offered_to}
 use Rattle.yp_texts.specs.Commands.{CommandHasUtf8, ScriptHasUtf8}
-use Rattle.yp_hearing.specs.Hearing.{CanBeTold, LinesMirror, line_for}
+use Rattle.yp_hearing.specs.Hearing.{CanBeTold, IsHeardAsMade, LinesMirror, line_for}
 use Rattle.yp_live.specs.declared.run.Run.{Run}
 use Rattle.yp_live.specs.declared.script.Ran.{Ran}
 use Rattle.yp_live.specs.declared.turns.Turn.{Turn}
@@ -46,7 +47,7 @@ abbrev pub AreInterleaved : Type 0
 AreInterleaved = (nodes : List SchemaNode) (receivers : List ReceiverInfo) (entries : List Entry) → IsSchema nodes → IsLegal nodes (first_state receivers) entries → EachInterleavingServes nodes receivers entries
 
 abbrev pub AreInterleavings : Type 0
-AreInterleavings = (nodes : List SchemaNode) (receivers : List ReceiverInfo) (entries : List Entry) → IsSchema nodes → IsLegal nodes (first_state receivers) entries → TheSerialRunIsOne nodes receivers entries
+AreInterleavings = (nodes : List SchemaNode) (receivers : List ReceiverInfo) (entries : List Entry) → IsSchema nodes → IsLegal nodes (first_state receivers) entries → EndsWhereTheSerialRunEnds nodes receivers entries
 
 abbrev pub AreShown : Type 0
 AreShown = (nodes : List SchemaNode) (receivers : List ReceiverInfo) (entries : List Entry) (receiver : ℕ)
@@ -59,6 +60,13 @@ AreHeard = (nodes : List SchemaNode) (receivers : List ReceiverInfo) (entries : 
     → CanBeTold nodes receivers entries → receiver < length receivers → IsStart start
     → lines_heard nodes [] (map (line_for nodes start) (got_by receiver (run_of nodes receivers entries))) ≡ received [] (got_by receiver (run_of nodes receivers entries))
 
+-- what they say of its end, of the queues then, and of each line
+pub record EndLaws : Type 0 where
+  pub complete : (nodes : List SchemaNode) (receivers : List ReceiverInfo) (entries : List Entry) → IsSchema nodes → IsLegal nodes (first_state receivers) entries → IsComplete nodes receivers entries (run_of nodes receivers entries)
+  pub posts : (nodes : List SchemaNode) (receivers : List ReceiverInfo) (entries : List Entry) → HavePosts receivers (run_of nodes receivers entries)
+  pub heard : (nodes : List SchemaNode) (receivers : List ReceiverInfo) (entries : List Entry) (receiver start : ℕ) → CanBeTold nodes receivers entries → receiver < length receivers → IsStart start
+      → AllByRecursion (IsHeardAsMade nodes start) (got_by receiver (run_of nodes receivers entries))
+
 abbrev pub AreCopies : Type 0
 AreCopies = (nodes : List SchemaNode) (receivers : List ReceiverInfo) (entries : List Entry) (receiver start : ℕ)
     → CanBeTold nodes receivers entries → receiver < length receivers → IsStart start
@@ -69,7 +77,7 @@ abbrev pub HaveUtf8 : Type 0
 HaveUtf8 = (bytes : List ℕ) (script : Script) → script_in bytes ≡ Ok script → ScriptHasUtf8 script
 
 -- the run of a script that was read
-module _ (serves : AreServed) (interleaved : AreInterleaved) (interleaving : AreInterleavings) (hears : AreHeard) (copies : AreCopies) (utf8 : HaveUtf8) (script : Script) (bytes : List ℕ) (ran : Ran) (read : script_in bytes ≡ Ok script) (is : IsRunOf script ran) where
+module _ (serves : AreServed) (interleaved : AreInterleaved) (interleaving : AreInterleavings) (hears : AreHeard) (copies : AreCopies) (ends : EndLaws) (utf8 : HaveUtf8) (script : Script) (bytes : List ℕ) (ran : Ran) (read : script_in bytes ≡ Ok script) (is : IsRunOf script ran) where
   abbrev served : Served
   served = run_of script.schema script.receivers is.entries
 
@@ -100,6 +108,9 @@ module _ (serves : AreServed) (interleaved : AreInterleaved) (interleaving : Are
         journal = subst (λ (those : List Entry). IsJournalOf script those) (sym journal) (journal_is script);
         serial = journal;
         legal = followed.legal;
+        complete = ends.complete script.schema script.receivers is.entries followed.schema followed.legal;
+        posts = ends.posts script.schema script.receivers is.entries;
+        heard = λ receiver less. ends.heard script.schema script.receivers is.entries receiver script.start can_be_told less is.start;
         serves = λ receiver less. serves script.schema script.receivers is.entries receiver followed.schema followed.legal less;
         mirrored = λ receiver less. copies script.schema script.receivers is.entries receiver script.start can_be_told less is.start;
         interleaved = λ journal of legal. interleaved script.schema script.receivers journal followed.schema legal;

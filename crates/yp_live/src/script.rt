@@ -15,11 +15,17 @@ use std::marker::Brand;
 use std::sync::ledger::{Blank, Ledger};
 use yp_base::memory::NoMemory;
 use yp_base::steps::Steps;
-use yp_hearing::laws::{a_receiver_holds_what_its_lines_tell, the_trees_of_lines_mirror};
-use yp_promise::interleavings::{
-    a_serial_run_is_an_interleaving, every_interleaving_serves_each_receiver,
+use yp_hearing::laws::{
+    a_receiver_holds_what_its_lines_tell, each_line_is_heard_as_its_notification,
+    the_trees_of_lines_mirror,
 };
-use yp_promise::laws::{what_a_serial_run_makes_serves, what_receivers_hold_can_be_shown};
+use yp_promise::interleavings::{
+    an_interleaving_ends_where_the_serial_run_ends, every_interleaving_serves_each_receiver,
+};
+use yp_promise::laws::{
+    a_serial_run_is_complete, what_a_serial_run_makes_serves, what_receivers_hold_can_be_shown,
+};
+use yp_promise::posts::queues_hold_what_was_not_taken;
 use yp_schema::schema::Schema;
 use yp_script::script::Script;
 use yp_texts::laws::a_scripts_commands_have_utf8;
@@ -73,11 +79,14 @@ fn report_by<L: Ledger>(alloc: Global, script: Script, blank: Blank) -> Result<S
 {
     what_a_serial_run_makes_serves();
     every_interleaving_serves_each_receiver();
-    a_serial_run_is_an_interleaving();
+    an_interleaving_ends_where_the_serial_run_ends();
     what_receivers_hold_can_be_shown();
     a_scripts_commands_have_utf8();
     a_receiver_holds_what_its_lines_tell();
     the_trees_of_lines_mirror();
+    a_serial_run_is_complete();
+    queues_hold_what_was_not_taken();
+    each_line_is_heard_as_its_notification();
     let mut steps = Steps::<L>::open(blank);
     let Ran { schema, run } = run_script(alloc, script)?;
     let Run { replies, desks, .. } = run;
@@ -97,10 +106,13 @@ fn summary_by<L: Ledger>(alloc: Global, script: Script, blank: Blank) -> Result<
 {
     what_a_serial_run_makes_serves();
     every_interleaving_serves_each_receiver();
-    a_serial_run_is_an_interleaving();
+    an_interleaving_ends_where_the_serial_run_ends();
     a_scripts_commands_have_utf8();
     a_receiver_holds_what_its_lines_tell();
     the_trees_of_lines_mirror();
+    a_serial_run_is_complete();
+    queues_hold_what_was_not_taken();
+    each_line_is_heard_as_its_notification();
     let mut steps = Steps::<L>::open(blank);
     let Ran { run, .. } = run_script(alloc, script)?;
     let Run { replies, desks, .. } = run;

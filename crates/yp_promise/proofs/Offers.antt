@@ -1,9 +1,10 @@
 -- What was offered to a receiver: nothing that its user may not read, suspensions and incomplete updates only after full queues, and the next resynchronisation carries its own position's selection.
-use Rattle.std.proofs.Common.{◌≡◌, ℕ, refl, sym, ap, subst, ◌∙◌, true, List, [], ◌∷◌, ◌++◌}
+use Rattle.std.proofs.Common.{◌≡◌, ℕ, refl, sym, ap, subst, ◌∙◌, true, false, true≢false, Option, Some, None, List, [], ◌∷◌, ◌++◌}
 use Rattle.std.specs.Prelude.{◌==◌}
 use Rattle.std.specs.List.{AllByRecursion}
 use Rattle.yp_base.specs.declared.row.Row.{Row}
-use Rattle.yp_feed.specs.declared.item.Item.TheVariants.{Suspended}
+use Rattle.yp_feed.specs.declared.item.Item.{Item}
+use Rattle.yp_feed.specs.declared.item.Item.TheVariants.{Started, Modified, Incomplete, Suspended, Resumed, Sync, Terminated, Changes, Periodic}
 use Rattle.yp_schema.specs.declared.schema.SchemaNode.{SchemaNode}
 use Rattle.yp_schema.specs.WellFormed.{IsSchema}
 use Rattle.yp_journal.specs.declared.entry.Entry.{Entry}
@@ -11,9 +12,11 @@ use Rattle.yp_journal.specs.declared.receiver.ReceiverInfo.{ReceiverInfo}
 use Rattle.yp_journal.specs.History.{first_state, may_read, state_at, IsLegal}
 use Rattle.yp_attempt.specs.Attempts.{answers_in, replay}
 use Rattle.yp_attempt.specs.Content.{Content}
-use Rattle.yp_attempt.specs.Runs.{Run, first_run}
-use Rattle.yp_attempt.specs.Tracks.{Answer, Attempt, All, Notice}
-use Rattle.yp_mirror.specs.FullQueues.{HasEightFull, HasFull}
+use Rattle.yp_attempt.specs.Moments.{Moment}
+use Rattle.yp_attempt.specs.Runs.{Reaches, Run, advances, first_run, opened, settles}
+use Rattle.yp_attempt.specs.Tracks.{Answer, Attempt, All, Frozen, Notice, Track, attempt, is_taken, made_frozen}
+use Rattle.yp_mirror.specs.Following.{IsLessThan}
+use Rattle.yp_mirror.specs.FullQueues.{FreezesAfterFull, HasEightFull, HasFull, SuspendsAtEighth}
 use Rattle.yp_mirror.specs.Heard.{IsTakenUpdate, is_incomplete_update, of_sub, told_by}
 use Rattle.yp_mirror.specs.Links.{IsAttemptOf, IsRunOf}
 use Rattle.yp_mirror.specs.Stories.{Story, story_of}
@@ -22,16 +25,49 @@ use Rattle.yp_moment.specs.Entries.{moments_of}
 use Rattle.yp_moment.specs.Windows.{recorded}
 use Rattle.yp_world.specs.Headline.{LeavesOutAfterFull, SuspendsAfterEight}
 use Rattle.yp_world.specs.TakenLaws.{all_there, number_is}
-use Rattle.yp_promise.specs.Promise.{IsConcealed, Resynchronises}
+use Rattle.yp_promise.specs.Promise.{FreezeOnlyAfterFull, IsConcealed, IsFullAtRisingStamps, IsMadeWhereOffered, Resynchronises, SuspendOnlyAtEighth, run_by}
 use Rattle.yp_promise.proofs.Bodies.{wanted}
 use Rattle.yp_promise.proofs.Copies.{GoesByAsk}
 use Rattle.yp_promise.proofs.Own.{own_attempt}
+
+-- ---- where attempts are made
+
+frozen_here : (f : Option Frozen) (n stamp : ℕ) → is_incomplete_update (made_frozen f n stamp).body ≡ false → ((made_frozen f n stamp).position ≡ n) × ((made_frozen f n stamp).tick ≡ stamp)
+frozen_here None n stamp e = (refl, refl)
+frozen_here (Some frozen) n stamp e = absurd (true≢false e)
+
+attempt_here : (n stamp : ℕ) (track : Track) (item : Item) (answer : Answer) → IsMadeWhereOffered (attempt recorded n stamp track item answer)
+attempt_here n stamp track Started answer e = (refl, refl)
+attempt_here n stamp track Modified answer e = (refl, refl)
+attempt_here n stamp track Incomplete answer e = frozen_here track.frozen n stamp e
+attempt_here n stamp track Suspended answer e = (refl, refl)
+attempt_here n stamp track Resumed answer e = (refl, refl)
+attempt_here n stamp track Sync answer e = (refl, refl)
+attempt_here n stamp track Terminated answer e = (refl, refl)
+attempt_here n stamp track Changes answer e = (refl, refl)
+attempt_here n stamp track Periodic answer e = (refl, refl)
+
+one_more_here : (attempts : List Attempt) (a : Attempt) → AllByRecursion IsMadeWhereOffered attempts → IsMadeWhereOffered a → AllByRecursion IsMadeWhereOffered (attempts ++ a ∷ [])
+one_more_here [] a all here = (here, tt)
+one_more_here (x ∷ attempts) a all here = (all.0, one_more_here attempts a all.1 here)
+
+pub all_here : (receivers : List ℕ) (past : List Moment) (answers : List Answer) (run : Run) → Reaches recorded receivers past answers run → AllByRecursion IsMadeWhereOffered run.done
+all_here receivers _ _ _ opened = tt
+all_here receivers _ _ _ (advances past answers run m reaches may idle) = all_here receivers past answers run reaches
+all_here receivers _ _ _ (settles past answers run found answer reaches offers) =
+    one_more_here run.done (attempt recorded run.standing.position run.standing.stamp found.track found.item answer) (all_here receivers past answers run reaches)
+    (attempt_here run.standing.position run.standing.stamp found.track found.item answer)
 
 -- ---- the laws that are rested on
 
 pub record OfferLaws : Type 0 where
   pub suspends : (c : Content) (story : Story) (receiver : ℕ) (run : Run) → IsRunOf c story receiver run → (sub : ℕ) (before : List Attempt) (a : Attempt) → IsAttemptOf run sub before a → a.made.body ≡ Notice Suspended → HasEightFull before
   pub leaves_out : (c : Content) (story : Story) (receiver : ℕ) (run : Run) → IsRunOf c story receiver run → (sub : ℕ) (before : List Attempt) (a : Attempt) → IsAttemptOf run sub before a → is_incomplete_update a.made.body ≡ true → HasFull before
+  pub stamps : (c : Content) (story : Story) (receiver : ℕ) (run : Run) → IsRunOf c story receiver run → (sub : ℕ) (before : List Attempt) (a : Attempt) → IsAttemptOf run sub before a → is_taken a.answer ≡ false → IsLessThan (told_by c before).last_full a.stamp
+  pub eighth : (c : Content) (story : Story) (receiver : ℕ) (run : Run) → IsRunOf c story receiver run
+      → AllByRecursion (λ track. SuspendsAtEighth c run.standing.position run.standing.stamp track (told_by c (of_sub track.feed.sub run.done))) run.standing.tracks
+  pub freezes : (c : Content) (story : Story) (receiver : ℕ) (run : Run) → IsRunOf c story receiver run
+      → AllByRecursion (λ track. FreezesAfterFull c run.standing.position run.standing.stamp track (told_by c (of_sub track.feed.sub run.done))) run.standing.tracks
   pub carries : (c : Content) (story : Story) (receiver : ℕ) (run : Run) → IsRunOf c story receiver run → (sub : ℕ) (before : List Attempt) (a : Attempt) → IsAttemptOf run sub before a → IsTakenUpdate a
       → story.resyncing sub ≡ true → (told_by c before).awaits ≡ true → a.made.body ≡ All (story.want sub a.at)
   pub here : (c : Content) (story : Story) (receiver : ℕ) (run : Run) → IsRunOf c story receiver run → (sub : ℕ) (before : List Attempt) (a : Attempt) → IsAttemptOf run sub before a → IsTakenUpdate a
@@ -72,6 +108,16 @@ module _ (nodes : List SchemaNode) (receivers : List ReceiverInfo) (entries : Li
 
     pub leaves_out_after_full : LeavesOutAfterFull run.done
     leaves_out_after_full before a after is says = laws.leaves_out recorded story receiver run of a.sub (of_sub a.sub before) a (its_own before a after is) says
+
+    pub full_at_rising_stamps : IsFullAtRisingStamps run.done
+    full_at_rising_stamps before a after is full = laws.stamps recorded story receiver run of a.sub (of_sub a.sub before) a (its_own before a after is) full
+
+    module _ (same : (replay recorded (receiver ∷ []) first_run (moments_of nodes receivers entries) (answers_in run.done)).run ≡ run) where
+      pub suspends_at_eighth : SuspendOnlyAtEighth (run_by nodes receivers entries receiver run.done)
+      suspends_at_eighth = subst SuspendOnlyAtEighth (sym same) (laws.eighth recorded story receiver run of)
+
+      pub freezes_after_full : FreezeOnlyAfterFull (run_by nodes receivers entries receiver run.done)
+      freezes_after_full = subst FreezeOnlyAfterFull (sym same) (laws.freezes recorded story receiver run of)
 
     pub resyncs_carry : GoesByAsk nodes receivers entries receiver → Resynchronises nodes receivers entries receiver run.done
     resyncs_carry goes id ask gives resyncing before a after is mine taken awaits =

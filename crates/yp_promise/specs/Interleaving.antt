@@ -42,7 +42,7 @@ abbrev pub EachInterleavingServes : List SchemaNode → List ReceiverInfo → Li
 EachInterleavingServes nodes receivers entries = (workers : ℕ) (events : List Event) → 0 < workers → AppendAll nodes receivers workers entries events
     → (receiver : ℕ) → receiver < length receivers → IsServedAfter nodes receivers workers entries events receiver
 
--- the serial run of a journal is one of them, with one worker: there are events that lead to the world of the journal in which the worker stands where the serial run does, and each queue holds and was taken of as many
-abbrev pub TheSerialRunIsOne : List SchemaNode → List ReceiverInfo → List Entry → Type 0
-TheSerialRunIsOne nodes receivers entries =
+-- one of them, with one worker, leads to where the serial run of a journal ends: there are events that lead to the world of the journal in which the worker stands where the serial run does, and each queue holds and was taken of as many
+abbrev pub EndsWhereTheSerialRunEnds : List SchemaNode → List ReceiverInfo → List Entry → Type 0
+EndsWhereTheSerialRunEnds nodes receivers entries =
     LeadTo (setup_of receivers 1) (first_world (setup_of receivers 1)) (moments_of nodes receivers entries) (run_of nodes receivers entries).run.standing (run_of nodes receivers entries).posts

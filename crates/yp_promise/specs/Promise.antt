@@ -7,9 +7,12 @@ use Rattle.yp_feed.specs.Machine.{is_mirrored, resyncs}
 use Rattle.yp_journal.specs.declared.entry.Entry.{Entry}
 use Rattle.yp_journal.specs.declared.receiver.ReceiverInfo.{ReceiverInfo}
 use Rattle.yp_journal.specs.History.{may_read, state_at}
-use Rattle.yp_attempt.specs.Tracks.{Attempt, All}
-use Rattle.yp_attempt.specs.Attempts.{Notification, answers_in, attempts, taken_of}
-use Rattle.yp_mirror.specs.Heard.{is_full_update, of_sub, told_by, IsTakenUpdate}
+use Rattle.yp_attempt.specs.Tracks.{Attempt, All, is_taken}
+use Rattle.yp_attempt.specs.Attempts.{Notification, answers_in, attempts, replay, taken_of}
+use Rattle.yp_attempt.specs.Runs.{Run, first_run}
+use Rattle.yp_mirror.specs.Following.{IsLessThan}
+use Rattle.yp_mirror.specs.FullQueues.{FreezesAfterFull, SuspendsAtEighth}
+use Rattle.yp_mirror.specs.Heard.{is_full_update, is_incomplete_update, of_sub, told_by, IsTakenUpdate}
 use Rattle.yp_moment.specs.Concealed.{NamesReadable}
 use Rattle.yp_moment.specs.Entries.{Grants, moments_of, selected_at}
 use Rattle.yp_moment.specs.Windows.{recorded}
@@ -48,6 +51,26 @@ pub record IsConcealed (nodes : List SchemaNode) (receivers : List ReceiverInfo)
   pub made : NamesReadable (may_read nodes (state_at nodes receivers entries a.made.position) receiver) a.made.body
   pub offered : NamesReadable (may_read nodes (state_at nodes receivers entries a.at) receiver) a.made.body
 
+-- it was made at the position and at the stamp at which it is offered, unless it is what was set aside before
+abbrev pub IsMadeWhereOffered : Attempt → Type 0
+IsMadeWhereOffered a = is_incomplete_update a.made.body ≡ false → (a.made.position ≡ a.at) × (a.made.tick ≡ a.stamp)
+
+-- each full answer comes at a later stamp than the full answer before it: so full answers in a row come at as many stamps
+abbrev pub IsFullAtRisingStamps : List Attempt → Type 0
+IsFullAtRisingStamps offered = (before : List Attempt) (a : Attempt) (after : List Attempt) → offered ≡ before ++ a ∷ after → is_taken a.answer ≡ false → IsLessThan (told_by recorded (of_sub a.sub before)).last_full a.stamp
+
+-- the run of the receiver's feeds to which the answers lead that its queue gave
+abbrev pub run_by : List SchemaNode → List ReceiverInfo → List Entry → ℕ → List Attempt → Run
+run_by nodes receivers entries receiver offered = (replay recorded (receiver ∷ []) first_run (moments_of nodes receivers entries) (answers_in offered)).run
+
+-- where a run stands, each feed is suspended just by the eighth full answer in a row
+abbrev pub SuspendOnlyAtEighth : Run → Type 0
+SuspendOnlyAtEighth run = AllByRecursion (λ track. SuspendsAtEighth recorded run.standing.position run.standing.stamp track (told_by recorded (of_sub track.feed.sub run.done))) run.standing.tracks
+
+-- and a record of a feed is set aside just by the rule, which asks for a full answer
+abbrev pub FreezeOnlyAfterFull : Run → Type 0
+FreezeOnlyAfterFull run = AllByRecursion (λ track. FreezesAfterFull recorded run.standing.position run.standing.stamp track (told_by recorded (of_sub track.feed.sub run.done))) run.standing.tracks
+
 -- where all that is selected is awaited, after an incomplete update or eight full answers in a row, the next update of a subscription that resynchronises is just that: what is selected at the position at which it is offered, and made there
 abbrev pub Resynchronises : List SchemaNode → List ReceiverInfo → List Entry → ℕ → List Attempt → Type 0
 Resynchronises nodes receivers entries receiver offered = (id : ℕ) (ask : Ask) → Gives entries id ask → resyncs ask.trigger ≡ true
@@ -60,6 +83,8 @@ Resynchronises nodes receivers entries receiver offered = (id : ℕ) (ask : Ask)
 pub record Serves (nodes : List SchemaNode) (receivers : List ReceiverInfo) (entries : List Entry) (receiver : ℕ) (offered : List Attempt) (got : List Notification) : Type 0 where
   -- what was offered is what the definition makes for it of the journal, with the answers that its queue gave
   pub own : offered ≡ attempts recorded (receiver ∷ []) (moments_of nodes receivers entries) (answers_in offered)
+  -- each was made where it was offered, but for what was set aside
+  pub here : AllByRecursion IsMadeWhereOffered offered
   -- what it took was accepted first, in the same order
   pub waiting : List Notification
   pub accepted : taken_of offered ≡ got ++ waiting
@@ -71,9 +96,12 @@ pub record Serves (nodes : List SchemaNode) (receivers : List ReceiverInfo) (ent
   pub rising : NeverFalls got
   -- nothing is named that its user may not read
   pub concealed : AllByRecursion (IsConcealed nodes receivers entries receiver) offered
-  -- suspensions follow only full queues
+  -- suspensions follow only full queues: eight full answers in a row, at as many stamps, of which the eighth suspends a feed, and nothing else does
   pub suspends : SuspendsAfterEight offered
-  -- and so do incomplete updates
+  pub stamps : IsFullAtRisingStamps offered
+  pub eighth : SuspendOnlyAtEighth (run_by nodes receivers entries receiver offered)
+  -- and so do incomplete updates, for which a record is set aside exactly by the rule, that is after a full answer
   pub leaves_out : LeavesOutAfterFull offered
+  pub freezes : FreezeOnlyAfterFull (run_by nodes receivers entries receiver offered)
   -- and the next resynchronisation carries its own position's selection
   pub resynchronises : Resynchronises nodes receivers entries receiver offered

@@ -1,5 +1,5 @@
 -- The serial run of a journal: one worker serves all receivers, each by a queue of its places; a receiver takes each packet at once, or what its commands take.
-use Rattle.std.specs.Prelude.{◌≡◌, ℕ, zero, suc, ◌==◌, List, length, Bool, false, Option, Some, None, if◌then◌else◌}
+use Rattle.std.specs.Prelude.{◌≡◌, ℕ, zero, suc, ◌==◌, List, [], length, Bool, false, Option, Some, None, if◌then◌else◌}
 use Rattle.std.specs.List.{slice_get}
 use Rattle.yp_schema.specs.declared.schema.SchemaNode.{SchemaNode}
 use Rattle.yp_journal.specs.declared.command.Command.{Command}
@@ -7,8 +7,8 @@ use Rattle.yp_journal.specs.declared.command.Command.TheVariants.{Tick, Edit, Ru
 use Rattle.yp_journal.specs.declared.entry.Entry.{Entry}
 use Rattle.yp_journal.specs.declared.receiver.ReceiverInfo.{ReceiverInfo}
 use Rattle.yp_journal.specs.History.{first_state, state_of}
-use Rattle.yp_attempt.specs.Attempts.{answers_in}
-use Rattle.yp_attempt.specs.Runs.{Reaches}
+use Rattle.yp_attempt.specs.Attempts.{answers_in, replay}
+use Rattle.yp_attempt.specs.Runs.{Reaches, first_run, waits}
 use Rattle.yp_attempt.specs.Workers.{numbers_of}
 use Rattle.yp_serial.specs.DueTicks.{HaveDueTicks}
 use Rattle.yp_serial.specs.Posts.{Queueing}
@@ -86,3 +86,8 @@ pub record IsServing (nodes : List SchemaNode) (receivers : List ReceiverInfo) (
   pub reaches : Reaches recorded (all_numbers receivers) (moments_of nodes receivers entries) (answers_in served.run.done) served.run
   pub ticks : HaveDueTicks served.run.standing.tracks
   pub ends : all_offered recorded (queueing_of receivers) served ≡ run_of nodes receivers entries
+
+-- a serial run is complete: its answers lead over all entries of the journal, and at its end nothing is offered any more
+pub record IsComplete (nodes : List SchemaNode) (receivers : List ReceiverInfo) (entries : List Entry) (served : Served) : Type 0 where
+  pub all : replay recorded (all_numbers receivers) first_run (moments_of nodes receivers entries) (answers_in served.run.done) ≡ record { run = served.run; rest = []; left = [] }
+  pub idle : waits recorded served.run ≡ None

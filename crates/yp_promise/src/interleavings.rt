@@ -5,7 +5,7 @@ ghost use Rattle.yp_schema.specs.WellFormed.{IsSchema};
 ghost use Rattle.yp_journal.specs.declared.entry.Entry.{Entry};
 ghost use Rattle.yp_journal.specs.declared.receiver.ReceiverInfo.{ReceiverInfo};
 ghost use Rattle.yp_journal.specs.History.{first_state, IsLegal};
-ghost use Rattle.yp_promise.specs.Interleaving.{EachInterleavingServes, TheSerialRunIsOne};
+ghost use Rattle.yp_promise.specs.Interleaving.{EachInterleavingServes, EndsWhereTheSerialRunEnds};
 
 use crate::runs::every_run_of_a_receiver_serves_it;
 use yp_moment::acts::what_feeds_are_handed_can_be_followed;
@@ -21,7 +21,7 @@ use yp_world::laws::{
 
 /// However writers, workers and receivers interleave over a legal journal, with at least one worker, each
 /// receiver is served. What its queue accepted is what the definition makes for it of the entries that its
-/// worker absorbed, line by line. After each update of a mirrored subscription it holds fresh selection under
+/// worker absorbed, one by one. After each update of a mirrored subscription it holds fresh selection under
 /// filter and access control at the update's journal position; positions never fall; nothing is named that its
 /// user may not read; suspensions and incomplete updates follow only full queues, and the next
 /// resynchronisation carries its own position's selection.
@@ -36,10 +36,10 @@ pub fn every_interleaving_serves_each_receiver()
     every_run_of_a_receiver_serves_it();
 }
 
-/// The serial run of a legal journal is an interleaving, with one worker: its events lead to the world of the
+/// An interleaving with one worker leads to where the serial run of a legal journal ends: to the world of the
 /// journal in which the worker stands where the serial run does, and each queue holds and was taken of as many.
-pub fn a_serial_run_is_an_interleaving()
-    ensures { (nodes : List SchemaNode) (receivers : List ReceiverInfo) (entries : List Entry) → IsSchema nodes → IsLegal nodes (first_state receivers) entries → TheSerialRunIsOne nodes receivers entries }
+pub fn an_interleaving_ends_where_the_serial_run_ends()
+    ensures { (nodes : List SchemaNode) (receivers : List ReceiverInfo) (entries : List Entry) → IsSchema nodes → IsLegal nodes (first_state receivers) entries → EndsWhereTheSerialRunEnds nodes receivers entries }
 {
     what_feeds_know_of_selections_is_lawful();
     entries_of_a_legal_journal_may_follow();

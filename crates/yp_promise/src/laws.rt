@@ -15,7 +15,7 @@ ghost use Rattle.yp_serial.specs.Serial.{Served, all_offered, first_served, serv
 ghost use Rattle.yp_serial.specs.Weights.{weights};
 ghost use Rattle.yp_promise.specs.Promise.{Serves};
 ghost use Rattle.yp_promise.specs.Received.{CanBeShown, received};
-ghost use Rattle.yp_promise.specs.Serving.{IsServing, queueing_of, run_entered, run_of};
+ghost use Rattle.yp_promise.specs.Serving.{IsComplete, IsServing, queueing_of, run_entered, run_of};
 ghost use Rattle.yp_promise.specs.Shown.{got_by, offered_to};
 
 use crate::runs::every_run_of_a_receiver_serves_it;
@@ -73,6 +73,19 @@ pub fn a_serial_run_goes_on_offer_by_offer()
     a_serial_run_offers_until_nothing_is_offered();
     each_answer_leaves_fewer_offers();
     a_serial_run_goes_on_entry_by_entry();
+}
+
+/// The serial run of a legal journal is complete: it goes over all entries, and at its end nothing is offered.
+pub fn a_serial_run_is_complete()
+    ensures { (nodes : List SchemaNode) (receivers : List ReceiverInfo) (entries : List Entry)
+        → IsSchema nodes → IsLegal nodes (first_state receivers) entries → IsComplete nodes receivers entries (run_of nodes receivers entries) }
+{
+    what_feeds_know_of_selections_is_lawful();
+    entries_of_a_legal_journal_may_follow();
+    what_feeds_are_handed_can_be_followed();
+    an_anchored_trigger_has_due_ticks();
+    a_serial_run_is_a_run();
+    what_is_reached_is_what_replaying_gives();
 }
 
 /// A receiver's part of the serial run of a legal journal is what the receiver's own answers lead to, and so a

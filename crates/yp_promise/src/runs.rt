@@ -16,8 +16,8 @@ use yp_attempt::laws::what_is_reached_is_what_replaying_gives;
 use yp_journal::laws::a_journal_keeps_a_datastore;
 use yp_mirror::laws::{
     a_copy_begins_with_a_full_update, a_receivers_copy_is_fresh_after_each_update,
-    every_attempt_tells_of_what_was_selected, incomplete_updates_follow_full_queues,
-    only_full_queues_suspend, positions_never_fall,
+    every_attempt_tells_of_what_was_selected, full_answers_come_at_rising_stamps,
+    incomplete_updates_follow_full_queues, only_full_queues_suspend, positions_never_fall,
     the_next_resynchronisation_carries_its_own_positions_selection,
 };
 use yp_moment::laws::{
@@ -46,6 +46,7 @@ pub fn every_run_of_a_receiver_serves_it()
     positions_never_fall();
     attempts_name_nothing_unreadable();
     only_full_queues_suspend();
+    full_answers_come_at_rising_stamps();
     incomplete_updates_follow_full_queues();
     the_next_resynchronisation_carries_its_own_positions_selection();
 }

@@ -1,7 +1,9 @@
-use Rattle.std.proofs.Common.{sym, ap}
+use Rattle.std.proofs.Common.{sym, ap, [], ◌∷◌}
+use Rattle.yp_attempt.specs.Attempts.{answers_in}
 use Rattle.yp_attempt.specs.Runs.{Run}
+use Rattle.yp_moment.specs.Entries.{moments_of}
 use Rattle.yp_promise.proofs.Copies.{CopyLaws, GoesByAsk, copies_begin, copies_fresh, positions_rise}
-use Rattle.yp_promise.proofs.Offers.{ConcealLaws, OfferLaws, all_concealed, leaves_out_after_full, resyncs_carry, suspends_after_eight}
+use Rattle.yp_promise.proofs.Offers.{ConcealLaws, OfferLaws, all_concealed, all_here, freezes_after_full, full_at_rising_stamps, leaves_out_after_full, resyncs_carry, suspends_after_eight, suspends_at_eighth}
 use Rattle.yp_promise.proofs.Own.{RunLaws, own_is, own_replay, own_rows}
 use Rattle.yp_promise.proofs.Showing.{held_writable}
 use Rattle.yp_promise.proofs.runs.every_run_of_a_receiver_serves_it.Goals as goal
@@ -27,12 +29,16 @@ returns-clause-serves c nodes receivers entries receiver run schema legal reache
     let offers : OfferLaws = record {
       suspends = c.only_full_queues_suspend.ensures.told;
       leaves_out = c.incomplete_updates_follow_full_queues.ensures.told;
+      stamps = c.full_answers_come_at_rising_stamps.ensures;
+      eighth = c.only_full_queues_suspend.ensures.steps;
+      freezes = c.incomplete_updates_follow_full_queues.ensures.steps;
       carries = carries.carries;
       here = carries.position;
     } in
     let conceals : ConcealLaws = record { made = hides.made; offered = hides.offered } in
     record {
       own = ap (λ (it : Run). it.done) (sym same);
+      here = all_here (receiver ∷ []) (moments_of nodes receivers entries) (answers_in run.done) run reaches;
       waiting = waiting;
       accepted = accepted;
       mirrors = copies_fresh nodes receivers entries receiver run got waiting copies of goes rows accepted;
@@ -40,7 +46,10 @@ returns-clause-serves c nodes receivers entries receiver run schema legal reache
       rising = positions_rise nodes receivers entries receiver run got waiting copies of goes rows accepted;
       concealed = all_concealed nodes receivers entries receiver run conceals schema legal same;
       suspends = suspends_after_eight nodes receivers entries receiver run offers of;
+      stamps = full_at_rising_stamps nodes receivers entries receiver run offers of;
+      eighth = suspends_at_eighth nodes receivers entries receiver run offers of same;
       leaves_out = leaves_out_after_full nodes receivers entries receiver run offers of;
+      freezes = freezes_after_full nodes receivers entries receiver run offers of same;
       resynchronises = resyncs_carry nodes receivers entries receiver run offers of goes;
     }
 

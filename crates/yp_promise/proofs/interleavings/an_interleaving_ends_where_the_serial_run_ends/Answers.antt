@@ -9,7 +9,7 @@ use Rattle.yp_promise.specs.Interleaving.{setup_of}
 use Rattle.yp_promise.specs.Serving.{queueing_of, taking_of}
 use Rattle.yp_promise.proofs.Interleaving.{have_places, many_places}
 use Rattle.yp_promise.proofs.Ticks.{all_due}
-use Rattle.yp_promise.proofs.interleavings.a_serial_run_is_an_interleaving.Goals as goal
+use Rattle.yp_promise.proofs.interleavings.an_interleaving_ends_where_the_serial_run_ends.Goals as goal
 
 pub returns : goal.returns
 returns c nodes receivers entries schema legal =
