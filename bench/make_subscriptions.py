@@ -7,12 +7,13 @@
     make_subscriptions.py whole N      a periodic subscription of everything over N entries of four rows: 40 updates
     make_subscriptions.py idle N       2,000 patches, each of one counter among N entries, without a subscription
     make_subscriptions.py alike N      the same with 64 subscriptions on change of one filter that doesn't select counters
+    make_subscriptions.py many N       the same with 256 subscriptions of that filter
     make_subscriptions.py apart N      the same with 64 subscriptions on change, each of another entry by its key
     make_subscriptions.py counted N    the same with 4 subscriptions on change of the counters of enabled entries
     make_subscriptions.py toggled N    2,000 patches, each of which enables or disables an entry, with 4 such
                                        subscriptions of enabled entries, so that each patch has one enter or leave
 
-With `short-` before its name a shape of the last five has its first 100 patches alone, so that what comes once is in
+With `short-` before its name a shape of the last six has its first 100 patches alone, so that what comes once is in
 both. Before each update of the others a patch changes one leaf, and a tick meets what is due of all subscriptions.
 """
 
@@ -112,6 +113,7 @@ ENABLED = of_entry({"enabled": True, "mtu": [None]})
 FOLLOWED: dict[str, Callable[[int, int], Iterator[Line]]] = {
     "idle": followed([], counter),
     "alike": followed([on_change(ENABLED)] * FOLLOWERS, counter),
+    "many": followed([on_change(ENABLED)] * FEEDS, counter),
     "apart": followed([on_change(of_entry({"name": interface_name(2 * number), "mtu": [None]})) for number in range(FOLLOWERS)], counter),
     "counted": followed([on_change(of_entry({"enabled": True, "stats": [None]}))] * 4, counter),
     "toggled": followed([on_change(of_entry({"enabled": True}))] * 4, switch),

@@ -93,19 +93,22 @@ REFUSED = b'"patch-id":"refused'
 def wanted(script: pathlib.Path) -> tuple[int, int]:
     """How many commands are accepted, and how many updates sent.
 
-    A subscription is told all once; one on change is then told each patch after it, and a periodic one is due at
-    each tick after it. The patches that are to be refused say so in their ids.
+    A subscription is told all once; one on change is then told each patch after it, and a periodic one and one with
+    a dampening period are told something at each tick after it. The patches that are to be refused say so in their ids.
     """
     accepted = told = subscriptions = periods = 0
     with script.open("rb") as lines:
         for line in lines:
             if b'{"establish":' in line:
-                subscriptions += b'"on-change"' in line
-                periods += b'"periodic"' in line
+                is_dampened = b'"dampening-period"' in line
+                subscriptions += b'"on-change"' in line and not is_dampened
+                periods += b'"periodic"' in line or is_dampened
                 told += 1
             elif b'{"patch":' in line and REFUSED not in line:
                 accepted += 1
                 told += subscriptions
+            elif b'{"policy":' in line:
+                accepted += 1
             elif b'{"tick":' in line:
                 accepted += 1
                 told += periods

@@ -319,9 +319,34 @@ def busy_lanes() -> Iterator[tuple[str, bytes, Wanted]]:
     yield "two busy lanes", script.encode(), (report + "end\n").encode()
 
 
+def unmatched_entries() -> Iterator[tuple[str, bytes, Wanted]]:
+    """64 subscriptions whose filter matches none of 5,000 entries, and 8,000 patches that change one each."""
+    entries, feeds, patches = 5_000, 64, 8_000
+
+    def creation(number: int) -> str:
+        value = {"name": f"eth{number}", "enabled": False, "mtu": 1500, "stats": {"in": "0"}}
+        return edit(str(number), "create", f"/acme:interfaces/interface=eth{number}", {"acme:interface": [value]})
+
+    def counted(number: int) -> str:
+        target = f"/acme:interfaces/interface=eth{number % entries}/stats/in"
+        return f'{{"lane":1,"do":{patch(edit("e", "merge", target, {"acme:in": str(number)})).strip()}}}\n'
+
+    created = "".join(patch(*map(creation, range(first, first + 100))) for first in range(0, entries, 100))
+    wanted = compact({"acme:interfaces": {"interface": [{"enabled": True, "mtu": [None]}]}})
+    asked = f'{{"establish":{{"by":"r1","datastore":"ietf-datastores:operational","datastore-subtree-filter":{wanted},"on-change":{{}}}}}}\n'
+    lane = '{"lanes":1}\n' + "".join(map(counted, range(1, patches + 1))) + '{"join":true}\n'
+    script = START + SCHEMA + receiver("r1") + created + asked * feeds + lane
+    replies = "".join(reply(position) for position in range(1, entries // 100 + 1))
+    replies += "".join(reply(entries // 100 + 1 + at, given(FIRST_ID + at)) for at in range(feeds))
+    replies += "".join(reply(entries // 100 + feeds + number, lane=1, number=number) for number in range(1, patches + 1))
+    ids = [FIRST_ID + at for at in range(feeds)]
+    sent = "".join(full("r1", number, {}) for number in ids) + "".join(tree("r1", number, {}) for number in ids)
+    yield "8000 patches of entries that 64 filters leave out", script.encode(), f"{replies}{sent}end\n".encode()
+
+
 def large_cases() -> Iterator[tuple[str, bytes, Wanted]]:
     """A name, a script, and its report, or the line and the number of its fault."""
     for made in (
             long_lines, many_lines, large_schemas, many_policies, many_receivers, long_keys, wide_entries, many_rows, many_edits,
-            busy_lanes):
+            busy_lanes, unmatched_entries):
         yield from made()
