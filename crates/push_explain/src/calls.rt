@@ -124,7 +124,7 @@ fn change_members(name: &str) -> &'static str {
     }
 }
 
-/// How many triggers are wrong in the call of a name.
+/// What is said where a call has not as many triggers as it may have.
 fn triggers_of(name: &str) -> &'static str {
     if begins(name) {
         "it has not exactly one of `periodic` and `on-change`"

@@ -17,7 +17,7 @@ use yp_schema::schema::Schema;
 /// The most slashes of a target that are tried as parts of a key.
 const MOST_SLASHES: usize = 8;
 
-/// What a tag means that is about what the datastore holds.
+/// What is wrong by an edit's error, in words.
 fn meaning_of(tag: &str, op: EditOp) -> &'static str {
     match tag {
         "data-exists" => "something is there: `merge` or `replace` it",
@@ -110,7 +110,7 @@ fn escaped(alloc: Global, schema: &Schema, target: &str) -> Result<Option<String
     let Some((front, keys)) = target.split_once('=') else {
         return Ok(None);
     };
-    for count in 1..MOST_SLASHES {
+    for count in 1..=MOST_SLASHES {
         let written = keys.replacen(alloc, "/", "%2F", count)?;
         let whole = format!(in alloc; "{front}={written}")?;
         match read_target(alloc, schema, whole.as_str()) {

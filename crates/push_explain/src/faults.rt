@@ -51,7 +51,7 @@ fn explained(alloc: Global, lines: &Lines, found: Found) -> Result<String, NoMem
     Ok(text)
 }
 
-/// What is put in place of a line with a fault, so that the lines behind it can be judged: a start or a part
+/// What is put in place of a line with a fault, so that the lines after it can be judged: a start or a part
 /// of the schema where there was none, the lanes' beginning or end, and else nothing.
 fn replacement(alloc: Global, lines: &Lines, found: Found) -> Result<&'static str, NoMemory> {
     let before = Before::line(alloc, lines, found.line)?;
@@ -95,7 +95,7 @@ fn next_fault(alloc: Global, lines: &mut Lines, last: Found) -> Result<Option<Fo
     }
 }
 
-/// The explanations of the faults behind the first.
+/// The explanations of the faults after the first.
 fn more_faults(alloc: Global, lines: &mut Lines, first: Found) -> Result<String, NoMemory> {
     let mut told = String::new(alloc);
     let mut last = first;

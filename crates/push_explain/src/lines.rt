@@ -39,13 +39,15 @@ impl<'a> Lines<'a> {
 
     /// The line of a number, from 1 on, where it is there.
     pub fn get(&self, number: u32) -> Option<&'a [u8]> {
-        self.texts.get((number as usize).saturating_sub(1)).copied()
+        self.texts.get((number as usize).checked_sub(1)?).copied()
     }
 
     /// Puts a text in place of a line.
     pub fn replace(&mut self, number: u32, text: &'a [u8]) {
-        if let Some(line) = self.texts.get_mut((number as usize).saturating_sub(1)) {
-            *line = text;
+        if let Some(place) = (number as usize).checked_sub(1) {
+            if let Some(line) = self.texts.get_mut(place) {
+                *line = text;
+            }
         }
     }
 

@@ -23,8 +23,8 @@ use yp_schema::schema::Schema;
 use yp_script::script::Script;
 use yp_terms::refused::Refused;
 
-/// The most lanes, and the commands outside of them.
-const MOST_LANES: usize = 65;
+/// The most lanes of a script.
+const MOST_LANES: usize = 64;
 
 /// A reply that refuses: the lane and the number of its command, and its answer.
 #[derive(Drop)]
@@ -80,7 +80,7 @@ fn lane_of(json: &Json) -> Option<usize> {
 /// The numbers of the lines that have commands, for those outside of lanes and for each lane.
 fn command_lines(alloc: Global, lines: &Lines) -> Result<Vec<Vec<u32>>, NoMemory> {
     let mut lanes: Vec<Vec<u32>> = Vec::new(alloc);
-    for _lane in 0..MOST_LANES {
+    for _lane in 0..=MOST_LANES {
         lanes.push(Vec::new(alloc))?;
     }
     let mut number = 0u32;
