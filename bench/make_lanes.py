@@ -8,7 +8,7 @@
 
 One patch creates 64 interfaces with an mtu each, and three receivers subscribe to everything. Then each line of
 the lanes is a patch that gives one interface another mtu; each lane has interfaces of its own, one after another.
-The time passes once, behind the lanes.
+The time passes once, after the lanes.
 """
 
 from __future__ import annotations

@@ -94,7 +94,7 @@ def subscribed(count: int = 1, data: object = None, *, before: str = "", past: i
 
 
 def after_replies(report: bytes, more: str) -> bytes:
-    """The report with one more reply behind those that it has."""
+    """The report with one more reply after those that it has."""
     replies, sent, rest = report.decode().partition("to r1 ")
     return f"{replies}{more}{sent}{rest}".encode()
 
