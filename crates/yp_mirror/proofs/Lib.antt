@@ -14,3 +14,4 @@ pub mod Histories
 pub mod Promises
 pub mod Examples
 pub mod Keeping
+pub mod Living

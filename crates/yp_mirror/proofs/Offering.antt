@@ -48,7 +48,7 @@ first_flags false false false false false false false trigger other item f e = f
 abbrev pub Offered : FeedState → Item → Type 0
 Offered f item = Flags f.owed.incomplete f.owed.suspended f.owed.resumed f.owed.sync f.owed.terminated f.trigger item
 
-unblocked : {X : Type 0} → (b : Bool) (x : Option X) (y : X) → (if b then None else x) ≡ Some y → (b ≡ false) × (x ≡ Some y)
+pub unblocked : {X : Type 0} → (b : Bool) (x : Option X) (y : X) → (if b then None else x) ≡ Some y → (b ≡ false) × (x ≡ Some y)
 unblocked true x y e = absurd (none-some y e)
 unblocked false x y e = (refl, e)
 

@@ -23,7 +23,7 @@ use Rattle.yp_mirror.proofs.Entering.{moment_linked, new_linked}
 -- ---- an answer
 
 -- the tracks with one that may have ended in the place of another
-put_all : (P : Track → Type 0) (before : List Track) (track : Track) (after : List Track) (b : Bool) → track.feed.ended ≡ b → AllByRecursion P before → (track.feed.ended ≡ false → P track) → AllByRecursion P after → AllByRecursion P (before ++ ((if b then [] else track ∷ []) ++ after))
+pub put_all : (P : Track → Type 0) (before : List Track) (track : Track) (after : List Track) (b : Bool) → track.feed.ended ≡ b → AllByRecursion P before → (track.feed.ended ≡ false → P track) → AllByRecursion P after → AllByRecursion P (before ++ ((if b then [] else track ∷ []) ++ after))
 put_all P before track after true e f g h = all_append P before after f h
 put_all P before track after false e f g h = all_append P before (track ∷ after) f (g e, h)
 

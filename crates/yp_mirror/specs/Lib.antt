@@ -4,3 +4,4 @@ pub mod Following
 pub mod Links
 pub mod FullQueues
 pub mod Keeping
+pub mod Living

@@ -14,6 +14,7 @@ ghost use Rattle.yp_mirror.specs.Stories.{Story, Steady, Leads, IsStory, story_o
 ghost use Rattle.yp_mirror.specs.Following.{IsMadeOf, IsLessThan};
 ghost use Rattle.yp_mirror.specs.Keeping.{HasUpdateAtBase, IsSteadySinceBase, KeepsFromUpdate};
 ghost use Rattle.yp_mirror.specs.Links.{RunIsLinked, IsRunOf, IsAttemptOf};
+ghost use Rattle.yp_mirror.specs.Living.{IsOfLiving};
 ghost use Rattle.yp_mirror.specs.FullQueues.{SuspendsAtEighth, FreezesAfterFull, HasFull, HasEightFull};
 
 use yp_attempt::laws::{the_first_offer_is_found, what_replaying_gives_is_reached};
@@ -40,6 +41,15 @@ pub fn every_run_of_a_receiver_is_linked()
     ensures { (c : Content) → IsLawful c → (story : Story) → Leads c story → (receiver : ℕ) (journal : List Moment) → IsStory story receiver journal
         → (past : List Moment) (answers : List Answer) (run : Run) → Reaches c (receiver ∷ []) past answers run
         → (rest : List Moment) → past ++ rest ≡ journal → RunIsLinked c story receiver past run }
+{
+    the_first_offer_is_found();
+}
+
+/// Each attempt for a receiver is of a subscription that has this receiver where it is offered: one that was
+/// started for it, and not dropped since. And each update is of one that hasn't ended there.
+pub fn every_attempt_is_of_a_subscription_that_lives()
+    ensures { (c : Content) (receiver : ℕ) (past : List Moment) (answers : List Answer) (run : Run) → Reaches c (receiver ∷ []) past answers run
+        → AllByRecursion (IsOfLiving receiver past) run.done }
 {
     the_first_offer_is_found();
 }

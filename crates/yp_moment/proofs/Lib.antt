@@ -8,3 +8,4 @@ pub mod Starting
 pub mod Leading
 pub mod Naming
 pub mod Visible
+pub mod Living

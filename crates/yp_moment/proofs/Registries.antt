@@ -43,7 +43,7 @@ pub record IdsRise : Type 0 where
   pub configure : (nodes : List SchemaNode) (registry : Subscriptions) (id : ℕ) (receivers : List (List ℕ)) (ask : Ask) (now : ℕ) → HasRisingIds registry → HasRisingIds (newly_configured nodes registry id receivers ask now)
 
 module _ (laws : IdsRise) (nodes : List SchemaNode) where
-  ids_next : (state : JournalState) (command : Command) → HasRisingIds state.registry → HasRisingIds (next_state nodes state command).registry
+  pub ids_next : (state : JournalState) (command : Command) → HasRisingIds state.registry → HasRisingIds (next_state nodes state command).registry
   ids_next state (Tick tick) ids = ids
   ids_next state (Edit patch) ids = ids
   ids_next state (Rules policy) ids = ids

@@ -5,3 +5,4 @@ pub mod Followed
 pub mod Concealed
 pub mod Visible
 pub mod Notices
+pub mod Living

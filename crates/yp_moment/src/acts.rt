@@ -1,5 +1,5 @@
 //! Laws of what the entries of legal journals do to subscriptions; nothing runs.
-ghost use Rattle.std.specs.Prelude.{◌≡◌, ℕ, ◌≤◌, ◌==◌, ◌++◌, true, false, List, [], ◌∷◌, Option, Some, None, IsSomeAnd};
+ghost use Rattle.std.specs.Prelude.{◌≡◌, ℕ, ◌≤◌, ◌==◌, ◌++◌, true, false, List, [], ◌∷◌, take, Option, Some, None, IsSomeAnd};
 ghost use Rattle.std.specs.List.{list_any, AllByRecursion};
 ghost use Rattle.yp_base.specs.declared.notice.Trigger.{Trigger};
 ghost use Rattle.yp_schema.specs.declared.schema.SchemaNode.{SchemaNode};
@@ -22,9 +22,11 @@ ghost use Rattle.yp_journal.specs.declared.receiver.ReceiverInfo.{ReceiverInfo};
 ghost use Rattle.yp_journal.specs.declared.reply.Reply.TheVariants.{Done, Id};
 ghost use Rattle.yp_journal.specs.History.{JournalState, first_state, state_of, next_state, reply_to, is_refusal, IsLegal};
 ghost use Rattle.yp_attempt.specs.Moments.{Quiet, Starts, Controls, Drops};
+ghost use Rattle.yp_mirror.specs.Living.{has_ended, has_receiver};
 ghost use Rattle.yp_moment.specs.Entries.{selected_at, moment_of, moments_of};
 ghost use Rattle.yp_moment.specs.Followed.{CanBeFollowed};
 ghost use Rattle.yp_moment.specs.Ids.{was_given};
+ghost use Rattle.yp_moment.specs.Living.{IsLiveAt};
 
 use yp_journal::laws::a_journal_keeps_users_and_names;
 use yp_registry::laws::{
@@ -189,4 +191,25 @@ pub fn an_end_is_told_or_not()
 {
     a_call_is_done_or_leaves_the_registry();
     an_end_takes_one_subscription_away();
+}
+
+/// A subscription that has a receiver by the entries of a legal journal up to a position, and hasn't ended by
+/// them, is live there: the registry has it, for this receiver.
+pub fn what_has_a_receiver_is_live_until_it_ends()
+    ensures { (nodes : List SchemaNode) (receivers : List ReceiverInfo) (entries : List Entry) → IsLegal nodes (first_state receivers) entries
+        → (receiver id n : ℕ) → has_receiver id receiver (take n (moments_of nodes receivers entries)) ≡ true → has_ended id (take n (moments_of nodes receivers entries)) ≡ false
+        → IsLiveAt nodes receivers entries receiver id n }
+{
+    ids_rise();
+    ids_rise_after_each_call();
+    an_id_is_given_once();
+    an_establishment_adds_one_subscription();
+    an_id_is_configured_once();
+    a_configuration_adds_one_subscription();
+    an_amendment_changes_one_subscription();
+    an_end_takes_one_subscription_away();
+    a_call_is_done_or_leaves_the_registry();
+    a_call_that_is_done_has_its_subscription();
+    a_legal_journal_keeps_its_registry();
+    no_id_is_given_twice();
 }

@@ -12,9 +12,11 @@ use Rattle.yp_attempt.specs.Attempts.{Notification, answers_in, attempts, replay
 use Rattle.yp_attempt.specs.Runs.{Run, first_run}
 use Rattle.yp_mirror.specs.Following.{IsLessThan}
 use Rattle.yp_mirror.specs.FullQueues.{FreezesAfterFull, SuspendsAtEighth}
-use Rattle.yp_mirror.specs.Heard.{is_full_update, is_incomplete_update, of_sub, told_by, IsTakenUpdate}
+use Rattle.yp_mirror.specs.Heard.{is_full_update, is_incomplete_update, is_update, of_sub, told_by, IsTakenUpdate}
+use Rattle.yp_mirror.specs.Living.{IsOfLiving}
 use Rattle.yp_moment.specs.Concealed.{NamesReadable}
 use Rattle.yp_moment.specs.Entries.{Grants, moments_of, selected_at}
+use Rattle.yp_moment.specs.Living.{IsLiveAt}
 use Rattle.yp_moment.specs.Windows.{recorded}
 use Rattle.yp_receiver.specs.Held.{held_of}
 use Rattle.yp_world.specs.Headline.{LeavesOutAfterFull, NeverFalls, SuspendsAfterEight, is_update_of}
@@ -55,6 +57,10 @@ pub record IsConcealed (nodes : List SchemaNode) (receivers : List ReceiverInfo)
 abbrev pub IsMadeWhereOffered : Attempt → Type 0
 IsMadeWhereOffered a = is_incomplete_update a.made.body ≡ false → (a.made.position ≡ a.at) × (a.made.tick ≡ a.stamp)
 
+-- an update is of a subscription that the registry has where it is offered, for this receiver
+abbrev pub IsOfLiveAt : List SchemaNode → List ReceiverInfo → List Entry → ℕ → Attempt → Type 0
+IsOfLiveAt nodes receivers entries receiver a = is_update a.made.body ≡ true → IsLiveAt nodes receivers entries receiver a.sub a.at
+
 -- each full answer comes at a later stamp than the full answer before it: so full answers in a row come at as many stamps
 abbrev pub IsFullAtRisingStamps : List Attempt → Type 0
 IsFullAtRisingStamps offered = (before : List Attempt) (a : Attempt) (after : List Attempt) → offered ≡ before ++ a ∷ after → is_taken a.answer ≡ false → IsLessThan (told_by recorded (of_sub a.sub before)).last_full a.stamp
@@ -85,6 +91,9 @@ pub record Serves (nodes : List SchemaNode) (receivers : List ReceiverInfo) (ent
   pub own : offered ≡ attempts recorded (receiver ∷ []) (moments_of nodes receivers entries) (answers_in offered)
   -- each was made where it was offered, but for what was set aside
   pub here : AllByRecursion IsMadeWhereOffered offered
+  -- each was of a subscription that had started for the receiver and was not dropped since, and each update of one that had not ended: where it was offered, the registry had it, for this receiver
+  pub lives : AllByRecursion (IsOfLiving receiver (moments_of nodes receivers entries)) offered
+  pub live : AllByRecursion (IsOfLiveAt nodes receivers entries receiver) offered
   -- what it took was accepted first, in the same order
   pub waiting : List Notification
   pub accepted : taken_of offered ≡ got ++ waiting

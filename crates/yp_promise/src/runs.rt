@@ -16,10 +16,12 @@ use yp_attempt::laws::what_is_reached_is_what_replaying_gives;
 use yp_journal::laws::a_journal_keeps_a_datastore;
 use yp_mirror::laws::{
     a_copy_begins_with_a_full_update, a_receivers_copy_is_fresh_after_each_update,
-    every_attempt_tells_of_what_was_selected, full_answers_come_at_rising_stamps,
-    incomplete_updates_follow_full_queues, only_full_queues_suspend, positions_never_fall,
+    every_attempt_is_of_a_subscription_that_lives, every_attempt_tells_of_what_was_selected,
+    full_answers_come_at_rising_stamps, incomplete_updates_follow_full_queues,
+    only_full_queues_suspend, positions_never_fall,
     the_next_resynchronisation_carries_its_own_positions_selection,
 };
+use yp_moment::acts::what_has_a_receiver_is_live_until_it_ends;
 use yp_moment::laws::{
     a_legal_journal_tells_what_is_selected, attempts_name_nothing_unreadable,
     what_a_legal_journal_makes_is_a_run_of_its_story,
@@ -41,6 +43,8 @@ pub fn every_run_of_a_receiver_serves_it()
     a_legal_journal_tells_what_is_selected();
     a_journal_keeps_a_datastore();
     every_attempt_tells_of_what_was_selected();
+    every_attempt_is_of_a_subscription_that_lives();
+    what_has_a_receiver_is_live_until_it_ends();
     a_receivers_copy_is_fresh_after_each_update();
     a_copy_begins_with_a_full_update();
     positions_never_fall();

@@ -1,7 +1,11 @@
 use Rattle.std.proofs.Common.{sym, ap, [], ◌∷◌}
 use Rattle.yp_attempt.specs.Attempts.{answers_in}
+use Rattle.yp_attempt.specs.ListLaws.{all_weaker}
 use Rattle.yp_attempt.specs.Runs.{Run}
+use Rattle.yp_mirror.specs.Living.{IsOfLiving}
 use Rattle.yp_moment.specs.Entries.{moments_of}
+use Rattle.yp_moment.specs.Windows.{recorded}
+use Rattle.yp_promise.specs.Promise.{IsOfLiveAt}
 use Rattle.yp_promise.proofs.Copies.{CopyLaws, GoesByAsk, copies_begin, copies_fresh, positions_rise}
 use Rattle.yp_promise.proofs.Offers.{ConcealLaws, OfferLaws, all_concealed, all_here, freezes_after_full, full_at_rising_stamps, leaves_out_after_full, resyncs_carry, suspends_after_eight, suspends_at_eighth}
 use Rattle.yp_promise.proofs.Own.{RunLaws, own_is, own_replay, own_rows}
@@ -36,9 +40,14 @@ returns-clause-serves c nodes receivers entries receiver run schema legal reache
       here = carries.position;
     } in
     let conceals : ConcealLaws = record { made = hides.made; offered = hides.offered } in
+    let journal = moments_of nodes receivers entries in
+    let lives = c.every_attempt_is_of_a_subscription_that_lives.ensures recorded receiver journal (answers_in run.done) run reaches in
     record {
       own = ap (λ (it : Run). it.done) (sym same);
       here = all_here (receiver ∷ []) (moments_of nodes receivers entries) (answers_in run.done) run reaches;
+      lives = lives;
+      live = all_weaker (IsOfLiving receiver journal) (IsOfLiveAt nodes receivers entries receiver) run.done
+          (λ a h update. c.what_has_a_receiver_is_live_until_it_ends.ensures nodes receivers entries legal receiver a.sub a.at h.has (h.lives update)) lives;
       waiting = waiting;
       accepted = accepted;
       mirrors = copies_fresh nodes receivers entries receiver run got waiting copies of goes rows accepted;
