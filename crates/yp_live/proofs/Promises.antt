@@ -13,7 +13,7 @@ use Rattle.yp_script.specs.declared.script.Script.{Script}
 use Rattle.yp_script.specs.Script.{AreReceivers, IsReceiver, script_in}
 use Rattle.yp_serial.specs.Serial.{Served}
 use Rattle.yp_receiver.specs.Held.{lines_heard}
-use Rattle.yp_promise.specs.Interleaving.{EachInterleavingServes, EndsWhereTheSerialRunEnds}
+use Rattle.yp_promise.specs.Interleaving.{EachInterleavingServes, OneIsTheSerialRun}
 use Rattle.yp_promise.specs.Posts.{HavePosts}
 use Rattle.yp_promise.specs.Promise.{Serves}
 use Rattle.yp_promise.specs.Received.{CanBeShown, received}
@@ -47,7 +47,7 @@ abbrev pub AreInterleaved : Type 0
 AreInterleaved = (nodes : List SchemaNode) (receivers : List ReceiverInfo) (entries : List Entry) → IsSchema nodes → IsLegal nodes (first_state receivers) entries → EachInterleavingServes nodes receivers entries
 
 abbrev pub AreInterleavings : Type 0
-AreInterleavings = (nodes : List SchemaNode) (receivers : List ReceiverInfo) (entries : List Entry) → IsSchema nodes → IsLegal nodes (first_state receivers) entries → EndsWhereTheSerialRunEnds nodes receivers entries
+AreInterleavings = (nodes : List SchemaNode) (receivers : List ReceiverInfo) (entries : List Entry) → IsSchema nodes → IsLegal nodes (first_state receivers) entries → OneIsTheSerialRun nodes receivers entries
 
 abbrev pub AreShown : Type 0
 AreShown = (nodes : List SchemaNode) (receivers : List ReceiverInfo) (entries : List Entry) (receiver : ℕ)

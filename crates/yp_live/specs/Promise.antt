@@ -5,7 +5,7 @@ use Rattle.yp_journal.specs.declared.entry.Entry.{Entry}
 use Rattle.yp_journal.specs.History.{first_state, IsLegal}
 use Rattle.yp_script.specs.declared.script.Script.{Script}
 use Rattle.yp_script.specs.Script.{script_in}
-use Rattle.yp_promise.specs.Interleaving.{EachInterleavingServes, EndsWhereTheSerialRunEnds}
+use Rattle.yp_promise.specs.Interleaving.{EachInterleavingServes, OneIsTheSerialRun}
 use Rattle.yp_promise.specs.Posts.{HavePosts}
 use Rattle.yp_promise.specs.Promise.{Serves}
 use Rattle.yp_promise.specs.Serving.{IsComplete, run_of}
@@ -38,8 +38,8 @@ pub record IsServed (script : Script) (entries : List Entry) : Type 0 where
       → LinesMirror script.schema script.receivers entries receiver script.start (got_by receiver (run_of script.schema script.receivers entries))
   -- and however writers, workers and receivers interleave, each receiver is served too: by each journal of the script, in whatever order its lanes' commands came, and by each list of events that appends its entries, with one worker or more
   pub interleaved : (journal : List Entry) → IsJournalOf script journal → IsLegal script.schema (first_state script.receivers) journal → EachInterleavingServes script.schema script.receivers journal
-  -- of which one leads to where the serial run ends
-  pub interleaving : EndsWhereTheSerialRunEnds script.schema script.receivers entries
+  -- of which one is the serial run, notification for notification
+  pub interleaving : OneIsTheSerialRun script.schema script.receivers entries
 
 -- a text that tells of a script's run: there are the script and the journal of its run, such that ..
 pub record Tells (bytes text : List ℕ) : Type 0 where

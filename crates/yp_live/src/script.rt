@@ -20,7 +20,7 @@ use yp_hearing::laws::{
     the_trees_of_lines_mirror,
 };
 use yp_promise::interleavings::{
-    an_interleaving_ends_where_the_serial_run_ends, every_interleaving_serves_each_receiver,
+    an_interleaving_is_the_serial_run, every_interleaving_serves_each_receiver,
 };
 use yp_promise::laws::{
     a_serial_run_is_complete, what_a_serial_run_makes_serves, what_receivers_hold_can_be_shown,
@@ -79,7 +79,7 @@ fn report_by<L: Ledger>(alloc: Global, script: Script, blank: Blank) -> Result<S
 {
     what_a_serial_run_makes_serves();
     every_interleaving_serves_each_receiver();
-    an_interleaving_ends_where_the_serial_run_ends();
+    an_interleaving_is_the_serial_run();
     what_receivers_hold_can_be_shown();
     a_scripts_commands_have_utf8();
     a_receiver_holds_what_its_lines_tell();
@@ -106,7 +106,7 @@ fn summary_by<L: Ledger>(alloc: Global, script: Script, blank: Blank) -> Result<
 {
     what_a_serial_run_makes_serves();
     every_interleaving_serves_each_receiver();
-    an_interleaving_ends_where_the_serial_run_ends();
+    an_interleaving_is_the_serial_run();
     a_scripts_commands_have_utf8();
     a_receiver_holds_what_its_lines_tell();
     the_trees_of_lines_mirror();

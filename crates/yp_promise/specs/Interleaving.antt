@@ -42,7 +42,7 @@ abbrev pub EachInterleavingServes : List SchemaNode → List ReceiverInfo → Li
 EachInterleavingServes nodes receivers entries = (workers : ℕ) (events : List Event) → 0 < workers → AppendAll nodes receivers workers entries events
     → (receiver : ℕ) → receiver < length receivers → IsServedAfter nodes receivers workers entries events receiver
 
--- one of them, with one worker, leads to where the serial run of a journal ends: there are events that lead to the world of the journal in which the worker stands where the serial run does, and each queue holds and was taken of as many
-abbrev pub EndsWhereTheSerialRunEnds : List SchemaNode → List ReceiverInfo → List Entry → Type 0
-EndsWhereTheSerialRunEnds nodes receivers entries =
-    LeadTo (setup_of receivers 1) (first_world (setup_of receivers 1)) (moments_of nodes receivers entries) (run_of nodes receivers entries).run.standing (run_of nodes receivers entries).posts
+-- one of them, with one worker, is the serial run of a journal, notification for notification: there are events that lead to the world of the journal in which the worker stands where the serial run does, each queue gave the same answers, each receiver took the same notifications in the same order, and the same stand in its queue
+abbrev pub OneIsTheSerialRun : List SchemaNode → List ReceiverInfo → List Entry → Type 0
+OneIsTheSerialRun nodes receivers entries =
+    LeadTo (setup_of receivers 1) (first_world (setup_of receivers 1)) (moments_of nodes receivers entries) (run_of nodes receivers entries)

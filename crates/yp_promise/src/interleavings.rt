@@ -5,7 +5,7 @@ ghost use Rattle.yp_schema.specs.WellFormed.{IsSchema};
 ghost use Rattle.yp_journal.specs.declared.entry.Entry.{Entry};
 ghost use Rattle.yp_journal.specs.declared.receiver.ReceiverInfo.{ReceiverInfo};
 ghost use Rattle.yp_journal.specs.History.{first_state, IsLegal};
-ghost use Rattle.yp_promise.specs.Interleaving.{EachInterleavingServes, EndsWhereTheSerialRunEnds};
+ghost use Rattle.yp_promise.specs.Interleaving.{EachInterleavingServes, OneIsTheSerialRun};
 
 use crate::runs::every_run_of_a_receiver_serves_it;
 use yp_moment::acts::what_feeds_are_handed_can_be_followed;
@@ -36,10 +36,11 @@ pub fn every_interleaving_serves_each_receiver()
     every_run_of_a_receiver_serves_it();
 }
 
-/// An interleaving with one worker leads to where the serial run of a legal journal ends: to the world of the
-/// journal in which the worker stands where the serial run does, and each queue holds and was taken of as many.
-pub fn an_interleaving_ends_where_the_serial_run_ends()
-    ensures { (nodes : List SchemaNode) (receivers : List ReceiverInfo) (entries : List Entry) → IsSchema nodes → IsLegal nodes (first_state receivers) entries → EndsWhereTheSerialRunEnds nodes receivers entries }
+/// An interleaving with one worker is the serial run of a legal journal, notification for notification. It leads
+/// to the world of the journal in which the worker stands where the serial run does, each queue gave the same
+/// answers, each receiver took the same notifications in the same order, and the same stand in its queue.
+pub fn an_interleaving_is_the_serial_run()
+    ensures { (nodes : List SchemaNode) (receivers : List ReceiverInfo) (entries : List Entry) → IsSchema nodes → IsLegal nodes (first_state receivers) entries → OneIsTheSerialRun nodes receivers entries }
 {
     what_feeds_know_of_selections_is_lawful();
     entries_of_a_legal_journal_may_follow();

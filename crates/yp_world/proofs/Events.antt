@@ -58,7 +58,7 @@ taken_one_more (x ∷ offered) a = by x.answer (taken_one_more offered a)
     by Full h = h
 
 -- an accepted offer found a free place
-room_by : (delivery : Delivery) (b : Bool) → nat_lt (length delivery.queue) delivery.places ≡ b → (if b then Took else Full) ≡ Took → length delivery.queue < delivery.places
+pub room_by : (delivery : Delivery) (b : Bool) → nat_lt (length delivery.queue) delivery.places ≡ b → (if b then Took else Full) ≡ Took → length delivery.queue < delivery.places
 room_by delivery true e took = ltb-true (length delivery.queue) delivery.places e
 room_by delivery false e took = absurd (true≢false (ap is_took (sym took)))
   where
@@ -66,7 +66,7 @@ room_by delivery false e took = absurd (true≢false (ap is_took (sym took)))
     is_took Took = true
     is_took Full = false
 
-delivered : (delivery : Delivery) (offered : List Attempt) (a : Attempt) (answer : Answer) → a.answer ≡ answer → (answer ≡ Took → length delivery.queue < delivery.places) → IsDeliveryOf delivery offered
+pub delivered : (delivery : Delivery) (offered : List Attempt) (a : Attempt) (answer : Answer) → a.answer ≡ answer → (answer ≡ Took → length delivery.queue < delivery.places) → IsDeliveryOf delivery offered
     → IsDeliveryOf (delivery_after answer (notification_of a) delivery) (offered ++ a ∷ [])
 delivered delivery offered a Took e room is = record {
   answers = answers_one_more offered a ∙ (λ i. is.answers i ++ e i ∷ []);
@@ -80,7 +80,7 @@ delivered delivery offered a Full e room is = record {
 }
 
 -- a receiver took the first of its queue
-first_taken : (delivery : Delivery) (n : Notification) (queue : List Notification) (offered : List Attempt) → delivery.queue ≡ n ∷ queue → IsDeliveryOf delivery offered
+pub first_taken : (delivery : Delivery) (n : Notification) (queue : List Notification) (offered : List Attempt) → delivery.queue ≡ n ∷ queue → IsDeliveryOf delivery offered
     → IsDeliveryOf (record delivery { queue = queue; taken = delivery.taken ++ n ∷ [] }) offered
 first_taken delivery n queue offered e is = record {
   answers = is.answers;
@@ -89,12 +89,12 @@ first_taken delivery n queue offered e is = record {
 }
 
 -- the attempts for a receiver after one more
-own_more : (receiver : ℕ) (done : List Attempt) (a : Attempt) → (a.receiver == receiver) ≡ true → of_receiver receiver (done ++ a ∷ []) ≡ of_receiver receiver done ++ a ∷ []
+pub own_more : (receiver : ℕ) (done : List Attempt) (a : Attempt) → (a.receiver == receiver) ≡ true → of_receiver receiver (done ++ a ∷ []) ≡ of_receiver receiver done ++ a ∷ []
 own_more receiver done a e =
     let is_its : Attempt → Bool = (λ x. x.receiver == receiver) in
     filter-append is_its done (a ∷ []) ∙ ap (λ (xs : List Attempt). of_receiver receiver done ++ xs) (filter_pass is_its a [] e)
 
-other_more : (receiver : ℕ) (done : List Attempt) (a : Attempt) → (a.receiver == receiver) ≡ false → of_receiver receiver (done ++ a ∷ []) ≡ of_receiver receiver done
+pub other_more : (receiver : ℕ) (done : List Attempt) (a : Attempt) → (a.receiver == receiver) ≡ false → of_receiver receiver (done ++ a ∷ []) ≡ of_receiver receiver done
 other_more receiver done a e =
     let is_its : Attempt → Bool = (λ x. x.receiver == receiver) in
     filter-append is_its done (a ∷ []) ∙ (ap (λ (xs : List Attempt). of_receiver receiver done ++ xs) (filter_fail is_its a [] e) ∙ append-nil (of_receiver receiver done))
@@ -119,7 +119,7 @@ append_holds setup world m false e h = h
 
 -- ---- a worker absorbs
 
-self_is : (a : ℕ) → (a == a) ≡ true
+pub self_is : (a : ℕ) → (a == a) ≡ true
 self_is a = grind arith
 
 not_equal : (a b : ℕ) → (a == b) ≡ false → a ≡ b → ⊥

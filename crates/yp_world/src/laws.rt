@@ -85,12 +85,12 @@ pub fn a_world_that_holds_serves_its_receivers()
 
 /// A serial run is a list of events, with one worker: each entry is appended, then receivers take what they
 /// take by it, the worker absorbs the entry, and it offers until nothing is offered, where a receiver that takes
-/// each notification at once takes what was accepted. They lead to where the serial run stands, and each queue
-/// holds and was taken of as many. So what is said of every list of events is said of it.
+/// each notification at once takes what was accepted. They lead to where the serial run stands: there each
+/// queue gave the answers that it gave in the serial run, each receiver took the same notifications in the same
+/// order, and the same stand in its queue. So what is said of every list of events is said of it.
 pub fn a_serial_run_is_a_list_of_events()
     ensures { (c : Content) → IsLawful c → (q : Queueing) (places : List ℕ) → HavePlaces places q → (takes : Taking) (journal : List Moment) → AllMayFollow [] journal → GiveDueTicks journal
-        → LeadTo (record { content = c; workers = 1; places = places }) (first_world (record { content = c; workers = 1; places = places })) journal
-        (serial_run c (numbers_of 0 1 (length places)) q takes journal).run.standing (serial_run c (numbers_of 0 1 (length places)) q takes journal).posts }
+        → LeadTo (record { content = c; workers = 1; places = places }) (first_world (record { content = c; workers = 1; places = places })) journal (serial_run c (numbers_of 0 1 (length places)) q takes journal) }
 {
     the_first_offer_is_found();
     a_serial_run_is_a_run();

@@ -9,7 +9,7 @@ use Rattle.yp_promise.specs.Interleaving.{setup_of}
 use Rattle.yp_promise.specs.Serving.{queueing_of, taking_of}
 use Rattle.yp_promise.proofs.Interleaving.{have_places, many_places}
 use Rattle.yp_promise.proofs.Ticks.{all_due}
-use Rattle.yp_promise.proofs.interleavings.an_interleaving_ends_where_the_serial_run_ends.Goals as goal
+use Rattle.yp_promise.proofs.interleavings.an_interleaving_is_the_serial_run.Goals as goal
 
 pub returns : goal.returns
 returns c nodes receivers entries schema legal =
@@ -17,7 +17,6 @@ returns c nodes receivers entries schema legal =
     let may = c.entries_of_a_legal_journal_may_follow.ensures nodes receivers entries schema legal in
     let journal = moments_of nodes receivers entries in
     subst
-    (λ (n : ℕ). LeadTo (setup_of receivers 1) (first_world (setup_of receivers 1)) journal (serial_run recorded (numbers_of 0 1 n) (queueing_of receivers) (taking_of entries) journal).run.standing
-    (serial_run recorded (numbers_of 0 1 n) (queueing_of receivers) (taking_of entries) journal).posts)
+    (λ (n : ℕ). LeadTo (setup_of receivers 1) (first_world (setup_of receivers 1)) journal (serial_run recorded (numbers_of 0 1 n) (queueing_of receivers) (taking_of entries) journal))
     (many_places receivers)
     (c.a_serial_run_is_a_list_of_events.ensures recorded c.what_feeds_know_of_selections_is_lawful.ensures (queueing_of receivers) (map (λ receiver. receiver.places) receivers) (have_places receivers) (taking_of entries) journal may due)
