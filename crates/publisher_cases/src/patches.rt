@@ -1,4 +1,4 @@
-//! Calls of `yp_edit`: patches, and what they do to a datastore.
+//! Calls of `yp_patch` and `yp_edit`: patches, and what they do to a datastore.
 ghost use Rattle.std.specs.Prelude.{◌≡◌, ◌<◌, ◌^◌, [], IfOk, length};
 ghost use Rattle.yp_schema.specs.Datastore.{IsDatastore, AreWritable};
 
@@ -13,13 +13,14 @@ use yp_base::path::Path;
 use yp_base::row::{Rows, Value};
 use yp_base::series::Series;
 use yp_base::steps::Steps;
+use yp_changes::changed::{Changed, ChangedRow};
 use yp_data_json::at_path::read_rows;
 use yp_data_json::writing::write_rows;
 use yp_edit::applying::apply;
-use yp_edit::changed::{Changed, ChangedRow};
-use yp_edit::fault::{EditFault, PatchFault};
-use yp_edit::patch::{Edit, EditOp, Patch, Place};
-use yp_edit::reading::read_patch;
+use yp_edit::fault::EditFault;
+use yp_patch::fault::PatchFault;
+use yp_patch::patch::{Edit, EditOp, Patch, Place};
+use yp_patch::reading::read_patch;
 use yp_schema::schema::Schema;
 use yp_tree::tree::Tree;
 

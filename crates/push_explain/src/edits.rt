@@ -9,7 +9,7 @@ use yp_base::memory::NoMemory;
 use yp_base::path::Path;
 use yp_data_json::at_path::read_payload;
 use yp_data_json::fault::{DataError, DataFault};
-use yp_edit::patch::{Edit, EditOp};
+use yp_patch::patch::{Edit, EditOp};
 use yp_path::fault::PathFault;
 use yp_path::target::read_target;
 use yp_schema::schema::Schema;

@@ -5,8 +5,8 @@ use std::alloc::Global;
 use yp_base::json::member;
 use yp_base::memory::NoMemory;
 use yp_command::words::text_in;
-use yp_edit::fault::{PatchError, PatchFault};
-use yp_edit::reading::read_patch;
+use yp_patch::fault::{PatchError, PatchFault};
+use yp_patch::reading::read_patch;
 
 /// What is wrong with a patch: of which edit, where it is one's.
 pub fn patch_cause(alloc: Global, value: &Json) -> Result<String, NoMemory> {

@@ -6,7 +6,7 @@ use Rattle.yp_base.specs.declared.notice.Trigger.{Trigger}
 use Rattle.yp_base.specs.declared.notice.Trigger.TheVariants.{Periodic, OnChange}
 use Rattle.yp_schema.specs.declared.schema.SchemaNode.{SchemaNode}
 use Rattle.yp_nacm_text.specs.Policies.{policy_in}
-use Rattle.yp_edit.specs.Shapes.{patch_in}
+use Rattle.yp_patch.specs.Shapes.{patch_in}
 use Rattle.yp_time.specs.Ticks.{tick_limit, IsAnchor}
 use Rattle.yp_journal.specs.declared.command.Command.{Command}
 use Rattle.yp_journal.specs.declared.command.Command.TheVariants.{Tick, Edit, Rules, Establish, Modify, Delete, Kill, Resync, Configure, Reconfigure, Unconfigure, Take}

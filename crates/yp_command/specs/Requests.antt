@@ -9,7 +9,7 @@ use Rattle.yp_base.specs.Types.{same_text}
 use Rattle.yp_schema.specs.declared.schema.SchemaNode.{SchemaNode}
 use Rattle.yp_nacm_text.specs.Faults.{Fault}
 use Rattle.yp_nacm_text.specs.Policies.{policy_in}
-use Rattle.yp_edit.specs.Shapes.{patch_in}
+use Rattle.yp_patch.specs.Shapes.{patch_in}
 use Rattle.yp_time.specs.Ticks.{tick_limit}
 use Rattle.yp_journal.specs.declared.command.Command.{Command}
 use Rattle.yp_journal.specs.declared.command.Command.TheVariants as commands

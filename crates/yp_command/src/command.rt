@@ -17,11 +17,11 @@ use crate::take::read_take;
 use crate::words::{sole_member, whole};
 use serde_json::Value as Json;
 use std::alloc::Global;
-use yp_edit::fault::PatchFault;
-use yp_edit::reading::read_patch;
 use yp_journal::command::Command;
 use yp_nacm_text::fault::PolicyFault;
 use yp_nacm_text::policy::read_policy;
+use yp_patch::fault::PatchFault;
+use yp_patch::reading::read_patch;
 use yp_schema::schema::Schema;
 use yp_time::start::Start;
 

@@ -6,8 +6,8 @@ use Rattle.yp_gen.specs.declared.command.Drawn.{Drawn}
 use Rattle.yp_gen.specs.declared.command.Drawn.TheVariants as drawn
 use Rattle.yp_gen.specs.Commands.{drawn_by}
 use Rattle.yp_gen.specs.Draws.{draw_of, drawn_state}
-use Rattle.yp_edit.specs.declared.patch.EditOp.{EditOp}
-use Rattle.yp_edit.specs.declared.patch.EditOp.TheVariants.{Merge, Remove}
+use Rattle.yp_patch.specs.declared.patch.EditOp.{EditOp}
+use Rattle.yp_patch.specs.declared.patch.EditOp.TheVariants.{Merge, Remove}
 use Rattle.yp_journal.specs.declared.command.Command.{Command}
 use Rattle.yp_journal.specs.declared.command.Command.TheVariants.{Tick, Edit}
 use Rattle.yp_script.specs.declared.script.Script.{Script}

@@ -8,16 +8,16 @@ use Rattle.yp_base.specs.RowLaws.{puts_order, without_keeps_order}
 use Rattle.yp_schema.specs.declared.schema.SchemaNode.{SchemaNode}
 use Rattle.serde_json.specs.Data.{Data}
 use Rattle.yp_edit.specs.declared.halt.Refusal.{Refusal}
-use Rattle.yp_edit.specs.declared.patch.EditOp.{EditOp}
-use Rattle.yp_edit.specs.declared.patch.EditOp.TheVariants.{Create, Delete, Insert, Merge, Move, Replace, Remove}
-use Rattle.yp_edit.specs.declared.patch.Edit.{Edit}
-use Rattle.yp_edit.specs.declared.patch.Patch.{Patch}
-use Rattle.yp_edit.specs.declared.changed.ChangedRow.{ChangedRow}
-use Rattle.yp_edit.specs.Changes.{changed_rows}
-use Rattle.yp_edit.specs.Commits.{Differ}
+use Rattle.yp_patch.specs.declared.patch.EditOp.{EditOp}
+use Rattle.yp_patch.specs.declared.patch.EditOp.TheVariants.{Create, Delete, Insert, Merge, Move, Replace, Remove}
+use Rattle.yp_patch.specs.declared.patch.Edit.{Edit}
+use Rattle.yp_patch.specs.declared.patch.Patch.{Patch}
+use Rattle.yp_changes.specs.declared.changed.ChangedRow.{ChangedRow}
+use Rattle.yp_changes.specs.Changes.{changed_rows}
+use Rattle.yp_changes.specs.Commits.{Differ}
 use Rattle.yp_base.specs.Results.{◌>>=◌}
 use Rattle.yp_edit.specs.Patches.{RefusedEdit, target_of, new_rows, within_limit, row_limit, performed, edited, of_edit, all_edited, applied, changes_by}
-use Rattle.yp_edit.proofs.Committing.{same_after}
+use Rattle.yp_changes.specs.CommitLaws.{same_after}
 
 -- ---- order
 

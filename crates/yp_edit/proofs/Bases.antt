@@ -9,10 +9,12 @@ use Rattle.yp_base.specs.Order.{path_cmp}
 use Rattle.yp_base.specs.Rows.{value_at, has_within, AreInOrder}
 use Rattle.yp_base.specs.RowLaws.{some_keep_order}
 use Rattle.yp_tree.specs.Listed.{without_row}
-use Rattle.yp_edit.specs.Bases.{Touched, is_listed, left, untouched, IsBase, Touches, Loses, TouchesWithin}
+use Rattle.yp_edit.specs.Bases.{Touched, left, untouched, IsBase, Touches, Loses, TouchesWithin}
+use Rattle.yp_changes.specs.Among.{is_listed}
 use Rattle.yp_base.specs.PathLaws.{are_one, tie_turned}
 use Rattle.yp_tree.specs.Alike.{same_rows}
-use Rattle.yp_edit.proofs.Taking.{without_row_order, value_at_without_row, one_taken, none_taken, still_none, all_left}
+use Rattle.yp_changes.specs.TakingLaws.{without_row_order, value_at_without_row, none_taken}
+use Rattle.yp_edit.proofs.Taking.{one_taken, still_none, all_left}
 
 -- the value at a path, of rows that are picked by their paths
 pub value_at_picked : (p : List Seg → Bool) (q : List Seg) (rows : List Row) → value_at q (filter (λ row. p row.path) rows) ≡ cond (p q) (value_at q rows) None

@@ -7,11 +7,12 @@ use Rattle.yp_base.specs.declared.row.Value.{Value}
 use Rattle.yp_base.specs.declared.row.Row.{Row}
 use Rattle.yp_base.specs.Rows.{value_at, AreInOrder}
 use Rattle.yp_base.specs.RowLaws.{or_none, value_at_puts}
-use Rattle.yp_edit.specs.declared.changed.ChangedRow.{ChangedRow}
-use Rattle.yp_edit.specs.Bases.{Touched, is_listed, untouched, AreTouched}
+use Rattle.yp_changes.specs.declared.changed.ChangedRow.{ChangedRow}
+use Rattle.yp_edit.specs.Bases.{Touched, untouched, AreTouched}
+use Rattle.yp_changes.specs.Among.{is_listed}
 use Rattle.yp_edit.specs.Drafts.{drafted, IsDraft}
-use Rattle.yp_edit.specs.ChangeLaws.{no_change, same_changes, changed_at, changed_sorted}
-use Rattle.yp_edit.specs.Changes.{change_of, row_change, changed_rows}
+use Rattle.yp_changes.specs.ChangeLaws.{no_change, same_changes, changed_at, changed_sorted}
+use Rattle.yp_changes.specs.Changes.{change_of, row_change, changed_rows}
 use Rattle.yp_edit.proofs.Bases.{touched_gone, other_there}
 use Rattle.yp_edit.proofs.Touching.{listed_there}
 

@@ -13,13 +13,13 @@ use Rattle.yp_base.specs.declared.row.Row.{Row}
 use Rattle.yp_base.specs.Order.{path_cmp, is_within}
 use Rattle.yp_base.specs.Rows.{path_of, value_at, put_row, put_rows, has_within, rows_without, AreInOrder}
 use Rattle.yp_base.specs.Exact.{paths_exact}
-use Rattle.yp_base.specs.PathLaws.{or_turned, tie_turned, ties_itself, IsBefore}
+use Rattle.yp_base.specs.PathLaws.{or_turned, tie_turned, IsBefore}
 use Rattle.yp_base.specs.RowLaws.{value_at_put, value_at_puts, value_at_without, put_keeps_order, puts_order, picked-puts}
 use Rattle.yp_tree.specs.Listed.{without_row}
 use Rattle.yp_edit.specs.Bases.{Touched, left, untouched, Loses, StaysGone, TouchesWithin}
 use Rattle.yp_edit.specs.Drafts.{drafted, IsDraft}
 use Rattle.yp_tree.specs.Alike.{same_rows}
-use Rattle.yp_edit.proofs.Taking.{value_at_without_row, without_row_order}
+use Rattle.yp_changes.specs.TakingLaws.{each_there, value_at_without_row, without_row_order}
 use Rattle.yp_edit.proofs.Bases.{left_order, none_either}
 
 some_either : (there other : Option Value) → is_some (option_or there other) ≡ (is_some there || is_some other)
@@ -116,18 +116,6 @@ length_puts (row ∷ put) rows order apart =
     let more = length_puts put (put_row row rows) order.1 (still_apart row put rows order.0 apart.1) in
     let one = length_new row rows apart.0 in
     omega (arith, more, one)
-
-first_apart : (first : Row) (all rows : List Row) → IsBefore first.path (map path_of rows) → AllByRecursion (λ (row : Row). is_some (value_at row.path all) ≡ true) rows → AllByRecursion (λ (row : Row). is_some (value_at row.path (first ∷ all)) ≡ true) rows
-first_apart first all [] before each = tt
-first_apart first all (row ∷ rows) before each =
-    (ap (λ b. is_some (cond b (Some first.value) (value_at row.path all))) (tie_turned row.path first.path ∙ ap is_eq before.0) ∙ each.0, first_apart first all rows before.1 each.1)
-
--- each row in order is found at its path
-pub each_there : (rows : List Row) → AreInOrder rows → AllByRecursion (λ (row : Row). is_some (value_at row.path rows) ≡ true) rows
-unfolding IsStrictlySortedBy
-each_there [] order = tt
-each_there (row ∷ rows) order =
-    (ap (λ b. is_some (cond b (Some row.value) (value_at row.path rows))) (ties_itself row.path), first_apart row rows rows order.0 (each_there rows order.1))
 
 -- ---- drafts
 

@@ -21,14 +21,14 @@ use Rattle.yp_data_json.specs.AtPath.{rows_read}
 use Rattle.serde_json.specs.Data.{Data}
 use Rattle.yp_edit.specs.declared.fault.Tag.TheVariants.{DataMissing}
 use Rattle.yp_edit.specs.declared.halt.Refusal.{Refusal}
-use Rattle.yp_edit.specs.declared.patch.EditOp.{EditOp}
-use Rattle.yp_edit.specs.declared.patch.EditOp.TheVariants.{Create, Delete, Insert, Merge, Move, Replace, Remove}
-use Rattle.yp_edit.specs.declared.patch.Edit.{Edit}
-use Rattle.yp_edit.specs.declared.patch.Patch.{Patch}
+use Rattle.yp_patch.specs.declared.patch.EditOp.{EditOp}
+use Rattle.yp_patch.specs.declared.patch.EditOp.TheVariants.{Create, Delete, Insert, Merge, Move, Replace, Remove}
+use Rattle.yp_patch.specs.declared.patch.Edit.{Edit}
+use Rattle.yp_patch.specs.declared.patch.Patch.{Patch}
 use Rattle.yp_base.specs.Results.{◌>>=◌}
 use Rattle.yp_edit.specs.Patches.{RefusedEdit, refused, path_or, no_key, target_of, rows_or, value_rows, paths_above, has_its_row, stand_above, row_limit, within_limit, new_rows, performed, edited, of_edit, all_edited, applied}
 use Rattle.yp_edit.proofs.Applied.{then_ok, choice_ok, numbered_ok}
-use Rattle.yp_edit.proofs.Committing.{puts_stay}
+use Rattle.yp_changes.specs.CommitLaws.{puts_stay}
 use Rattle.yp_edit.proofs.Drafts.{there_first, there_of_puts}
 use Rattle.yp_edit.proofs.Ends.{may_stand}
 use Rattle.yp_base.specs.PathLaws.{within_longer}

@@ -1,17 +1,11 @@
 pub mod Applied
 pub mod Bases
-pub mod Committing
 pub mod Differing
-pub mod Distinct
 pub mod Drafts
 pub mod Ends
-pub mod Items
 pub mod Keeping
 pub mod Refusals
-pub mod Renewals
-pub mod Splitting
 pub mod Taking
 pub mod Touching
 pub mod Trials
-pub mod Turning
 pub mod Walking

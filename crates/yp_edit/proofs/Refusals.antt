@@ -3,13 +3,13 @@ use Rattle.std.proofs.Common.{◌≡◌, ℕ, ◌+◌, ◌<◌, List, [], ◌∷
 use Rattle.std.specs.Prelude.{Result, Ok, Err}
 use Rattle.yp_base.specs.declared.row.Row.{Row}
 use Rattle.yp_schema.specs.declared.schema.SchemaNode.{SchemaNode}
-use Rattle.yp_edit.specs.declared.changed.ChangedRow.{ChangedRow}
+use Rattle.yp_changes.specs.declared.changed.ChangedRow.{ChangedRow}
 use Rattle.yp_edit.specs.declared.fault.EditFault.{EditFault}
 use Rattle.yp_edit.specs.declared.fault.EditFault.TheVariants.{Refused, Memory}
-use Rattle.yp_edit.specs.declared.patch.Edit.{Edit}
-use Rattle.yp_edit.specs.declared.patch.Patch.{Patch}
+use Rattle.yp_patch.specs.declared.patch.Edit.{Edit}
+use Rattle.yp_patch.specs.declared.patch.Patch.{Patch}
 use Rattle.yp_edit.specs.Answers.{SaysAll, NamesOneOf}
-use Rattle.yp_edit.specs.Changes.{changed_rows}
+use Rattle.yp_changes.specs.Changes.{changed_rows}
 use Rattle.yp_base.specs.Results.{◌>>=◌}
 use Rattle.yp_edit.specs.Patches.{RefusedEdit, of_edit, edited, all_edited, applied, changes_by}
 

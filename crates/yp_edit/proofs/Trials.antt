@@ -13,7 +13,8 @@ use Rattle.yp_base.specs.Rows.{value_at, put_row, put_rows, has_within, rows_wit
 use Rattle.yp_base.specs.Exact.{segments_exact}
 use Rattle.yp_base.specs.PathLaws.{within_through}
 use Rattle.yp_base.specs.RowLaws.{value_at_without, picked-puts}
-use Rattle.yp_edit.specs.Drafts.{is_covered, covers, remaining}
+use Rattle.yp_changes.specs.Among.{is_covered}
+use Rattle.yp_edit.specs.Drafts.{covers, remaining}
 use Rattle.yp_edit.proofs.Taking.{all_left}
 
 -- ---- paths

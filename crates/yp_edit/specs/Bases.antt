@@ -1,22 +1,17 @@
 -- The tree that a patch is applied to, with the paths that its edits touch.
-use Rattle.std.specs.Prelude.{◌≡◌, ℕ, List, length, map, Bool, true, false, not, ◌||◌, filter, Option, Some, None, is_some}
-use Rattle.std.specs.List.{list_any}
+use Rattle.std.specs.Prelude.{◌≡◌, ℕ, List, length, map, true, false, not, ◌||◌, filter, Option, Some, None, is_some}
 use Rattle.std.specs.Ordering.{is_eq}
-use Rattle.std.specs.BTreeMap.{is_at}
 use Rattle.yp_base.specs.declared.path.Seg.{Seg}
 use Rattle.yp_base.specs.declared.row.Row.{Row}
 use Rattle.yp_base.specs.Order.{path_cmp}
 use Rattle.yp_base.specs.Rows.{path_of, value_at, has_within, rows_without, AreInOrder}
+use Rattle.yp_changes.specs.Among.{is_listed}
 use Rattle.yp_tree.specs.Listed.{without_row}
 
 -- the rows of a tree, and the paths that are touched
 pub record Touched : Type 0 where
   pub rows : List Row
   pub paths : List (List Seg)
-
--- whether a path is among others
-abbrev pub is_listed : List Seg → List (List Seg) → Bool
-is_listed path paths = list_any (is_at (path_cmp path)) paths
 
 -- the rows of other paths than these
 abbrev pub left : List (List Seg) → List Row → List Row

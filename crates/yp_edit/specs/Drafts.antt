@@ -1,5 +1,5 @@
 -- Rows under change: those of a tree that aren't touched, with others put over them, and as may be without those at or below a path.
-use Rattle.std.specs.Prelude.{◌≡◌, List, Bool, true, false, Option, Some, None, is_some}
+use Rattle.std.specs.Prelude.{◌≡◌, List, Bool, true, Option, Some, None, is_some}
 use Rattle.yp_base.specs.declared.path.Seg.{Seg}
 use Rattle.yp_base.specs.declared.row.Row.{Row}
 use Rattle.yp_base.specs.Order.{is_within}
@@ -17,11 +17,6 @@ drafted base put = record { before = base.rows; after = put_rows put (untouched 
 -- what is so of a draft: no row that is put has the path of one that isn't touched
 pub record IsDraft (base : Touched) (put : List Row) : Type 0 where
   pub apart : (path : List Seg) → is_some (value_at path put) ≡ true → value_at path (untouched base) ≡ None
-
--- whether a path is at or below another, where there is one
-abbrev pub is_covered : Option (List Seg) → List Seg → Bool
-is_covered None path = false
-is_covered (Some above) path = is_within above path
 
 -- whether a path is at or above another, where there is one
 abbrev pub covers : List Seg → Option (List Seg) → Bool

@@ -1,13 +1,5 @@
 pub mod Answers
 pub mod Bases
-pub mod ChangeLaws
-pub mod Changes
-pub mod Commits
-pub mod Differing
 pub mod Drafts
 pub mod PatchLaws
 pub mod Patches
-pub mod Records
-pub mod Renewals
-pub mod Shapes
-pub mod WindowLaws

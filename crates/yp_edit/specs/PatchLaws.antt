@@ -3,7 +3,7 @@ use Rattle.std.specs.Prelude.{◌≡◌, List, Ok}
 use Rattle.yp_base.specs.declared.row.Row.{Row}
 use Rattle.yp_schema.specs.declared.schema.SchemaNode.{SchemaNode}
 use Rattle.yp_schema.specs.Datastore.{IsDatastore}
-use Rattle.yp_edit.specs.declared.patch.Patch.{Patch}
+use Rattle.yp_patch.specs.declared.patch.Patch.{Patch}
 use Rattle.yp_edit.specs.Patches.{applied}
 
 -- a patch leaves a datastore a datastore

@@ -17,12 +17,12 @@ use Rattle.serde_json.specs.Data.{Data}
 use Rattle.yp_edit.specs.declared.fault.Tag.{Tag}
 use Rattle.yp_edit.specs.declared.fault.Tag.TheVariants.{UnknownElement, InvalidValue, DataMissing, DataExists, TooBig}
 use Rattle.yp_edit.specs.declared.halt.Refusal.{Refusal}
-use Rattle.yp_edit.specs.declared.patch.EditOp.{EditOp}
-use Rattle.yp_edit.specs.declared.patch.EditOp.TheVariants.{Create, Delete, Insert, Merge, Move, Replace, Remove}
-use Rattle.yp_edit.specs.declared.patch.Edit.{Edit}
-use Rattle.yp_edit.specs.declared.patch.Patch.{Patch}
-use Rattle.yp_edit.specs.declared.changed.ChangedRow.{ChangedRow}
-use Rattle.yp_edit.specs.Changes.{changed_rows}
+use Rattle.yp_patch.specs.declared.patch.EditOp.{EditOp}
+use Rattle.yp_patch.specs.declared.patch.EditOp.TheVariants.{Create, Delete, Insert, Merge, Move, Replace, Remove}
+use Rattle.yp_patch.specs.declared.patch.Edit.{Edit}
+use Rattle.yp_patch.specs.declared.patch.Patch.{Patch}
+use Rattle.yp_changes.specs.declared.changed.ChangedRow.{ChangedRow}
+use Rattle.yp_changes.specs.Changes.{changed_rows}
 
 -- a refusal of this tag
 abbrev pub refused : {A : Type 0} → Tag → Result A Refusal

@@ -1,21 +1,21 @@
 //! Applying patches.
 ghost use Rattle.std.specs.Prelude.{◌≡◌, ◌^◌, ◌<◌, [], length, IfOk, OnOk, OnErr};
 ghost use Rattle.yp_schema.specs.Datastore.{IsDatastore};
-ghost use Rattle.yp_edit.specs.Changes.{changed_rows};
+ghost use Rattle.yp_changes.specs.Changes.{changed_rows};
 ghost use Rattle.yp_edit.specs.Answers.{SaysAll, LeavesAll, NamesOneOf};
 ghost use Rattle.yp_edit.specs.Patches.{of_edit, edited, all_edited, changes_by, applied};
 
-use crate::changed::Changed;
-use crate::commit::commit;
 use crate::edit::make;
 use crate::fault::EditFault;
 use crate::halt::{Halt, Refusal};
 use crate::laws::a_patch_keeps_a_datastore;
-use crate::patch::{Edit, Edits, Patch};
 use crate::trial::Trial;
 use std::alloc::Global;
 use std::sync::ledger::Ledger;
 use yp_base::steps::Steps;
+use yp_changes::changed::Changed;
+use yp_changes::commit::commit;
+use yp_patch::patch::{Edit, Edits, Patch};
 use yp_schema::schema::Schema;
 use yp_tree::tree::Tree;
 

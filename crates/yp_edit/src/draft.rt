@@ -1,11 +1,9 @@
 //! Rows under change, over a tree that isn't changed yet.
 ghost use Rattle.std.specs.Prelude.{◌≡◌, length, is_some, IfOk, OnOk, OnErr};
 ghost use Rattle.yp_base.specs.Rows.{value_at, put_row, has_within, rows_without, AreInOrder};
-ghost use Rattle.yp_edit.specs.Changes.{changed_rows};
+ghost use Rattle.yp_changes.specs.Changes.{changed_rows};
 
 use crate::base::Base;
-use crate::changed::Changed;
-use crate::difference::differing;
 use std::alloc::Global;
 use std::marker::Model;
 use std::sync::ledger::Ledger;
@@ -13,6 +11,8 @@ use yp_base::memory::NoMemory;
 use yp_base::path::Path;
 use yp_base::row::Row;
 use yp_base::steps::Steps;
+use yp_changes::changed::Changed;
+use yp_changes::difference::differing;
 use yp_tree::rising::Rising;
 use yp_tree::tree::Tree;
 

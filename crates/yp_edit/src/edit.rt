@@ -9,7 +9,6 @@ ghost use Rattle.yp_edit.specs.Patches.{created, deleted, has_its_row, stand_abo
 
 use crate::fault::Tag;
 use crate::halt::{Halt, refused};
-use crate::patch::{Edit, EditOp};
 use crate::target::{read_path, read_value};
 use crate::trial::Trial;
 use std::alloc::Global;
@@ -19,6 +18,7 @@ use yp_base::path::{Path, Seg};
 use yp_base::payload::Payload;
 use yp_base::row::Rows;
 use yp_base::steps::Steps;
+use yp_patch::patch::{Edit, EditOp};
 use yp_schema::schema::{Kind, Schema};
 
 /// The most rows that a datastore has.

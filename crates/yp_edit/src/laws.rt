@@ -1,6 +1,5 @@
-//! Facts about patches and records, for the crates above. Each call does nothing.
+//! Facts about patches, for the crates above. The call does nothing.
 ghost use Rattle.yp_edit.specs.PatchLaws.{PatchesKeepDatastores};
-ghost use Rattle.yp_edit.specs.WindowLaws.{OneStepIsAStep};
 
 use yp_data_json::holding::what_is_read_is_whole;
 
@@ -10,9 +9,3 @@ pub fn a_patch_keeps_a_datastore()
 {
     what_is_read_is_whole();
 }
-
-/// The record of a window of one step, where no kind of edits is excluded, is the record of the step.
-#[tactic(auto, using(crate::specs::WindowLaws::one_step))]
-pub fn a_window_of_one_step_has_the_record_of_the_step()
-    ensures { OneStepIsAStep }
-{}

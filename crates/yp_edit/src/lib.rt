@@ -1,26 +1,16 @@
-//! Patches of a datastore (RFC 8072, YANG Patch).
+//! Patches applied to a datastore (RFC 8072, YANG Patch), all of their edits or none.
 //!
-//! `reading::read_patch` reads a patch from JSON, `applying::apply` applies its edits in order, all of
-//! them or none. `former` has the tree before a patch, and has another tree follow it. Contracts see a
-//! patch as its id and the list of its edits, the JSON that an edit holds as its data
-//! (`specs/Shapes.antt`), and what a patch does as a function on lists of rows (`specs/Patches.antt`,
-//! `specs/Changes.antt`).
+//! `applying::apply` applies the edits of a patch in order. Contracts see what a patch does as a function on
+//! lists of rows (`specs/Patches.antt`), and how it is tried before it is made as a draft over a tree
+//! (`specs/Drafts.antt`, `specs/Bases.antt`).
 #![tactic(auto)]
 
 pub mod applying;
 mod base;
-pub mod changed;
-mod commit;
-mod difference;
 mod draft;
 mod edit;
 pub mod fault;
-pub mod former;
 mod halt;
 pub mod laws;
-mod members;
-pub mod patch;
-pub mod reading;
-mod renewal;
 mod target;
 mod trial;

@@ -1,11 +1,10 @@
 //! Edits that are tried on a draft.
 ghost use Rattle.std.specs.Prelude.{◌≡◌, length, nat_lt, is_some, IfOk, OnOk};
 ghost use Rattle.yp_base.specs.Rows.{value_at, put_row, has_within, rows_without};
-ghost use Rattle.yp_edit.specs.Changes.{changed_rows};
+ghost use Rattle.yp_changes.specs.Changes.{changed_rows};
 ghost use Rattle.yp_edit.specs.Drafts.{covers, remaining, remains};
 
 use crate::base::is_covered;
-use crate::changed::Changed;
 use crate::draft::Draft;
 use std::alloc::Global;
 use std::marker::Model;
@@ -14,6 +13,7 @@ use yp_base::memory::{Duplicate, NoMemory};
 use yp_base::path::{Path, is_prefix};
 use yp_base::row::Row;
 use yp_base::steps::Steps;
+use yp_changes::changed::Changed;
 use yp_tree::tree::Tree;
 
 /// A draft, without the rows at or below a path that an edit took out. The draft loses them only once

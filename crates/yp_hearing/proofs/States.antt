@@ -8,7 +8,7 @@ use Rattle.yp_schema.specs.declared.schema.SchemaNode.{SchemaNode}
 use Rattle.yp_registry.specs.Registry.{last_id, live_at}
 use Rattle.yp_terms.specs.Terms.{Terms}
 use Rattle.yp_edit.specs.declared.halt.Refusal.{Refusal}
-use Rattle.yp_edit.specs.declared.patch.Edit.{Edit}
+use Rattle.yp_patch.specs.declared.patch.Edit.{Edit}
 use Rattle.yp_edit.specs.declared.fault.Tag.TheVariants.{TooBig}
 use Rattle.yp_edit.specs.Patches.{RefusedEdit, refused, target_of, performed, row_limit, within_limit, edited, of_edit, all_edited, applied}
 use Rattle.yp_time.specs.Ticks.{tick_limit}

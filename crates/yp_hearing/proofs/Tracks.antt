@@ -11,9 +11,9 @@ use Rattle.yp_base.specs.declared.row.Row.{Row}
 use Rattle.yp_base.specs.Order.{path_cmp}
 use Rattle.yp_base.specs.Paths.{is_above, topmost}
 use Rattle.yp_base.specs.Rows.{path_of, put_row, put_rows, last_of}
-use Rattle.yp_edit.specs.declared.changed.ChangedRow.{ChangedRow}
-use Rattle.yp_edit.specs.Changes.{row_change, paths_of_both, changed_rows}
-use Rattle.yp_edit.specs.Records.{changed_paths, change_at, put_path, put_paths, touched_paths, is_excluded, told, window_record}
+use Rattle.yp_changes.specs.declared.changed.ChangedRow.{ChangedRow}
+use Rattle.yp_changes.specs.Changes.{row_change, paths_of_both, changed_rows}
+use Rattle.yp_changes.specs.Records.{changed_paths, change_at, put_path, put_paths, touched_paths, is_excluded, told, window_record}
 use Rattle.yp_time.specs.Ticks.{tick_limit}
 use Rattle.yp_feed.specs.declared.item.Control.{Control}
 use Rattle.yp_feed.specs.declared.item.Control.TheVariants as controls

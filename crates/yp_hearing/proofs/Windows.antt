@@ -15,7 +15,7 @@ use Rattle.yp_schema.specs.declared.schema.SchemaNode.{SchemaNode}
 use Rattle.yp_schema.specs.Datastore.{is_path_of, ends_in_key, has_row, AreWhole}
 use Rattle.yp_schema.specs.SchemaLaws.{row_path, row_place}
 use Rattle.yp_path.specs.Targets.{has_texts}
-use Rattle.yp_edit.specs.Records.{changed_paths, change_at, put_path, put_paths, touched_paths, is_excluded, window_record}
+use Rattle.yp_changes.specs.Records.{changed_paths, change_at, put_path, put_paths, touched_paths, is_excluded, window_record}
 use Rattle.yp_attempt.specs.ListLaws.{all_filter, all_map}
 use Rattle.yp_mirror.proofs.Lists.{all_two}
 use Rattle.yp_touch.specs.Absorbed.{EndsAsRow}

@@ -6,7 +6,7 @@ use Rattle.yp_base.specs.declared.notice.Kinds.{Kinds}
 use Rattle.yp_base.specs.declared.row.Row.{Row}
 use Rattle.yp_schema.specs.declared.schema.SchemaNode.{SchemaNode}
 use Rattle.yp_schema.specs.Datastore.{IsDatastore}
-use Rattle.yp_edit.specs.Records.{window_record}
+use Rattle.yp_changes.specs.Records.{window_record}
 use Rattle.yp_receiver.specs.Hearable.{IsHearableChange}
 use Rattle.yp_receiver.specs.Readable.{HaveTexts}
 

@@ -18,10 +18,10 @@ use Rattle.yp_registry.specs.Calls.{deleted_by, delete_answer, killed_by, kill_a
 use Rattle.yp_registry.specs.Configuring.{newly_configured, configure_answer}
 use Rattle.yp_registry.specs.Registry.{Subscriptions, no_subscriptions, established, establish_answer}
 use Rattle.yp_terms.specs.Terms.{HasAnchor}
-use Rattle.yp_edit.specs.declared.patch.Edit.{Edit as PatchEdit}
-use Rattle.yp_edit.specs.declared.patch.Patch.{Patch}
+use Rattle.yp_patch.specs.declared.patch.Edit.{Edit as PatchEdit}
+use Rattle.yp_patch.specs.declared.patch.Patch.{Patch}
 use Rattle.yp_edit.specs.Patches.{RefusedEdit, applied}
-use Rattle.yp_edit.specs.Shapes.{ids_of, patch_in}
+use Rattle.yp_patch.specs.Shapes.{ids_of, patch_in}
 use Rattle.yp_time.specs.Ticks.{tick_limit}
 use Rattle.yp_journal.specs.declared.command.Command.{Command}
 use Rattle.yp_journal.specs.declared.command.Command.TheVariants.{Tick, Edit, Rules, Establish, Modify, Delete, Kill, Resync, Configure, Reconfigure, Unconfigure, Take}

@@ -3,8 +3,8 @@ use std::alloc::Global;
 use yp_base::leaf_type::Names;
 use yp_base::memory::{Duplicate, NoMemory};
 use yp_base::series::Series;
-use yp_edit::patch::Patch;
 use yp_nacm::policy::Policy;
+use yp_patch::patch::Patch;
 use yp_terms::ask::{Amend, Ask};
 
 /// A command of the journal. Receivers have numbers, from 0 on in the order of their declaration.

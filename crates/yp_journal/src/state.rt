@@ -2,7 +2,7 @@
 ghost use Rattle.std.specs.Prelude.{◌≡◌, ◌+◌, ◌<◌, ◌≤◌, ◌^◌, [], length, true, IfOk, OnOk, OnErr};
 ghost use Rattle.yp_schema.specs.Datastore.{IsDatastore};
 ghost use Rattle.yp_edit.specs.Answers.{LeavesAll, NamesOneOf};
-ghost use Rattle.yp_edit.specs.Changes.{changed_rows};
+ghost use Rattle.yp_changes.specs.Changes.{changed_rows};
 ghost use Rattle.yp_edit.specs.Patches.{applied};
 ghost use Rattle.yp_journal.specs.declared.command.Command.TheVariants.{Edit};
 ghost use Rattle.yp_registry.specs.Registry.{IsRegistryOf};
@@ -20,11 +20,11 @@ use yp_base::memory::{Duplicate, NoMemory};
 use yp_base::series::Series;
 use yp_base::steps::Steps;
 use yp_base::txt::Txt;
+use yp_changes::changed::Changed;
 use yp_edit::applying::apply;
-use yp_edit::changed::Changed;
 use yp_edit::fault::EditFault;
-use yp_edit::patch::{Edits, Patch};
 use yp_nacm::policy::Policy;
+use yp_patch::patch::{Edits, Patch};
 use yp_registry::registry::Registry;
 use yp_schema::schema::Schema;
 use yp_terms::ask::Ask;
@@ -188,7 +188,7 @@ impl State {
     /// Takes a command: the state goes on to what it leaves, and its reply and the rows that it changed
     /// are told. A command that is refused moves the position alone. After `NoMemory` the state is as it
     /// was. Rows that are a datastore of the schema stay one, and so does a registry of it.
-    #[tactic(auto, using(yp_edit::specs::ChangeLaws::none_differ))]
+    #[tactic(auto, using(yp_changes::specs::ChangeLaws::none_differ))]
     pub fn accept(
         &mut self,
         alloc: Global,
@@ -253,7 +253,7 @@ impl State {
     }
 
     /// Edits the datastore.
-    #[tactic(auto, using(yp_edit::specs::ChangeLaws::none_differ))]
+    #[tactic(auto, using(yp_changes::specs::ChangeLaws::none_differ))]
     fn edit(&mut self, alloc: Global, schema: &Schema, patch: &Patch) -> Result<Outcome, NoMemory>
         requires few { length patch.now.edits < 2 ^ 32 }
         requires position { self.old.position < 2 ^ 63 }

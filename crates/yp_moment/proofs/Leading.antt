@@ -12,7 +12,7 @@ use Rattle.yp_nacm.specs.AccessLaws.{readable_above}
 use Rattle.yp_filter.specs.Filters.{all_rows}
 use Rattle.yp_registry.specs.Registry.{live_at}
 use Rattle.yp_terms.specs.Terms.{Terms}
-use Rattle.yp_edit.specs.Records.{HasNone, window_record}
+use Rattle.yp_changes.specs.Records.{HasNone, window_record}
 use Rattle.yp_select.specs.KeptLaws.{kept_datastore}
 use Rattle.yp_select.specs.Selection.{selection}
 use Rattle.yp_touch.specs.Absorbed.{selections}

@@ -10,8 +10,8 @@ use Rattle.yp_base.specs.declared.notice.Kinds.{Kinds}
 use Rattle.yp_base.specs.Paths.{topmost}
 use Rattle.yp_base.specs.Rows.{last_of}
 use Rattle.yp_feed.specs.Machine.{excludes_none}
-use Rattle.yp_edit.specs.Records.{touched_paths, change_at, HasNone, window_record}
-use Rattle.yp_edit.specs.WindowLaws.{told_all}
+use Rattle.yp_changes.specs.Records.{touched_paths, change_at, HasNone, window_record}
+use Rattle.yp_changes.specs.WindowLaws.{told_all}
 use Rattle.yp_attempt.specs.Content.{IsLawful}
 use Rattle.yp_moment.specs.Windows.{recorded}
 

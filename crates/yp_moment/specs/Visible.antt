@@ -4,7 +4,7 @@ use Rattle.yp_base.specs.declared.row.Row.{Row}
 use Rattle.yp_schema.specs.declared.schema.SchemaNode.{SchemaNode}
 use Rattle.yp_nacm.specs.Decision.{is_readable, visible_rows}
 use Rattle.yp_nacm.specs.Own.{own_rules}
-use Rattle.yp_edit.specs.declared.patch.Patch.{Patch}
+use Rattle.yp_patch.specs.declared.patch.Patch.{Patch}
 use Rattle.yp_journal.specs.declared.command.Command.{Command}
 use Rattle.yp_journal.specs.declared.command.Command.TheVariants.{Edit}
 use Rattle.yp_journal.specs.declared.entry.Entry.{Entry}

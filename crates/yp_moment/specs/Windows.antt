@@ -2,7 +2,7 @@
 use Rattle.std.specs.Prelude.{[], length}
 use Rattle.yp_base.specs.Paths.{topmost}
 use Rattle.yp_base.specs.Rows.{changed_by}
-use Rattle.yp_edit.specs.Records.{touched_paths, window_record}
+use Rattle.yp_changes.specs.Records.{touched_paths, window_record}
 use Rattle.yp_attempt.specs.Content.{Content}
 
 -- the roots are the topmost of the paths that were touched

@@ -14,7 +14,7 @@ use Rattle.yp_schema.specs.Datastore.{IsDatastore, IsRowOf, has_row}
 use Rattle.yp_nacm.specs.AccessLaws.{readable_above}
 use Rattle.yp_registry.specs.Registry.{live_at}
 use Rattle.yp_terms.specs.Terms.{Terms}
-use Rattle.yp_edit.specs.Records.{change_at, is_excluded, touched_paths, window_record}
+use Rattle.yp_changes.specs.Records.{change_at, is_excluded, touched_paths, window_record}
 use Rattle.yp_select.specs.KeptLaws.{kept_datastore}
 use Rattle.yp_journal.specs.declared.entry.Entry.{Entry}
 use Rattle.yp_journal.specs.declared.receiver.ReceiverInfo.{ReceiverInfo}

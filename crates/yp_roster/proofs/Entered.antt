@@ -4,7 +4,7 @@ use Rattle.std.specs.Prelude.{◌==◌, filter, if◌then◌else◌, slice_set}
 use Rattle.std.specs.List.{AllByRecursion}
 use Rattle.yp_schema.specs.declared.schema.SchemaNode.{SchemaNode}
 use Rattle.yp_feed.specs.Machine.{FeedState}
-use Rattle.yp_edit.specs.declared.patch.Patch.{Patch}
+use Rattle.yp_patch.specs.declared.patch.Patch.{Patch}
 use Rattle.yp_nacm.specs.declared.policy.Policy.{Policy}
 use Rattle.yp_journal.specs.declared.command.Command.{Command}
 use Rattle.yp_journal.specs.declared.command.Command.TheVariants.{Tick, Edit, Rules, Establish, Modify, Delete, Kill, Resync, Configure, Reconfigure, Unconfigure, Take}

@@ -2,7 +2,7 @@
 use Rattle.std.specs.List.{position_or_len}
 use Rattle.std.specs.Prelude.{drop, false, filter, map, nat_le, nat_lt, not, take, ◌≡◌, ◌++◌, ℕ, zero, suc, List, [], ◌∷◌, true, is_some}
 use Rattle.yp_schema.specs.declared.schema.SchemaNode.{SchemaNode}
-use Rattle.yp_edit.specs.declared.patch.Patch.{Patch}
+use Rattle.yp_patch.specs.declared.patch.Patch.{Patch}
 use Rattle.yp_terms.specs.Terms.{Terms}
 use Rattle.yp_journal.specs.declared.command.Command.TheVariants.{Edit}
 use Rattle.yp_journal.specs.History.{JournalState}

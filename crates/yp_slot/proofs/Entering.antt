@@ -15,11 +15,11 @@ use Rattle.yp_filter.specs.View.{filter_view}
 use Rattle.yp_nacm.specs.declared.compile.UserRules.{UserRules}
 use Rattle.yp_nacm.specs.AccessLaws.{readable_above}
 use Rattle.yp_nacm.specs.Decision.{IsClosed, is_readable}
-use Rattle.yp_edit.specs.ChangeLaws.{none_differ}
-use Rattle.yp_edit.specs.Changes.{changed_rows}
-use Rattle.yp_edit.specs.declared.changed.ChangedRow.{ChangedRow}
-use Rattle.yp_edit.specs.declared.patch.Patch.{Patch}
-use Rattle.yp_edit.specs.Records.{changed_paths, put_paths, touched_paths}
+use Rattle.yp_changes.specs.ChangeLaws.{none_differ}
+use Rattle.yp_changes.specs.Changes.{changed_rows}
+use Rattle.yp_changes.specs.declared.changed.ChangedRow.{ChangedRow}
+use Rattle.yp_patch.specs.declared.patch.Patch.{Patch}
+use Rattle.yp_changes.specs.Records.{changed_paths, put_paths, touched_paths}
 use Rattle.yp_nacm.specs.Same.{are_same_rules}
 use Rattle.yp_registry.specs.Registry.{Subscriptions, live_at}
 use Rattle.yp_terms.specs.Terms.{Terms}

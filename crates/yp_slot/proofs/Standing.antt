@@ -9,7 +9,7 @@ use Rattle.yp_schema.specs.Datastore.{has_row}
 use Rattle.yp_filter.specs.Fits.{filter_fits}
 use Rattle.yp_filter.specs.View.{filter_view}
 use Rattle.yp_filter.specs.declared.filter.Filter.{Filter}
-use Rattle.yp_edit.specs.Records.{touched_paths}
+use Rattle.yp_changes.specs.Records.{touched_paths}
 use Rattle.std.proofs.lemmas.Option.{none-some}
 use Rattle.yp_registry.specs.Registry.{live_at}
 use Rattle.yp_terms.specs.Terms.{Terms}

@@ -2,7 +2,7 @@
 ghost use Rattle.std.specs.Prelude.{◌≡◌, ◌<◌, ◌≤◌, ℕ, List, Some, length, not, true, IfOk, OnOk};
 ghost use Rattle.yp_schema.specs.declared.schema.SchemaNode.{SchemaNode};
 ghost use Rattle.yp_schema.specs.Datastore.{IsDatastore};
-ghost use Rattle.yp_edit.specs.declared.changed.ChangedRow.{ChangedRow as ChangedRowThere};
+ghost use Rattle.yp_changes.specs.declared.changed.ChangedRow.{ChangedRow as ChangedRowThere};
 ghost use Rattle.yp_feed.specs.declared.item.Control.TheVariants.{End, Modify, Resync, Rules};
 ghost use Rattle.yp_feed.specs.Machine.{HasTerms, controlled, resyncs};
 ghost use Rattle.yp_filter.specs.Fits.{filter_fits};
@@ -28,7 +28,7 @@ use crate::settling::resyncs;
 use crate::slot::Slot;
 use std::alloc::Global;
 use yp_base::memory::NoMemory;
-use yp_edit::changed::ChangedRow;
+use yp_changes::changed::ChangedRow;
 use yp_feed::feed::Feed;
 use yp_feed::item::{Control, FeedTerms};
 use yp_journal::entry::Entry;

@@ -12,9 +12,9 @@ use Rattle.serde_json.specs.Read.{read}
 use Rattle.yp_base.specs.Json.{member_of, text_member}
 use Rattle.yp_base.specs.Results.{or_fault}
 use Rattle.yp_base.specs.Types.{same_text, are_distinct}
-use Rattle.yp_edit.specs.declared.patch.Edit.{Edit}
-use Rattle.yp_edit.specs.declared.patch.Patch.{Patch}
-use Rattle.yp_edit.specs.Shapes.{some_text, op_in, some_place, has_parts, parts_of, edit_of, edit_in, edits_in, ids_of, distinct, some_edits, members_of_patch, patch_of, sole, patch_in}
+use Rattle.yp_patch.specs.declared.patch.Edit.{Edit}
+use Rattle.yp_patch.specs.declared.patch.Patch.{Patch}
+use Rattle.yp_patch.specs.Shapes.{some_text, op_in, some_place, has_parts, parts_of, edit_of, edit_in, edits_in, ids_of, distinct, some_edits, members_of_patch, patch_of, sole, patch_in}
 use Rattle.yp_command.specs.declared.command.Request.{Request}
 use Rattle.yp_command.specs.declared.command.Request.TheVariants.{Tick, Patch as PatchRequest, Policy, Establish, Modify, Delete, Kill, Resync, Configure, Reconfigure, Unconfigure, Take}
 use Rattle.yp_command.specs.declared.fault.ScriptKind.TheVariants as kinds

@@ -29,10 +29,10 @@ use Rattle.yp_data_json.specs.declared.fault.DataFault.{DataFault}
 use Rattle.yp_data_json.specs.AtPath.{rows_read}
 use Rattle.yp_edit.specs.declared.fault.Tag.TheVariants.{InvalidValue, DataMissing, DataExists, TooBig}
 use Rattle.yp_edit.specs.declared.halt.Refusal.{Refusal}
-use Rattle.yp_edit.specs.declared.patch.Edit.{Edit}
-use Rattle.yp_edit.specs.declared.patch.EditOp.{EditOp}
-use Rattle.yp_edit.specs.declared.patch.EditOp.TheVariants.{Create, Delete, Insert, Merge, Move, Replace, Remove}
-use Rattle.yp_edit.specs.declared.patch.Patch.{Patch}
+use Rattle.yp_patch.specs.declared.patch.Edit.{Edit}
+use Rattle.yp_patch.specs.declared.patch.EditOp.{EditOp}
+use Rattle.yp_patch.specs.declared.patch.EditOp.TheVariants.{Create, Delete, Insert, Merge, Move, Replace, Remove}
+use Rattle.yp_patch.specs.declared.patch.Patch.{Patch}
 use Rattle.yp_edit.specs.Patches.{RefusedEdit, refused, path_or, no_key, target_of, rows_or, value_rows, stand_above, row_limit, within_limit, new_rows, created, deleted, performed, edited, of_edit, all_edited, applied}
 use Rattle.yp_journal.specs.declared.command.Command.{Command}
 use Rattle.yp_journal.specs.declared.command.Command.TheVariants as commands

@@ -7,8 +7,8 @@ use Rattle.yp_base.specs.Results.{◌>>=◌, or_fault}
 use Rattle.yp_schema.specs.declared.schema.SchemaNode.{SchemaNode}
 use Rattle.yp_schema.specs.Reading.{schema_of}
 use Rattle.yp_nacm_text.specs.Policies.{policy_in}
-use Rattle.yp_edit.specs.declared.patch.Patch.{Patch}
-use Rattle.yp_edit.specs.Shapes.{patch_in}
+use Rattle.yp_patch.specs.declared.patch.Patch.{Patch}
+use Rattle.yp_patch.specs.Shapes.{patch_in}
 use Rattle.yp_time.specs.Ticks.{tick_limit}
 use Rattle.yp_journal.specs.declared.command.Command.{Command}
 use Rattle.yp_journal.specs.declared.command.Command.TheVariants as commands

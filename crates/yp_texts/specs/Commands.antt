@@ -1,7 +1,7 @@
 -- Commands whose texts are UTF-8 (RFC 8259 section 8.1).
 use Rattle.std.specs.Prelude.{IfSome}
 use Rattle.std.specs.List.{AllByRecursion}
-use Rattle.yp_edit.specs.declared.patch.Edit.{Edit as PatchEdit}
+use Rattle.yp_patch.specs.declared.patch.Edit.{Edit as PatchEdit}
 use Rattle.yp_journal.specs.declared.command.Command.{Command}
 use Rattle.yp_journal.specs.declared.command.Command.TheVariants.{Tick, Edit, Rules, Establish, Modify, Delete, Kill, Resync, Configure, Reconfigure, Unconfigure, Take}
 use Rattle.yp_script.specs.declared.script.Script.{Script}

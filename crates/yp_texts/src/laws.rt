@@ -8,7 +8,7 @@ ghost use Rattle.yp_schema.specs.declared.schema.SchemaNode.{SchemaNode};
 ghost use Rattle.yp_schema.specs.WellFormed.{IsSchema};
 ghost use Rattle.yp_path.specs.Targets.{has_texts, target_in};
 ghost use Rattle.yp_data_json.specs.AtPath.{rows_read};
-ghost use Rattle.yp_edit.specs.declared.patch.Patch.{Patch};
+ghost use Rattle.yp_patch.specs.declared.patch.Patch.{Patch};
 ghost use Rattle.yp_edit.specs.Patches.{applied};
 ghost use Rattle.yp_journal.specs.declared.entry.Entry.{Entry};
 ghost use Rattle.yp_journal.specs.History.{JournalState, state_of};

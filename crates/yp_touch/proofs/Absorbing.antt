@@ -14,9 +14,9 @@ use Rattle.yp_base.specs.Paths.{is_above, topmost}
 use Rattle.yp_base.specs.PathLaws.{are_one, ties_itself, tie_turned, IsBefore}
 use Rattle.yp_base.specs.Rows.{last_of, value_at}
 use Rattle.yp_schema.specs.Datastore.{has_row}
-use Rattle.yp_edit.specs.Bases.{is_listed}
-use Rattle.yp_edit.specs.Records.{changed_paths, put_paths, touched_paths, change_at, told, window_record}
-use Rattle.yp_edit.specs.WindowLaws.{PathsRise, puts_rise, puts_listed, none_rise}
+use Rattle.yp_changes.specs.Among.{is_listed}
+use Rattle.yp_changes.specs.Records.{changed_paths, put_paths, touched_paths, change_at, told, window_record}
+use Rattle.yp_changes.specs.WindowLaws.{PathsRise, puts_rise, puts_listed, none_rise}
 use Rattle.yp_touch.specs.declared.root.Root.{Root}
 use Rattle.yp_touch.specs.Absorbed.{flagged, paths_of, root_at, AreTopmost, was_in, absorbed, all_absorbed, roots_since, root_change, recorded}
 use Rattle.yp_touch.specs.RecordLaws.{unchanged}

@@ -11,8 +11,8 @@ use Rattle.yp_base.specs.Rows.{path_of, value_at, rows_within}
 use Rattle.yp_schema.specs.declared.schema.SchemaNode.{SchemaNode}
 use Rattle.yp_schema.specs.Datastore.{is_leaf_kind}
 use Rattle.yp_schema.specs.Nodes.{node_at}
-use Rattle.yp_edit.specs.declared.changed.ChangedRow.{ChangedRow}
-use Rattle.yp_edit.specs.Changes.{are_alike}
+use Rattle.yp_changes.specs.declared.changed.ChangedRow.{ChangedRow}
+use Rattle.yp_changes.specs.Changes.{are_alike}
 use Rattle.yp_filter.specs.Filters.{all_rows}
 use Rattle.yp_select.specs.KeptLaws.{value_kept}
 use Rattle.yp_select.specs.Places.{path_above, is_compared}

@@ -7,7 +7,7 @@ use Rattle.yp_base.specs.declared.row.Row.{Row}
 use Rattle.yp_base.specs.Paths.{last_node}
 use Rattle.yp_base.specs.Rows.{rows_within}
 use Rattle.yp_schema.specs.declared.schema.SchemaNode.{SchemaNode}
-use Rattle.yp_edit.specs.declared.changed.ChangedRow.{ChangedRow}
+use Rattle.yp_changes.specs.declared.changed.ChangedRow.{ChangedRow}
 use Rattle.yp_filter.specs.Filters.{Asked, filter_size}
 use Rattle.yp_select.specs.Places.{path_above, is_compared}
 use Rattle.yp_touch.specs.declared.root.Root.{Root}

@@ -7,10 +7,10 @@ use Rattle.yp_base.specs.declared.notice.Change.{Change}
 use Rattle.yp_base.specs.Rows.{value_at}
 use Rattle.yp_schema.specs.declared.schema.SchemaNode.{SchemaNode}
 use Rattle.yp_schema.specs.Datastore.{is_path_of, IsDatastore}
-use Rattle.yp_edit.specs.declared.changed.ChangedRow.{ChangedRow}
-use Rattle.yp_edit.specs.Changes.{changed_rows}
+use Rattle.yp_changes.specs.declared.changed.ChangedRow.{ChangedRow}
+use Rattle.yp_changes.specs.Changes.{changed_rows}
 use Rattle.yp_nacm.specs.Decision.{visible_rows}
-use Rattle.yp_edit.specs.Records.{change_record}
+use Rattle.yp_changes.specs.Records.{change_record}
 use Rattle.yp_touch.specs.Looked.{IsBetween}
 use Rattle.yp_touch.specs.Roots.{row_edit}
 use Rattle.yp_touch.specs.RecordLaws.{have_paths}

@@ -18,12 +18,12 @@ use Rattle.yp_schema.specs.WellFormed.{IsSchema}
 use Rattle.yp_schema.specs.Datastore.{is_path_of, has_row, IsDatastore}
 use Rattle.yp_filter.specs.Filters.{Asked}
 use Rattle.yp_nacm.specs.Decision.{IsClosed, visible_rows}
-use Rattle.yp_edit.specs.declared.changed.ChangedRow.{ChangedRow}
-use Rattle.yp_edit.specs.Bases.{is_listed}
-use Rattle.yp_edit.specs.Changes.{are_alike, changed_rows}
-use Rattle.yp_edit.specs.ChangeLaws.{alike_is, alike_itself}
-use Rattle.yp_edit.specs.Records.{changed_paths, put_paths}
-use Rattle.yp_edit.specs.WindowLaws.{puts_rise}
+use Rattle.yp_changes.specs.declared.changed.ChangedRow.{ChangedRow}
+use Rattle.yp_changes.specs.Among.{is_listed}
+use Rattle.yp_changes.specs.Changes.{are_alike, changed_rows}
+use Rattle.yp_changes.specs.ChangeLaws.{alike_is, alike_itself}
+use Rattle.yp_changes.specs.Records.{changed_paths, put_paths}
+use Rattle.yp_changes.specs.WindowLaws.{puts_rise}
 use Rattle.yp_select.specs.Places.{path_above, is_compared}
 use Rattle.yp_select.specs.Selection.{kept, selection}
 use Rattle.yp_select.specs.KeptLaws.{value_kept}

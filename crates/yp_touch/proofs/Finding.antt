@@ -11,7 +11,7 @@ use Rattle.yp_base.specs.Paths.{last_node}
 use Rattle.yp_base.specs.Rows.{path_of, rows_within}
 use Rattle.yp_schema.specs.declared.schema.SchemaNode.{SchemaNode}
 use Rattle.yp_schema.specs.Datastore.{IsRowOf}
-use Rattle.yp_edit.specs.declared.changed.ChangedRow.{ChangedRow}
+use Rattle.yp_changes.specs.declared.changed.ChangedRow.{ChangedRow}
 use Rattle.yp_filter.specs.Filters.{Asked}
 use Rattle.yp_select.specs.Places.{path_above, is_compared}
 use Rattle.yp_select.specs.SelectionLaws.{all_selected}

@@ -9,9 +9,9 @@ use Rattle.yp_base.specs.Order.{is_within}
 use Rattle.yp_base.specs.Paths.{topmost}
 use Rattle.yp_base.specs.PathLaws.{within_itself, within_through}
 use Rattle.yp_schema.specs.Datastore.{has_row}
-use Rattle.yp_edit.specs.Bases.{is_listed}
-use Rattle.yp_edit.specs.Records.{changed_paths, put_paths}
-use Rattle.yp_edit.specs.WindowLaws.{PathsRise, puts_rise, puts_listed}
+use Rattle.yp_changes.specs.Among.{is_listed}
+use Rattle.yp_changes.specs.Records.{changed_paths, put_paths}
+use Rattle.yp_changes.specs.WindowLaws.{PathsRise, puts_rise, puts_listed}
 use Rattle.yp_touch.specs.declared.root.Root.{Root}
 use Rattle.yp_touch.specs.Absorbed.{AreTopmost, flagged, paths_of, root_at, was_in, absorbed, all_absorbed}
 use Rattle.yp_touch.specs.Looked.{uncovered, with_paths}

@@ -20,11 +20,11 @@ use Rattle.yp_schema.specs.Datastore.{has_row, is_present, value_of_kind, is_ent
 use Rattle.yp_schema.specs.SchemaLaws.{row_node}
 use Rattle.yp_filter.specs.Filters.{Asked}
 use Rattle.yp_nacm.specs.Decision.{visible_rows}
-use Rattle.yp_edit.specs.declared.changed.ChangedRow.{ChangedRow}
-use Rattle.yp_edit.specs.Bases.{is_listed}
-use Rattle.yp_edit.specs.Changes.{changed_rows}
-use Rattle.yp_edit.specs.ChangeLaws.{paths_in, change_in, changed_at, no_change}
-use Rattle.yp_edit.specs.Records.{changed_paths}
+use Rattle.yp_changes.specs.declared.changed.ChangedRow.{ChangedRow}
+use Rattle.yp_changes.specs.Among.{is_listed}
+use Rattle.yp_changes.specs.Changes.{changed_rows}
+use Rattle.yp_changes.specs.ChangeLaws.{paths_in, change_in, changed_at, no_change}
+use Rattle.yp_changes.specs.Records.{changed_paths}
 use Rattle.yp_select.specs.Places.{path_above, is_compared, moved_place, is_moved}
 use Rattle.yp_select.specs.PlaceLaws.{above_within, selection_local}
 use Rattle.yp_select.specs.Selection.{kept, selection}

@@ -6,12 +6,12 @@ use Rattle.yp_base.specs.declared.row.Row.{Row}
 use Rattle.yp_base.specs.Rows.{AreInOrder, value_at}
 use Rattle.yp_base.specs.RowLaws.{some_keep_order}
 use Rattle.yp_nacm.specs.Decision.{visible_rows}
-use Rattle.yp_edit.specs.declared.changed.ChangedRow.{ChangedRow}
-use Rattle.yp_edit.specs.Changes.{changed_rows}
-use Rattle.yp_edit.specs.Drafts.{is_covered}
-use Rattle.yp_edit.specs.ChangeLaws.{paths_in, changed_sorted}
+use Rattle.yp_changes.specs.declared.changed.ChangedRow.{ChangedRow}
+use Rattle.yp_changes.specs.Changes.{changed_rows}
+use Rattle.yp_changes.specs.Among.{is_covered}
+use Rattle.yp_changes.specs.ChangeLaws.{paths_in, changed_sorted}
 use Rattle.yp_base.specs.Paths.{topmost as roots_of}
-use Rattle.yp_edit.specs.Records.{change_at, changed_paths, change_record}
+use Rattle.yp_changes.specs.Records.{change_at, changed_paths, change_record}
 use Rattle.yp_touch.specs.Looked.{IsBetween}
 use Rattle.yp_touch.specs.Roots.{row_edit}
 use Rattle.yp_touch.proofs.Selected.{all_between, value_readable, chosen, changed_selected}

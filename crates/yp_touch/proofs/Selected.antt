@@ -7,8 +7,8 @@ use Rattle.yp_base.specs.declared.row.Value.{Value}
 use Rattle.yp_base.specs.declared.row.Row.{Row}
 use Rattle.yp_base.specs.Rows.{path_of, value_at, put_rows, AreInOrder}
 use Rattle.yp_base.specs.RowLaws.{all_puts, paths_of_some, picked-puts}
-use Rattle.yp_edit.specs.declared.changed.ChangedRow.{ChangedRow}
-use Rattle.yp_edit.specs.Changes.{are_alike, change_of, row_change as change_at, changed_rows, paths_of_both}
+use Rattle.yp_changes.specs.declared.changed.ChangedRow.{ChangedRow}
+use Rattle.yp_changes.specs.Changes.{are_alike, change_of, row_change as change_at, changed_rows, paths_of_both}
 use Rattle.yp_nacm.specs.Decision.{visible_rows}
 use Rattle.yp_select.specs.SelectionLaws.{value_selected}
 use Rattle.yp_touch.specs.Looked.{IsBetween}

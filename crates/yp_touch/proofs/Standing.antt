@@ -14,9 +14,9 @@ use Rattle.yp_base.specs.Order.{path_cmp, is_within}
 use Rattle.yp_base.specs.OrderLaws.{paths_total}
 use Rattle.yp_base.specs.Paths.{is_above, topmost}
 use Rattle.yp_base.specs.PathLaws.{are_one, ties_itself, less_turned, greater_turned, within_itself, within_together}
-use Rattle.yp_edit.specs.Bases.{is_listed}
-use Rattle.yp_edit.specs.Records.{put_path}
-use Rattle.yp_edit.specs.WindowLaws.{PathsRise}
+use Rattle.yp_changes.specs.Among.{is_listed}
+use Rattle.yp_changes.specs.Records.{put_path}
+use Rattle.yp_changes.specs.WindowLaws.{PathsRise}
 use Rattle.yp_touch.specs.Looked.{with_path, StandsAt}
 use Rattle.yp_touch.specs.RootLaws.{has_root, some_paths}
 use Rattle.yp_touch.proofs.Topped.{has_above, any_listed, topmost_listed}

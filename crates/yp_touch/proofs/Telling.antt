@@ -5,7 +5,7 @@ use Rattle.yp_base.specs.declared.path.Seg.{Seg}
 use Rattle.yp_base.specs.declared.row.Row.{Row}
 use Rattle.yp_base.specs.declared.notice.Change.{Change}
 use Rattle.yp_base.specs.declared.notice.Kinds.{Kinds}
-use Rattle.yp_edit.specs.Records.{is_excluded}
+use Rattle.yp_changes.specs.Records.{is_excluded}
 use Rattle.yp_touch.specs.Absorbed.{flagged, recorded, root_change}
 
 pub ok_on : {A E : Type 0} (r : Result A E) (P Q : A → Type 0) → ((x : A) → P x → Q x) → IfOk r P → IfOk r Q

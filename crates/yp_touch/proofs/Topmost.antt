@@ -11,7 +11,7 @@ use Rattle.yp_base.specs.OrderLaws.{segments_total, paths_total}
 use Rattle.yp_base.specs.Prefixes.{fronts_together, front_not_after}
 use Rattle.yp_base.specs.PathLaws.{within_itself, within_through, IsBefore}
 use Rattle.yp_base.specs.Paths.{is_above, topmost as roots_of}
-use Rattle.yp_edit.specs.Drafts.{is_covered}
+use Rattle.yp_changes.specs.Among.{is_covered}
 
 -- what comes before a path isn't at or below it
 pub outside : (path other : List Seg) → path_cmp path other ≡ Greater → is_within path other ≡ false

@@ -11,9 +11,9 @@ use Rattle.yp_base.specs.Order.{segment_cmp, path_cmp, is_within}
 use Rattle.yp_base.specs.Exact.{segments_decide}
 use Rattle.yp_base.specs.Paths.{is_above, topmost}
 use Rattle.yp_base.specs.PathLaws.{are_one, ties_itself, within_itself, within_through}
-use Rattle.yp_edit.specs.Bases.{is_listed}
-use Rattle.yp_edit.specs.Records.{put_path, put_paths}
-use Rattle.yp_edit.specs.WindowLaws.{PathsRise, put_rises, puts_rise, put_listed, puts_listed, same_paths}
+use Rattle.yp_changes.specs.Among.{is_listed}
+use Rattle.yp_changes.specs.Records.{put_path, put_paths}
+use Rattle.yp_changes.specs.WindowLaws.{PathsRise, put_rises, puts_rise, put_listed, puts_listed, same_paths}
 use Rattle.yp_touch.specs.Absorbed.{AreTopmost}
 use Rattle.yp_touch.specs.Looked.{with_path, with_paths}
 use Rattle.yp_touch.specs.RootLaws.{has_root, listed_rooted, found_one}

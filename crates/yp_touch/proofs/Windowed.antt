@@ -19,9 +19,9 @@ use Rattle.yp_schema.specs.SchemaLaws.{row_path, row_place}
 use Rattle.yp_filter.specs.Filters.{Asked}
 use Rattle.yp_nacm.specs.Decision.{IsClosed}
 use Rattle.yp_encode.specs.Sendable.{IsSendableChange}
-use Rattle.yp_edit.specs.Bases.{is_listed}
-use Rattle.yp_edit.specs.Records.{changed_paths, put_path, put_paths, touched_paths, change_at, change_record, is_excluded, HasNone, told, window_record}
-use Rattle.yp_edit.specs.WindowLaws.{told_all, one_step}
+use Rattle.yp_changes.specs.Among.{is_listed}
+use Rattle.yp_changes.specs.Records.{changed_paths, put_path, put_paths, touched_paths, change_at, change_record, is_excluded, HasNone, told, window_record}
+use Rattle.yp_changes.specs.WindowLaws.{told_all, one_step}
 use Rattle.yp_select.specs.Concealed.{AllReadable}
 use Rattle.yp_select.specs.Selection.{selection}
 use Rattle.yp_select.specs.KeptLaws.{kept_datastore}

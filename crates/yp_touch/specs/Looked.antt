@@ -10,9 +10,9 @@ use Rattle.yp_base.specs.Paths.{last_node}
 use Rattle.yp_base.specs.Rows.{path_of, value_at, rows_within}
 use Rattle.yp_schema.specs.declared.schema.SchemaNode.{SchemaNode}
 use Rattle.yp_schema.specs.Datastore.{has_row}
-use Rattle.yp_edit.specs.declared.changed.ChangedRow.{ChangedRow}
-use Rattle.yp_edit.specs.Changes.{are_alike}
-use Rattle.yp_edit.specs.Records.{put_path}
+use Rattle.yp_changes.specs.declared.changed.ChangedRow.{ChangedRow}
+use Rattle.yp_changes.specs.Changes.{are_alike}
+use Rattle.yp_changes.specs.Records.{put_path}
 use Rattle.yp_filter.specs.Filters.{Asked, filter_size}
 use Rattle.yp_select.specs.Places.{path_above, is_compared}
 use Rattle.yp_touch.specs.declared.root.Root.{Root}

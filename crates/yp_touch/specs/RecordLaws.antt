@@ -24,12 +24,12 @@ use Rattle.yp_schema.specs.WellFormed.{IsSchema}
 use Rattle.yp_schema.specs.Datastore.{goes_down, is_path_of, value_of_kind, is_entry_kind, last_kind_is, has_row, ends_in_entry, IsRowOf, IsDatastore, AreWritable}
 use Rattle.yp_schema.specs.SchemaLaws.{row_node, row_path, row_place, goes_on, node_after, leaf_ends}
 use Rattle.yp_tree.specs.Alike.{same_rows}
-use Rattle.yp_edit.specs.declared.changed.ChangedRow.{ChangedRow}
-use Rattle.yp_edit.specs.Bases.{is_listed}
-use Rattle.yp_edit.specs.ChangeLaws.{paths_in, change_in, alike_is, changed_at, none_differ}
-use Rattle.yp_edit.specs.Changes.{are_alike, change_of, changed_rows, paths_of_both}
-use Rattle.yp_edit.specs.Changes.{row_change as difference_at}
-use Rattle.yp_edit.specs.Records.{changed_paths, carried_rows, change_at, change_record}
+use Rattle.yp_changes.specs.declared.changed.ChangedRow.{ChangedRow}
+use Rattle.yp_changes.specs.Among.{is_listed}
+use Rattle.yp_changes.specs.ChangeLaws.{paths_in, change_in, alike_is, changed_at, none_differ}
+use Rattle.yp_changes.specs.Changes.{are_alike, change_of, changed_rows, paths_of_both}
+use Rattle.yp_changes.specs.Changes.{row_change as difference_at}
+use Rattle.yp_changes.specs.Records.{changed_paths, carried_rows, change_at, change_record}
 use Rattle.yp_nacm.specs.Decision.{IsClosed, visible_rows}
 use Rattle.yp_encode.specs.Sendable.{IsSendableChange}
 use Rattle.yp_select.specs.Concealed.{AllReadable}

@@ -6,7 +6,7 @@ use Rattle.std.specs.Ordering.{is_eq}
 use Rattle.std.proofs.lemmas.Bool.{and_parts, not-true, or_right}
 use Rattle.yp_base.specs.declared.path.Seg.{Seg}
 use Rattle.yp_base.specs.Order.{path_cmp, is_within}
-use Rattle.yp_edit.specs.Bases.{is_listed}
+use Rattle.yp_changes.specs.Among.{is_listed}
 use Rattle.yp_base.specs.Paths.{is_above, topmost as roots_of}
 use Rattle.yp_base.specs.PathLaws.{are_one, ties_itself, within_itself, within_rest, within_through}
 

@@ -7,7 +7,7 @@ use Rattle.yp_base.specs.declared.notice.Change.{Change}
 use Rattle.yp_base.specs.declared.notice.ChangeKind.{ChangeKind}
 use Rattle.yp_base.specs.declared.notice.ChangeKind.TheVariants as kinds
 use Rattle.yp_base.specs.Rows.{rows_within}
-use Rattle.yp_edit.specs.declared.changed.ChangedRow.{ChangedRow}
+use Rattle.yp_changes.specs.declared.changed.ChangedRow.{ChangedRow}
 
 -- the operation of the edit of a row with these values before and after
 abbrev pub kind_of : Option Value → Option Value → ChangeKind

@@ -11,7 +11,7 @@ use Rattle.yp_schema.specs.Datastore.{has_row, IsDatastore, AreWhole}
 use Rattle.yp_filter.specs.Filters.{Asked}
 use Rattle.yp_nacm.specs.Decision.{IsClosed}
 use Rattle.yp_encode.specs.Sendable.{IsSendableChange}
-use Rattle.yp_edit.specs.Records.{touched_paths, HasNone, window_record}
+use Rattle.yp_changes.specs.Records.{touched_paths, HasNone, window_record}
 use Rattle.yp_select.specs.Concealed.{AllReadable}
 use Rattle.yp_select.specs.Selection.{selection}
 use Rattle.yp_touch.specs.declared.root.Root.{Root}

@@ -1,7 +1,7 @@
 //! The records of steps, and of windows of steps: what changed of what a reader selects (RFC 8641 sections
 //! 3.7 and 3.9).
 //!
-//! The record of two selections is the edits by which one becomes the other (`change_record` of `yp_edit`),
+//! The record of two selections is the edits by which one becomes the other (`change_record` of `yp_changes`),
 //! and that of a window (`window_record`) the edits of the topmost of all places that a step of it touched.
 //! `Touched` keeps these places from one step to the next, and makes their record; contracts see it as a
 //! list of `Root` (`specs/Absorbed.antt`). `record_of` makes the record of one step without a filter. Each

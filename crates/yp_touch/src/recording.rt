@@ -4,7 +4,7 @@ ghost use Rattle.std.specs.List.{list_any, AllByRecursion};
 ghost use Rattle.std.specs.Ordering.{is_eq};
 ghost use Rattle.yp_base.specs.Order.{path_cmp};
 ghost use Rattle.yp_schema.specs.Datastore.{IsDatastore};
-ghost use Rattle.yp_edit.specs.Records.{carried_rows, is_excluded};
+ghost use Rattle.yp_changes.specs.Records.{carried_rows, is_excluded};
 ghost use Rattle.yp_encode.specs.Sendable.{IsSendableChange};
 ghost use Rattle.yp_filter.specs.Fits.{filter_fits};
 ghost use Rattle.yp_filter.specs.View.{filter_view};

@@ -3,7 +3,7 @@ ghost use Rattle.std.specs.Prelude.{◌≡◌, ◌+◌, ◌≤◌, [], List, tru
 ghost use Rattle.std.specs.List.{AllByRecursion};
 ghost use Rattle.yp_base.specs.declared.row.Row.{Row};
 ghost use Rattle.yp_schema.specs.Datastore.{IsDatastore};
-ghost use Rattle.yp_edit.specs.Changes.{changed_rows};
+ghost use Rattle.yp_changes.specs.Changes.{changed_rows};
 ghost use Rattle.yp_encode.specs.Sendable.{IsSendableChange};
 ghost use Rattle.yp_filter.specs.Filters.{all_rows};
 ghost use Rattle.yp_filter.specs.Fits.{filter_fits};
@@ -23,7 +23,7 @@ use yp_base::memory::{Duplicate, NoMemory};
 use yp_base::notice::{Changes, Kinds};
 use yp_base::path::Path;
 use yp_base::steps::Steps;
-use yp_edit::changed::ChangedRow;
+use yp_changes::changed::ChangedRow;
 use yp_filter::filter::Filter;
 use yp_nacm::readable::Readable;
 use yp_schema::schema::Schema;

@@ -14,7 +14,7 @@ use crate::root::Root;
 use std::alloc::Global;
 use yp_base::memory::NoMemory;
 use yp_base::path::Path;
-use yp_edit::changed::ChangedRow;
+use yp_changes::changed::ChangedRow;
 use yp_nacm::readable::Readable;
 use yp_schema::schema::Schema;
 

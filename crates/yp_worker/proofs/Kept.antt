@@ -9,9 +9,9 @@ use Rattle.yp_base.specs.declared.row.Value.{Value}
 use Rattle.yp_base.specs.Rows.{AreInOrder, value_at}
 use Rattle.yp_schema.specs.declared.schema.SchemaNode.{SchemaNode}
 use Rattle.yp_tree.specs.Alike.{same_rows}
-use Rattle.yp_edit.specs.declared.changed.ChangedRow.{ChangedRow}
-use Rattle.yp_edit.specs.ChangeLaws.{alike_is, change_in, changed_at}
-use Rattle.yp_edit.specs.Changes.{are_alike, change_of, changed_rows}
+use Rattle.yp_changes.specs.declared.changed.ChangedRow.{ChangedRow}
+use Rattle.yp_changes.specs.ChangeLaws.{alike_is, change_in, changed_at}
+use Rattle.yp_changes.specs.Changes.{are_alike, change_of, changed_rows}
 use Rattle.yp_journal.specs.History.{JournalState}
 use Rattle.yp_worker.specs.declared.contents.Selected.{Selected}
 use Rattle.yp_worker.specs.Contents.{AreSelected}

@@ -4,8 +4,8 @@ use Rattle.yp_schema.specs.declared.schema.SchemaNode.{SchemaNode}
 use Rattle.yp_schema.specs.WellFormed.{IsSchema}
 use Rattle.yp_journal.specs.declared.entry.Entry.{Entry}
 use Rattle.yp_journal.specs.declared.receiver.ReceiverInfo.{ReceiverInfo}
-use Rattle.yp_edit.specs.declared.changed.ChangedRow.{ChangedRow}
-use Rattle.yp_edit.specs.Changes.{changed_rows}
+use Rattle.yp_changes.specs.declared.changed.ChangedRow.{ChangedRow}
+use Rattle.yp_changes.specs.Changes.{changed_rows}
 use Rattle.yp_journal.specs.History.{JournalState, IsLegal, MayFollow, first_state, next_state, state_of}
 use Rattle.yp_attempt.specs.Moments.{Moment, MayFollow as FollowsMoments}
 use Rattle.yp_attempt.specs.Tracks.{Answer, Track}

@@ -4,8 +4,8 @@ use Rattle.yp_base.specs.declared.row.Row.{Row}
 use Rattle.yp_schema.specs.declared.schema.SchemaNode.{SchemaNode}
 use Rattle.yp_schema.specs.Datastore.{IsDatastore}
 use Rattle.yp_schema.specs.WellFormed.{IsSchema}
-use Rattle.yp_edit.specs.declared.changed.ChangedRow.{ChangedRow}
-use Rattle.yp_edit.specs.Changes.{changed_rows}
+use Rattle.yp_changes.specs.declared.changed.ChangedRow.{ChangedRow}
+use Rattle.yp_changes.specs.Changes.{changed_rows}
 use Rattle.yp_nacm.specs.declared.compile.UserRules.{UserRules}
 use Rattle.yp_registry.specs.Ids.{HasRisingIds}
 use Rattle.yp_registry.specs.Registry.{IsRegistryOf}

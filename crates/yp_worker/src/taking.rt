@@ -1,6 +1,6 @@
 //! What an entry of the journal makes of a worker.
 ghost use Rattle.std.specs.Prelude.{◌≡◌, ◌<◌, ◌≤◌, ◌^◌, ◌++◌, ◌∷◌, [], ℕ, List, true, false, length, map, IfOk, OnOk, OnErr};
-ghost use Rattle.yp_edit.specs.Changes.{changed_rows};
+ghost use Rattle.yp_changes.specs.Changes.{changed_rows};
 ghost use Rattle.yp_journal.specs.declared.entry.Entry.{Entry as EntryThere};
 ghost use Rattle.yp_journal.specs.declared.receiver.ReceiverInfo.{ReceiverInfo};
 ghost use Rattle.yp_journal.specs.History.{JournalState, MayCome, MayFollow, next_state};
@@ -20,7 +20,7 @@ use std::marker::Brand;
 use std::sync::ledger::{Blank, Ledger};
 use yp_base::memory::NoMemory;
 use yp_base::steps::Steps;
-use yp_edit::changed::{Changed, ChangedRow};
+use yp_changes::changed::{Changed, ChangedRow};
 use yp_journal::command::Command;
 use yp_journal::entry::Entry;
 use yp_journal::laws::{

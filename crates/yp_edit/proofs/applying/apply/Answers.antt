@@ -2,7 +2,7 @@ use Rattle.std.proofs.Common.{◌∙◌}
 use Rattle.std.proofs.lemmas.Result.{err_from_is_err_and}
 use Rattle.std.specs.Prelude.{Err}
 use Rattle.yp_edit.proofs.Applied.{patch_changes, patch_made}
-use Rattle.yp_edit.specs.ChangeLaws.{none_differ}
+use Rattle.yp_changes.specs.ChangeLaws.{none_differ}
 use Rattle.yp_edit.proofs.Refusals.{names_one}
 use Rattle.yp_edit.proofs.applying.apply.Goals as goal
 

@@ -1,6 +1,6 @@
 use Rattle.std.proofs.Common.{◌≡◌, ◌∙◌, ap, sym, List, [], length}
 use Rattle.std.specs.Prelude.{◌==◌}
-use Rattle.yp_edit.specs.declared.changed.ChangedRow.{ChangedRow}
+use Rattle.yp_changes.specs.declared.changed.ChangedRow.{ChangedRow}
 use Rattle.yp_journal.specs.History.{JournalState, next_state}
 use Rattle.yp_worker.proofs.Kept.{none_there, rows_stay, selected_still}
 use Rattle.yp_worker.proofs.keeping.keeps_selections.Goals as goal

@@ -5,7 +5,8 @@ use Rattle.yp_base.specs.declared.row.Row.{Row}
 use Rattle.yp_base.specs.declared.row.Value.{Value}
 use Rattle.yp_base.specs.Order.{path_cmp}
 use Rattle.yp_base.specs.Rows.{path_of, value_at}
-use Rattle.yp_edit.specs.Bases.{Touched, is_listed, left, Touches}
+use Rattle.yp_edit.specs.Bases.{Touched, left, Touches}
+use Rattle.yp_changes.specs.Among.{is_listed}
 use Rattle.yp_edit.proofs.Bases.{other_there}
 use Rattle.yp_edit.proofs.Touching.{Holds, one_counted, one_more_path, one_more_row}
 use Rattle.yp_edit.proofs.base.Base.keep.Goals as goal

@@ -1,6 +1,7 @@
 use Rattle.std.proofs.Common.{ap, sym, subst, ◌∙◌, length, map, true≢false}
 use Rattle.yp_base.specs.Rows.{path_of}
-use Rattle.yp_edit.specs.Bases.{KeepsValues, is_listed, left}
+use Rattle.yp_edit.specs.Bases.{KeepsValues, left}
+use Rattle.yp_changes.specs.Among.{is_listed}
 use Rattle.yp_edit.proofs.Bases.{none_listed}
 use Rattle.yp_edit.proofs.base.Base.new.Goals as goal
 

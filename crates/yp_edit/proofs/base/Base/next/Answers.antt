@@ -2,7 +2,8 @@ use Rattle.std.proofs.Common.{ap, sym, ◌∙◌, not, map}
 use Rattle.yp_base.specs.declared.row.Row.{Row}
 use Rattle.yp_base.specs.Rows.{path_of, next_row}
 use Rattle.yp_tree.specs.Listed.{row_of}
-use Rattle.yp_edit.specs.Bases.{Touched, is_listed, untouched}
+use Rattle.yp_edit.specs.Bases.{Touched, untouched}
+use Rattle.yp_changes.specs.Among.{is_listed}
 use Rattle.yp_edit.proofs.Walking.{next_first, next_picked, next_skipped, none_picked, fewer_left}
 use Rattle.yp_edit.proofs.Touching.{listed_there}
 use Rattle.yp_edit.proofs.base.Base.next.Goals as goal

@@ -1,7 +1,8 @@
 use Rattle.std.proofs.Common.{map, ap, sym, subst, ◌∙◌}
 use Rattle.std.specs.Prelude.{option_copied}
 use Rattle.yp_base.specs.Rows.{path_of, AreInOrder}
-use Rattle.yp_edit.specs.Bases.{Touched, is_listed, Touches, Loses}
+use Rattle.yp_edit.specs.Bases.{Touched, Touches, Loses}
+use Rattle.yp_changes.specs.Among.{is_listed}
 use Rattle.yp_edit.proofs.Bases.{touched_gone, none_at_left, loses_one, loses_none}
 use Rattle.yp_edit.proofs.Touching.{listed_there}
 use Rattle.yp_edit.proofs.base.Base.touch.Goals as goal

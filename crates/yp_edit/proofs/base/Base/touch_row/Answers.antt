@@ -1,6 +1,7 @@
 use Rattle.std.proofs.Common.{ap, sym, subst, ◌∙◌, map}
 use Rattle.yp_base.specs.Rows.{path_of}
-use Rattle.yp_edit.specs.Bases.{Touched, is_listed, Touches}
+use Rattle.yp_edit.specs.Bases.{Touched, Touches}
+use Rattle.yp_changes.specs.Among.{is_listed}
 use Rattle.yp_edit.proofs.Touching.{listed_there, touched_already}
 use Rattle.yp_edit.proofs.base.Base.touch_row.Goals as goal
 

@@ -1,6 +1,6 @@
 use Rattle.std.proofs.Common.{ap, sym, subst, ◌∙◌}
 use Rattle.yp_base.specs.Rows.{AreInOrder}
-use Rattle.yp_edit.specs.Changes.{changed_rows}
+use Rattle.yp_changes.specs.Changes.{changed_rows}
 use Rattle.yp_edit.specs.Drafts.{Drafted}
 use Rattle.yp_edit.proofs.Differing.{told_all, all_told}
 use Rattle.yp_edit.proofs.draft.Draft.changes.Goals as goal

@@ -1,5 +1,5 @@
 use Rattle.std.proofs.Common.{◌≡◌, ◌∙◌, ap, sym, subst, List, ◌∷◌, ◌++◌, [], ℕ}
-use Rattle.yp_edit.specs.Changes.{changed_rows}
+use Rattle.yp_changes.specs.Changes.{changed_rows}
 use Rattle.yp_nacm.specs.declared.compile.UserRules.{UserRules}
 use Rattle.yp_journal.specs.History.{JournalState, first_state, state_of}
 use Rattle.yp_moment.specs.Entries.{moments_of}

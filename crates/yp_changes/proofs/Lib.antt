@@ -1,0 +1,4 @@
+pub mod Committing
+pub mod Renewals
+pub mod Splitting
+pub mod Turning

@@ -1,0 +1,10 @@
+pub mod Among
+pub mod ChangeLaws
+pub mod Changes
+pub mod CommitLaws
+pub mod Commits
+pub mod Differing
+pub mod Records
+pub mod Renewals
+pub mod TakingLaws
+pub mod WindowLaws

@@ -1,0 +1,105 @@
+-- Texts that are told apart by those seen so far.
+use Rattle.std.proofs.Common.{◌≡◌, ℕ, ◌+◌, ◌<◌, List, [], ◌∷◌, ◌++◌, length, take, drop, get_or, refl, sym, ap, ◌∙◌, Bool, true, false, true≢false, not, ◌&&◌, ◌||◌, Bor}
+use Rattle.std.specs.List.{list_any}
+use Rattle.std.specs.Ordering.{is_eq, nat_cmp, match_ordering}
+use Rattle.std.specs.BTreeSet.{insert_key}
+use Rattle.std.specs.declared.cmp.Ordering.TheVariants.{Less, Equal, Greater}
+use Rattle.std.proofs.lemmas.Cmp.{alike_right}
+use Rattle.std.specs.Cmp.Lexicographic.{slice_cmp, texts_ties, nat_list_cmp_total}
+use Rattle.std.proofs.lemmas.Bool.{and_parts, and_from, or_parts}
+use Rattle.std.proofs.Math.Bool.{and-false, or_self_left}
+use Rattle.std.proofs.lemmas.List.{take_more, map-append, take-append-drop}
+use Rattle.yp_base.specs.declared.txt.Txt.{Txt}
+use Rattle.yp_base.specs.Types.{same_text, is_among, are_distinct}
+use Rattle.yp_patch.specs.declared.patch.Edit.{Edit}
+use Rattle.yp_patch.specs.Shapes.{ids_of}
+use Rattle.yp_base.specs.PathLaws.{or_turned, texts_turned}
+
+among_more : (text key : List ℕ) (texts : List (List ℕ)) → is_among text (texts ++ key ∷ []) ≡ (same_text key text || is_among text texts)
+among_more text key [] = ap (λ b. b || false) (texts_turned text key)
+among_more text key (other ∷ texts) = ap (λ b. same_text text other || b) (among_more text key texts) ∙ or_turned (same_text text other) (same_text key text) (is_among text texts)
+
+-- one more text, which isn't among distinct ones
+distinct_more : (key : List ℕ) (texts : List (List ℕ)) → are_distinct texts ≡ true → is_among key texts ≡ false → are_distinct (texts ++ key ∷ []) ≡ true
+distinct_more key [] distinct fresh = refl
+distinct_more key (text ∷ texts) distinct fresh =
+    let parts = and_parts (not (is_among text texts)) (are_distinct texts) distinct in
+    let apart = or_parts (same_text key text) (is_among key texts) fresh in
+    and_from (not (is_among text (texts ++ key ∷ []))) (are_distinct (texts ++ key ∷ []))
+    (ap not (among_more text key texts ∙ ap (λ b. b || is_among text texts) apart.0) ∙ parts.0)
+    (distinct_more key texts parts.1 apart.1)
+
+-- one that is among them
+not_distinct : (key : List ℕ) (texts : List (List ℕ)) → is_among key texts ≡ true → are_distinct (texts ++ key ∷ []) ≡ false
+not_distinct key [] among = absurd (true≢false (sym among))
+not_distinct key (text ∷ texts) among =
+    elim (same_text key text) as (λ b. same_text key text ≡ b → (b || is_among key texts) ≡ true → are_distinct (text ∷ (texts ++ key ∷ [])) ≡ false) [
+      | true ↦ λ same h. ap (λ b. not b && are_distinct (texts ++ key ∷ [])) (among_more text key texts ∙ ap (λ b. b || is_among text texts) same)
+      | false ↦ λ same h. ap (λ b. not (is_among text (texts ++ key ∷ [])) && b) (not_distinct key texts h) ∙ and-false (not (is_among text (texts ++ key ∷ [])))
+    ] refl among
+
+among_stays : (text : List ℕ) (texts more : List (List ℕ)) → is_among text texts ≡ true → is_among text (texts ++ more) ≡ true
+among_stays text [] more among = absurd (true≢false (sym among))
+among_stays text (other ∷ texts) more among =
+    elim (same_text text other) as (λ b. (b || is_among text texts) ≡ true → (b || is_among text (texts ++ more)) ≡ true) [
+      | true ↦ λ h. refl
+      | false ↦ λ h. among_stays text texts more h
+    ] among
+
+-- with more texts they are distinct no more than before
+never_again : (texts more : List (List ℕ)) → are_distinct texts ≡ false → are_distinct (texts ++ more) ≡ false
+never_again [] more not = absurd (true≢false not)
+never_again (text ∷ texts) more isnt =
+    elim (is_among text texts) as (λ b. is_among text texts ≡ b → (not b && are_distinct texts) ≡ false → are_distinct (text ∷ (texts ++ more)) ≡ false) [
+      | true ↦ λ among h. ap (λ b. not b && are_distinct (texts ++ more)) (among_stays text texts more among)
+      | false ↦ λ among h. ap (λ b. not (is_among text (texts ++ more)) && b) (never_again texts more h) ∙ and-false (not (is_among text (texts ++ more)))
+    ] refl isnt
+
+-- ---- edits
+
+-- whether a text is one of those seen
+abbrev pub is_seen : List ℕ → List (Bor Txt) → Bool
+is_seen text seen = list_any (λ (key : Bor Txt). is_eq (slice_cmp nat_cmp text key.now)) seen
+
+ids_more : (edits : List Edit) (i : ℕ) (edit : Edit) → i < length edits → edit ≡ get_or edits i edit → ids_of (take (i + 1) edits) ≡ ids_of (take i edits) ++ edit.id ∷ []
+ids_more edits i edit here is =
+    ap ids_of (take_more edits i edit here ∙ ap (λ (e : Edit). take i edits ++ e ∷ []) (sym is)) ∙ map-append (λ (e : Edit). e.id) (take i edits) (edit ∷ [])
+
+-- one more text is seen
+pub seen_more : (text : List ℕ) (seen : List (Bor Txt)) (key : Bor Txt) → is_seen text (insert_key (λ (one other : Bor Txt). slice_cmp nat_cmp one.now other.now) seen key) ≡ (is_eq (slice_cmp nat_cmp text key.now) || is_seen text seen)
+seen_more text [] key = refl
+seen_more text (other ∷ seen) key =
+    let p : Bor Txt → Bool = λ (k : Bor Txt). is_eq (slice_cmp nat_cmp text k.now) in
+    elim (slice_cmp nat_cmp key.now other.now) as (λ o. slice_cmp nat_cmp key.now other.now ≡ o → is_seen text (match_ordering o (key ∷ other ∷ seen) (other ∷ seen) (other ∷ insert_key (λ (one two : Bor Txt). slice_cmp nat_cmp one.now two.now) seen key)) ≡ (p key || (p other || is_seen text seen))) [
+      | Less ↦ λ e. refl
+      | Equal ↦ λ e. sym (or_self_left (p other) (is_seen text seen)) ∙ ap (λ b. b || (p other || is_seen text seen)) (ap is_eq (sym (alike_right nat_list_cmp_total key.now other.now text e)))
+      | Greater ↦ λ e. ap (λ b. p other || b) (seen_more text seen key) ∙ or_turned (p other) (p key) (is_seen text seen)
+    ] refl
+
+-- one more edit is seen
+pub edit_seen : (edits : List Edit) (i : ℕ) (edit : Edit) (text : List ℕ) (was is : Bool) → i < length edits → edit ≡ get_or edits i edit → is ≡ (is_eq (slice_cmp nat_cmp text edit.id) || was) → was ≡ is_among text (ids_of (take i edits)) → is ≡ is_among text (ids_of (take (i + 1) edits))
+edit_seen edits i edit text was is here at grown so_far =
+    grown
+    ∙ (λ j. sym (texts_turned edit.id text ∙ texts_ties text edit.id) j || so_far j)
+    ∙ sym (among_more text edit.id (ids_of (take i edits)))
+    ∙ ap (is_among text) (sym (ids_more edits i edit here at))
+
+-- whether it is new tells whether it was seen
+pub told_new : (new seen among : Bool) → new ≡ not seen → seen ≡ among → new ≡ true → among ≡ false
+told_new new true among told is h = absurd (true≢false (sym h ∙ told))
+told_new new false among told is h = sym is
+
+pub told_old : (new seen among : Bool) → new ≡ not seen → seen ≡ among → new ≡ false → among ≡ true
+told_old new true among told is h = sym is
+told_old new false among told is h = absurd (true≢false (sym told ∙ h))
+
+-- its id wasn't seen
+pub still_distinct : (edits : List Edit) (i : ℕ) (edit : Edit) → i < length edits → edit ≡ get_or edits i edit → is_among edit.id (ids_of (take i edits)) ≡ false → are_distinct (ids_of (take i edits)) ≡ true → are_distinct (ids_of (take (i + 1) edits)) ≡ true
+still_distinct edits i edit here at fresh distinct = ap are_distinct (ids_more edits i edit here at) ∙ distinct_more edit.id (ids_of (take i edits)) distinct fresh
+
+-- its id was seen
+pub seen_twice : (edits : List Edit) (i : ℕ) (edit : Edit) → i < length edits → edit ≡ get_or edits i edit → is_among edit.id (ids_of (take i edits)) ≡ true → are_distinct (ids_of edits) ≡ false
+seen_twice edits i edit here at among =
+    ap (λ (all : List Edit). are_distinct (ids_of all)) (sym (take-append-drop (i + 1) edits))
+    ∙ ap are_distinct (map-append (λ (e : Edit). e.id) (take (i + 1) edits) (drop (i + 1) edits) ∙ ap (λ (ids : List (List ℕ)). ids ++ ids_of (drop (i + 1) edits)) (ids_more edits i edit here at))
+    ∙ never_again (ids_of (take i edits) ++ edit.id ∷ []) (ids_of (drop (i + 1) edits)) (not_distinct edit.id (ids_of (take i edits)) among)
