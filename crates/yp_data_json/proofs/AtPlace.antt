@@ -102,15 +102,6 @@ place_first nodes schema at above seg rows row more is kind first h =
     let here = leaf_path nodes schema at above seg row is kind within of_schema in
     ap (value_at at) first ∙ ap (λ b. cond b (Some row.value) (value_at at more)) (ap (λ p. is_eq (path_cmp at p)) here ∙ ap is_eq (tied_itself paths_total at))
 
-pub place_fits : (nodes : List SchemaNode) → IsSchema nodes → (at above : List Seg) (seg : Seg) (rows : List Row) (row : Row) (more : List Row) → at ≡ above ++ seg ∷ [] → (node_at seg.node nodes).kind ≡ Leaf → rows ≡ row ∷ more → AreWritable nodes at rows
-    → typed_fits (node_at seg.node nodes).ty row.value ≡ true
-place_fits nodes schema at above seg rows row more is kind first h =
-    let within = (subst (λ xs. AllByRecursion (λ (x : Row). is_within at x.path ≡ true) xs) first h.within).0 in
-    let of_schema = (subst (λ xs. AllByRecursion (IsRowOf nodes) xs) first h.of_schema).0 in
-    let here = leaf_path nodes schema at above seg row is kind within of_schema in
-    let ends = row_ends nodes None above seg row.value (subst (λ path. goes_to_row nodes None path row.value ≡ true) (here ∙ is) of_schema.goes) in
-    subst (λ k. value_of_kind k (node_at seg.node nodes).ty row.value ≡ true) kind (end_kind nodes seg row.value ends)
-
 pub place_some : (nodes : List SchemaNode) (at above : List Seg) (seg : Seg) (rows : List Row) → at ≡ above ++ seg ∷ [] → (node_at seg.node nodes).kind ≡ Leaf → AreWritable nodes at rows → rows ≡ [] → ⊥
 place_some nodes at above seg rows is kind h none = true≢false (sym (h.leaf (place_leaf nodes at above seg is kind)) ∙ ap (has_row at) none)
 
@@ -120,10 +111,6 @@ pub place_written : (nodes : List SchemaNode) → IsSchema nodes → (at above :
 place_written nodes schema at above seg rows row more is kind first h =
     ap (leaf_data (node_at seg.node nodes).ty) (sym (place_first nodes schema at above seg rows row more is kind first h))
     ∙ sym (ap (λ k. place_data nodes k (node_at seg.node nodes) seg (value_at at rows) (members_in nodes (forest_at (length at) rows))) kind)
-
-pub if_same : (made : Result Json NoMemory) (d e : Data) → d ≡ e → IfOk made (λ json. view json ≡ d) → IfOk made (λ json. view json ≡ e)
-if_same (Ok json) d e same is = is ∙ same
-if_same (Err f) d e same is = tt
 
 -- ---- the whole
 

@@ -20,7 +20,7 @@ use Rattle.yp_schema.specs.WellFormed.{IsSchema}
 use Rattle.yp_schema.specs.Datastore.{goes_down}
 use Rattle.serde_json.specs.Data.{Data, Members, member}
 use Rattle.yp_schema.specs.SchemaLaws.{segment_within, row_goes_down, first_parent, first_segment}
-use Rattle.yp_data_json.specs.Runs.{GoesOn, IsRest, rest_at, AreBelow, begins_with, goes_through, ends_through, HasSegment, StandsBefore}
+use Rattle.yp_data_json.specs.Runs.{GoesOn, IsRest, rest_at, AreBelow, begins_with, goes_through, HasSegment}
 use Rattle.yp_data_json.proofs.Parts.{all_front, all_back, sorted_front, sorted_back, less_middle}
 
 -- ---- parts of rows
@@ -75,61 +75,21 @@ pub further : (nodes : List SchemaNode) (parent : Option ℕ) (depth : ℕ) (seg
     → AreBelow nodes (Some seg.node) (depth + 1) rows
 further nodes parent depth seg rows here h = record { each = all_further nodes parent depth seg rows here h.each; in_order = sorted_further depth seg rows here h.in_order }
 
--- ---- names in order
-
--- the member of a row's next segment stands before these members
-abbrev pub NextBefore : List SchemaNode → List Seg → Members → Type 0
-NextBefore nodes [] ms = Unit {0}
-NextBefore nodes (seg ∷ rest) ms = StandsBefore (node_at seg.node nodes).member ms
-
-abbrev pub AllBefore : List SchemaNode → ℕ → Members → List Row → Type 0
-AllBefore nodes depth ms rows = AllByRecursion (λ row. NextBefore nodes (drop depth row.path) ms) rows
-
--- the next segment, if there is one, is of an earlier node
-abbrev IsEarlier : ℕ → List Seg → Type 0
-IsEarlier n [] = Unit {0}
-IsEarlier n (seg ∷ rest) = seg.node < n
+-- ---- nodes in order
 
 node_order : (o : Ordering) (s t : Seg) (keys rest : Ordering) → o ≡ nat_cmp s.node t.node → ordering_then (ordering_then o keys) rest ≡ Less → s.node ≤ t.node
 node_order Less s t keys rest is h = let lt : s.node < t.node = ranked s.node t.node Less is in omega arith
 node_order Equal s t keys rest is h = let same : s.node ≡ t.node = ranked s.node t.node Equal is in omega arith
 node_order Greater s t keys rest is h = cc
 
-nodes_rise : (s t : Seg) (xs ys : List Seg) → path_cmp (s ∷ xs) (t ∷ ys) ≡ Less → s.node ≤ t.node
+pub nodes_rise : (s t : Seg) (xs ys : List Seg) → path_cmp (s ∷ xs) (t ∷ ys) ≡ Less → s.node ≤ t.node
 nodes_rise s t xs ys h = node_order (nat_cmp s.node t.node) s t (slice_cmp atom_cmp s.keys t.keys) (path_cmp xs ys) refl h
 
-earlier_last : (n : ℕ) (xs ys : List Seg) → path_cmp xs ys ≡ Less → begins_with n ys ≡ true → begins_with n xs ≡ false → IsEarlier n xs
-earlier_last n [] ys h is apart = tt
-earlier_last n (s ∷ xs) [] h is apart = cc
-earlier_last n (s ∷ xs) (t ∷ ys) h is apart =
-    let rise = nodes_rise s t xs ys h in
-    let same : t.node ≡ n = eqb-true t.node n is in
-    let other : s.node ≢ n = λ e. true≢false (sym (eq-eqb s.node n e) ∙ apart) in
-    omega arith
-
-earlier_chain : (n : ℕ) (xs ys : List Seg) → path_cmp xs ys ≡ Less → IsEarlier n ys → IsEarlier n xs
-earlier_chain n [] ys h later = tt
-earlier_chain n (s ∷ xs) [] h later = cc
-earlier_chain n (s ∷ xs) (t ∷ ys) h later = let rise = nodes_rise s t xs ys h in omega arith
-
-less_next : (depth : ℕ) (row : Row) (rows : List Row) (next : Row) (more : List Row) → IsStrictlySortedBy path_cmp (map (rest_at depth) (row ∷ (rows ++ next ∷ more))) → path_cmp (rest_at depth row) (rest_at depth next) ≡ Less
+pub less_next : (depth : ℕ) (row : Row) (rows : List Row) (next : Row) (more : List Row) → IsStrictlySortedBy path_cmp (map (rest_at depth) (row ∷ (rows ++ next ∷ more))) → path_cmp (rest_at depth row) (rest_at depth next) ≡ Less
 unfolding IsStrictlySortedBy
 less_next depth row rows next more h = less_middle path_cmp (rest_at depth) row rows next more h.0
 
-sorted_tail : (depth : ℕ) (row : Row) (rows : List Row) → IsStrictlySortedBy path_cmp (map (rest_at depth) (row ∷ rows)) → IsStrictlySortedBy path_cmp (map (rest_at depth) rows)
-unfolding IsStrictlySortedBy
-sorted_tail depth row rows h = h.1
-
--- rows before a run of one node that don't end in it are of earlier nodes
-front_earlier : (depth n : ℕ) (front : List Row) (row : Row) (more : List Row) → IsStrictlySortedBy path_cmp (map (rest_at depth) (front ++ row ∷ more))
-    → goes_through depth n row ≡ true → ends_through depth n front ≡ false → AllByRecursion (λ x. IsEarlier n (rest_at depth x)) front
-front_earlier depth n [] row more order is apart = tt
-front_earlier depth n (x ∷ []) row more order is apart = (earlier_last n (rest_at depth x) (rest_at depth row) (less_next depth x [] row more order) is apart, tt)
-front_earlier depth n (x ∷ next ∷ front) row more order is apart =
-    let later = front_earlier depth n (next ∷ front) row more (sorted_tail depth x ((next ∷ front) ++ row ∷ more) order) is apart in
-    (earlier_chain n (rest_at depth x) (rest_at depth next) (less_next depth x [] next (front ++ row ∷ more) order) later.0, later)
-
-same_parent : (a b p : Option ℕ) → same_number a p ≡ true → same_number b p ≡ true → same_number a b ≡ true
+pub same_parent : (a b p : Option ℕ) → same_number a p ≡ true → same_number b p ≡ true → same_number a b ≡ true
 same_parent None None p h k = refl
 same_parent None (Some b) None h k = k
 same_parent None (Some b) (Some p) h k = absurd (true≢false (sym h))
@@ -139,34 +99,12 @@ same_parent (Some a) (Some b) None h k = absurd (true≢false (sym h))
 same_parent (Some a) (Some b) (Some p) h k = eq-eqb a b (eqb-true a p h ∙ sym (eqb-true b p k))
 
 -- a node that a row goes through, as a child of the parent
-through_parent : (nodes : List SchemaNode) (parent : Option ℕ) (n : ℕ) (path : List Seg) → goes_down nodes parent path ≡ true → begins_with n path ≡ true
+pub through_parent : (nodes : List SchemaNode) (parent : Option ℕ) (n : ℕ) (path : List Seg) → goes_down nodes parent path ≡ true → begins_with n path ≡ true
     → (same_number (node_at n nodes).parent parent ≡ true) × (n < length nodes)
 through_parent nodes parent n [] down is = absurd (true≢false (sym is))
 through_parent nodes parent n (seg ∷ rest) down is =
     let same = eqb-true seg.node n is in
     subst (λ k. (same_number (node_at k nodes).parent parent ≡ true) × (k < length nodes)) same (first_parent nodes parent seg rest down, segment_within nodes seg (first_segment nodes parent seg rest down))
-
-before_at : (nodes : List SchemaNode) → IsSchema nodes → (parent : Option ℕ) (n : ℕ) (d : Data) (ms : Members) (path : List Seg)
-    → goes_down nodes parent path ≡ true → IsEarlier n path → same_number (node_at n nodes).parent parent ≡ true → n < length nodes
-    → NextBefore nodes path (member (node_at n nodes).member d ms)
-before_at nodes schema parent n d ms [] down less of_parent within = tt
-before_at nodes schema parent n d ms (seg ∷ rest) down less of_parent within =
-    schema.siblings seg.node n less within (same_parent (node_at seg.node nodes).parent (node_at n nodes).parent parent (first_parent nodes parent seg rest down) of_parent)
-
-all_before_at : (nodes : List SchemaNode) → IsSchema nodes → (parent : Option ℕ) (depth n : ℕ) (d : Data) (ms : Members) (rows : List Row)
-    → AllByRecursion (IsRest nodes parent depth) rows → AllByRecursion (λ x. IsEarlier n (rest_at depth x)) rows → same_number (node_at n nodes).parent parent ≡ true → n < length nodes
-    → AllBefore nodes depth (member (node_at n nodes).member d ms) rows
-all_before_at nodes schema parent depth n d ms [] rest less of_parent within = tt
-all_before_at nodes schema parent depth n d ms (row ∷ rows) rest less of_parent within =
-    (before_at nodes schema parent n d ms (drop depth row.path) (rest_down nodes parent depth row rest.0) less.0 of_parent within, all_before_at nodes schema parent depth n d ms rows rest.1 less.1 of_parent within)
-
--- members of the rows before a run stand before the member of the run
-pub front_before : (nodes : List SchemaNode) → IsSchema nodes → (parent : Option ℕ) (depth n : ℕ) (d : Data) (ms : Members) (front : List Row) (row : Row) (more : List Row)
-    → AreBelow nodes parent depth (front ++ row ∷ more) → goes_through depth n row ≡ true → ends_through depth n front ≡ false
-    → AllBefore nodes depth (member (node_at n nodes).member d ms) front
-front_before nodes schema parent depth n d ms front row more below is apart =
-    let here = through_parent nodes parent n (drop depth row.path) (rest_down nodes parent depth row (all_back (IsRest nodes parent depth) front (row ∷ more) below.each).0) is in
-    all_before_at nodes schema parent depth n d ms front (all_front (IsRest nodes parent depth) front (row ∷ more) below.each) (front_earlier depth n front row more below.in_order is apart) here.0 here.1
 
 -- ---- segments
 

@@ -8,10 +8,12 @@ pub mod Branches
 pub mod Entries
 pub mod Faults
 pub mod Fits
+pub mod Firsts
 pub mod Growing
 pub mod Held
 pub mod HoldingLaws
 pub mod KeyLaws
+pub mod KeysAmong
 pub mod KeysPut
 pub mod Laying
 pub mod Members
@@ -24,6 +26,7 @@ pub mod ReadStands
 pub mod Readings
 pub mod SameRows
 pub mod Steps
+pub mod Told
 pub mod Under
 pub mod Wholes
 pub mod RoundTrip

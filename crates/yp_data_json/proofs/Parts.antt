@@ -4,8 +4,6 @@ use Rattle.std.proofs.lemmas.List.{drop_more}
 use Rattle.std.proofs.Math.Seq.{take-append_seam, drop-append_seam}
 use Rattle.std.specs.List.{AllByRecursion}
 use Rattle.std.specs.List.Sorted.{IsStrictlySortedBy}
-use Rattle.yp_base.specs.declared.row.Row.{Row}
-use Rattle.yp_data_json.specs.Runs.{goes_through, ends_through}
 
 pub take_front : {X : Type 0} (all front back : List X) → all ≡ front ++ back → take (length front) all ≡ front
 take_front all front back e = ap (take (length front)) e ∙ take-append_seam front back
@@ -51,11 +49,6 @@ module _ {X K : Type 0} (c : K → K → Ordering) (key : X → K) where
   unfolding IsStrictlySortedBy
   sorted_back [] ys h = h
   sorted_back (x ∷ xs) ys h = sorted_back xs ys h.1
-
-pub ends_last : (depth node : ℕ) (rows : List Row) (row : Row) → ends_through depth node (rows ++ row ∷ []) ≡ goes_through depth node row
-ends_last depth node [] row = refl
-ends_last depth node (first ∷ []) row = refl
-ends_last depth node (first ∷ next ∷ rows) row = ends_last depth node (next ∷ rows) row
 
 pub none_left : {X : Type 0} (xs : List X) → length xs ≡ 0 → xs ≡ []
 none_left [] h = refl

@@ -19,12 +19,11 @@ use Rattle.serde_json.specs.Data.{Data, array, object, Members, no_members, memb
 use Rattle.serde_json.specs.View.{items_of}
 use Rattle.yp_data_json.specs.Forest.{Forest, bare, branch, own_of, in_front, laid, laid_all, forest_at}
 use Rattle.yp_data_json.specs.Writing.{leaf_data, item_data, Entry, Gathered, no_nodes, single, entries, entry_in_front, branch_in_front, members_of, gathered, members_in}
-use Rattle.yp_data_json.specs.Runs.{GoesOn, IsRest, AreBelow, AreNodes, longest, begins_with, goes_through, AllGoThrough, ends_through, HasSegment, StartsApart, StandsBefore, all_in_front, has_items, AreOneMember, AreEntries}
-use Rattle.yp_data_json.proofs.Parts.{all_back, ends_last}
+use Rattle.yp_data_json.specs.Runs.{GoesOn, IsRest, AreBelow, longest, begins_with, goes_through, AllGoThrough, HasSegment, StartsApart, StandsBefore, all_in_front, has_items, AreOneMember, AreEntries}
 use Rattle.yp_data_json.proofs.Branches.{StartsElse, own_at, one_branch, laid_append, rows_start}
-use Rattle.yp_data_json.proofs.Members.{put_first, other_first, run_is, entries_append, starts_else}
+use Rattle.yp_data_json.proofs.Members.{other_first, run_is, entries_append, starts_else}
 use Rattle.yp_schema.specs.SchemaLaws.{row_ends, end_kind, first_segment, leaf_ends}
-use Rattle.yp_data_json.proofs.Below.{rest_down, further, NextBefore, AllBefore, front_before, segment_of, deep_enough}
+use Rattle.yp_data_json.proofs.Below.{rest_down, further, segment_of, deep_enough}
 
 -- ---- the most segments
 
@@ -63,66 +62,12 @@ deep_left depth node left first later all is through long = let deep = deep_rows
 
 -- ---- members
 
--- nothing was written yet
-pub all_before_none : (nodes : List SchemaNode) (depth : ℕ) (rows : List Row) → AllBefore nodes depth no_members rows
-all_before_none nodes depth [] = tt
-all_before_none nodes depth (row ∷ rows) = (none_before nodes (drop depth row.path), all_before_none nodes depth rows)
-  where
-    none_before : (nodes : List SchemaNode) (path : List Seg) → NextBefore nodes path no_members
-    none_before nodes [] = tt
-    none_before nodes (seg ∷ path) = tt
-
 -- a row of which nothing is left adds nothing
 pub own_row_adds : (depth : ℕ) (row : Row) (rows : List Row) → drop depth row.path ≡ [] → forest_at depth (row ∷ rows) ≡ forest_at depth rows
 own_row_adds depth row rows none = ap (λ path. laid path row.value (forest_at depth rows)) none
 
-last_through : (depth : ℕ) (seg : Seg) (left before : List Row) (last : Row) → left ≡ before ++ last ∷ [] → HasSegment depth seg last → ends_through depth seg.node left ≡ true
-last_through depth seg left before last is here =
-    ap (ends_through depth seg.node) is ∙ ends_last depth seg.node before last ∙ ap (begins_with seg.node) here ∙ eq-eqb seg.node seg.node refl
-
--- the run of the last row has a row
-pub run_some : (depth : ℕ) (seg : Seg) (left before : List Row) (last : Row) (front run : List Row) → left ≡ before ++ last ∷ [] → HasSegment depth seg last → left ≡ front ++ run → ends_through depth seg.node front ≡ false
-    → (row : Row) × ((more : List Row) × (run ≡ row ∷ more))
-run_some depth seg left before last front [] is here parts apart =
-    absurd (true≢false (sym (last_through depth seg left before last is here) ∙ ap (ends_through depth seg.node) (parts ∙ append-nil front) ∙ apart))
-run_some depth seg left before last front (row ∷ more) is here parts apart = (row, (more, refl))
-
 pub some_rows : (rows : List Row) (row : Row) (more : List Row) → rows ≡ row ∷ more → 0 < length rows
 some_rows rows row more is = let e : length rows ≡ length (row ∷ more) = ap length is in omega arith
-
--- the last row's next segment
-pub last_next : (nodes : List SchemaNode) (parent : Option ℕ) (depth : ℕ) (seg : Seg) (left before : List Row) (last : Row) → left ≡ before ++ last ∷ [] → HasSegment depth seg last → AreBelow nodes parent depth left
-    → goes_down nodes parent (seg ∷ drop (depth + 1) last.path) ≡ true
-last_next nodes parent depth seg left before last is here below =
-    let each = all_back (IsRest nodes parent depth) before (last ∷ []) (subst (λ rows. AllByRecursion (IsRest nodes parent depth) rows) is below.each) in
-    subst (λ path. goes_down nodes parent path ≡ true) here (rest_down nodes parent depth last each.0)
-
-pub last_before : (nodes : List SchemaNode) (depth : ℕ) (ms : Members) (seg : Seg) (left before : List Row) (last : Row) → left ≡ before ++ last ∷ [] → HasSegment depth seg last → AllBefore nodes depth ms left
-    → StandsBefore (node_at seg.node nodes).member ms
-last_before nodes depth ms seg left before last is here all =
-    let found = all_back (λ (row : Row). NextBefore nodes (drop depth row.path) ms) before (last ∷ []) (subst (λ rows. AllBefore nodes depth ms rows) is all) in
-    subst (λ path. NextBefore nodes path ms) here found.0
-
--- one more member in front
-pub one_more : (nodes : List SchemaNode) (depth n : ℕ) (run later : List Row) (d : Data) (ms all : Members) → AreOneMember nodes depth n run d → ms ≡ members_in nodes (forest_at depth later) → StandsBefore (node_at n nodes).member ms
-    → all ≡ put (node_at n nodes).member d ms
-    → (all ≡ members_in nodes (forest_at depth (run ++ later))) × (all ≡ member (node_at n nodes).member d ms)
-one_more nodes depth n run later d ms all run_writes is before put_is =
-    let first : all ≡ member (node_at n nodes).member d ms = put_is ∙ put_first (node_at n nodes).member d ms before in
-    let written = run_writes (forest_at depth later) (subst (λ (x : Members). StandsBefore (node_at n nodes).member x) is before) in
-    (first ∙ ap (member (node_at n nodes).member d) is ∙ sym written ∙ ap (members_in nodes) (sym (laid_append depth run later bare)), first)
-
-pub regrouped : {X : Type 0} (all left front run later : List X) → all ≡ left ++ later → left ≡ front ++ run → all ≡ front ++ (run ++ later)
-regrouped all left front run later whole parts = whole ∙ ap (λ xs. xs ++ later) parts ∙ append_assoc front run later
-
--- the members of the rows that are left stand before the new one
-pub rest_before : (nodes : List SchemaNode) → IsSchema nodes → (parent : Option ℕ) (depth : ℕ) (seg : Seg) (d : Data) (ms : Members) (left before : List Row) (last : Row) (front run : List Row)
-    → left ≡ before ++ last ∷ [] → HasSegment depth seg last → left ≡ front ++ run → AllGoThrough depth seg.node run → ends_through depth seg.node front ≡ false → AreBelow nodes parent depth left
-    → AllBefore nodes depth (member (node_at seg.node nodes).member d ms) front
-rest_before nodes schema parent depth seg d ms left before last front [] is here parts through apart below =
-    absurd (true≢false (sym (last_through depth seg left before last is here) ∙ ap (ends_through depth seg.node) (parts ∙ append-nil front) ∙ apart))
-rest_before nodes schema parent depth seg d ms left before last front (row ∷ more) is here parts through apart below =
-    front_before nodes schema parent depth seg.node d ms front row more (subst (λ rows. AreBelow nodes parent depth rows) parts below) through.0 apart
 
 -- ---- containers and leaves
 
@@ -209,15 +154,6 @@ leaf_row nodes schema parent depth n row kind through rest =
     let here = plain_at nodes parent depth n row (ap has_plain kind) through rest in
     let down : goes_down nodes parent (plain_segment n ∷ drop (depth + 1) row.path) ≡ true = subst (λ path. goes_down nodes parent path ≡ true) here (rest_down nodes parent depth row rest) in
     leaf_ends nodes schema n (drop (depth + 1) row.path) (ap may_hold kind) (and_parts _ (goes_down nodes (Some n) (drop (depth + 1) row.path)) down).1
-
-pub leaf_fits : (nodes : List SchemaNode) → IsSchema nodes → (parent : Option ℕ) (depth n : ℕ) (row : Row) → (node_at n nodes).kind ≡ Leaf → goes_through depth n row ≡ true → IsRest nodes parent depth row
-    → typed_fits (node_at n nodes).ty row.value ≡ true
-leaf_fits nodes schema parent depth n row kind through rest =
-    let here = plain_at nodes parent depth n row (ap has_plain kind) through rest in
-    let path_is : drop depth row.path ≡ plain_segment n ∷ [] = here ∙ ap (λ path. plain_segment n ∷ path) (leaf_row nodes schema parent depth n row kind through rest) in
-    let goes : goes_to_row nodes parent (plain_segment n ∷ []) row.value ≡ true = subst (λ path. GoesOn nodes parent path row.value) path_is rest in
-    let fits = end_kind nodes (plain_segment n) row.value (row_ends nodes parent [] (plain_segment n) row.value goes) in
-    subst (λ k. value_of_kind k (node_at n nodes).ty row.value ≡ true) kind fits
 
 pub leaf_member : (nodes : List SchemaNode) → IsSchema nodes → (parent : Option ℕ) (depth n : ℕ) (rows : List Row) (row : Row) (more : List Row) (d : Data) → (node_at n nodes).kind ≡ Leaf → AllGoThrough depth n rows → AreBelow nodes parent depth rows
     → rows ≡ row ∷ more → d ≡ leaf_data (node_at n nodes).ty (Some row.value) → AreOneMember nodes depth n rows d
@@ -333,23 +269,9 @@ entries_member nodes depth n rows (e ∷ es) through some are f before = ap (mem
 
 -- ---- keys of a list
 
-keys_are_nodes : (nodes : List SchemaNode) (n : ℕ) (ks : List ℕ) → are_key_leaves n nodes ks ≡ true → AreNodes nodes ks
-keys_are_nodes nodes n [] h = tt
-keys_are_nodes nodes n (k ∷ ks) h =
-    let parts = and_parts (is_key_leaf n nodes k && not (is_in k ks)) (are_key_leaves n nodes ks) h in
-    let leaf = (and_parts (is_key_leaf n nodes k) (not (is_in k ks)) parts.0).0 in
-    (leaf_within nodes n k leaf, keys_are_nodes nodes n ks parts.1)
-  where
-    leaf_within : (nodes : List SchemaNode) (n k : ℕ) → is_key_leaf n nodes k ≡ true → k < length nodes
-    leaf_within nodes n k h = ltb-true k (length nodes) (and_parts _ _ (and_parts _ _ (and_parts _ _ (and_parts _ _ h).0).0).0).0
-
 listing_keys : (nodes : List SchemaNode) (n : ℕ) (node : SchemaNode) → kind_stands Listing n nodes node ≡ true → are_key_leaves n nodes node.keys ≡ true
 listing_keys nodes n node h =
     (and_parts (not (is_empty node.keys)) (are_key_leaves n nodes node.keys) (and_parts (not (is_empty node.keys) && are_key_leaves n nodes node.keys) (has_none node.ty) h).0).1
 
 pub key_leaves : (nodes : List SchemaNode) → IsSchema nodes → (n : ℕ) → n < length nodes → (node_at n nodes).kind ≡ Listing → are_key_leaves n nodes (node_at n nodes).keys ≡ true
 key_leaves nodes schema n within kind = listing_keys nodes n (node_at n nodes) (subst (λ k. kind_stands k n nodes (node_at n nodes) ≡ true) kind (schema.each n within).kind)
-
--- the keys of a list are nodes
-pub keys_within : (nodes : List SchemaNode) → IsSchema nodes → (n : ℕ) → n < length nodes → (node_at n nodes).kind ≡ Listing → AreNodes nodes (node_at n nodes).keys
-keys_within nodes schema n within kind = keys_are_nodes nodes n (node_at n nodes).keys (key_leaves nodes schema n within kind)

@@ -1,4 +1,5 @@
 pub mod AtPath
+pub mod EntryKeys
 pub mod Forest
 pub mod Holding
 pub mod ReadLaws

@@ -16,8 +16,6 @@ use Rattle.yp_schema.specs.Nodes.{node_at}
 use Rattle.yp_schema.specs.Datastore.{goes_to_row}
 use Rattle.serde_json.specs.Data.{Data, Members, no_members, member}
 use Rattle.yp_data_json.specs.Forest.{Forest, laid_all}
-use Rattle.serde_json.specs.View.{view}
-use Rattle.yp_data_json.specs.declared.writing.Entry.{Entry as WrittenEntry}
 use Rattle.yp_data_json.specs.Writing.{Entry, Gathered, entry_in_front, gathered, members_in}
 
 -- a path ends in this segment
@@ -49,11 +47,6 @@ pub record AreBelow (nodes : List SchemaNode) (parent : Option ℕ) (depth : ℕ
 abbrev pub GoOnBelow : List SchemaNode → ℕ → List Row → Type 0
 GoOnBelow nodes depth rows = (parent : Option ℕ) × AreBelow nodes parent depth rows
 
--- numbers of nodes
-abbrev pub AreNodes : List SchemaNode → List ℕ → Type 0
-AreNodes nodes [] = Unit {0}
-AreNodes nodes (n ∷ ns) = (n < length nodes) × AreNodes nodes ns
-
 -- the most segments of a path
 abbrev pub longest : List Row → ℕ
 longest [] = 0
@@ -72,11 +65,10 @@ goes_through depth node row = begins_with node (drop depth row.path)
 abbrev pub AllGoThrough : ℕ → ℕ → List Row → Type 0
 AllGoThrough depth node rows = AllByRecursion (λ row. goes_through depth node row ≡ true) rows
 
--- whether the last row's path does
-abbrev pub ends_through : ℕ → ℕ → List Row → Bool
-ends_through depth node [] = false
-ends_through depth node (row ∷ []) = goes_through depth node row
-ends_through depth node (row ∷ next ∷ rows) = ends_through depth node (next ∷ rows)
+-- whether the first row's path does
+abbrev pub begins_through : ℕ → ℕ → List Row → Bool
+begins_through depth node [] = false
+begins_through depth node (row ∷ rows) = goes_through depth node row
 
 -- a row's path has this segment at a depth
 abbrev pub HasSegment : ℕ → Seg → Row → Type 0
@@ -100,10 +92,6 @@ pub record EndsBetween (depth : ℕ) (seg : Seg) (rows : List Row) (low high : �
   pub apart : StartsApart depth seg (drop high rows)
 
 -- ---- what is written of a run
-
--- an entry as it was written
-abbrev pub entry_of : WrittenEntry → Entry
-entry_of entry = record { keys = entry.keys.now; json = view entry.json }
 
 -- entries of a node, each in front of those after it
 abbrev pub all_in_front : ℕ → List Entry → Gathered → Gathered

@@ -9,6 +9,7 @@
 #![tactic(auto)]
 
 pub mod at_path;
+mod entry_keys;
 pub mod fault;
 pub mod holding;
 mod keys;

@@ -1,7 +1,7 @@
 //! Rows cut into runs: the rows of one member, and of one entry.
 ghost use Rattle.std.specs.Prelude.{◌≡◌, ◌+◌, ◌^◌, ◌<◌, ◌++◌, length, true, false};
 ghost use Rattle.std.specs.List.{AllByRecursion};
-ghost use Rattle.yp_data_json.specs.Runs.{goes_through as goes_through_node, AllGoThrough, ends_through, HasSegment, StartsWith, StartsApart, AreRising, EndsBetween};
+ghost use Rattle.yp_data_json.specs.Runs.{goes_through as goes_through_node, AllGoThrough, begins_through, HasSegment, StartsWith, StartsApart, AreRising, EndsBetween};
 
 use yp_base::path::Seg;
 use yp_base::row::Row;
@@ -22,20 +22,20 @@ fn goes_through(row: &Row, depth: usize, node: u32) -> bool
     row.path.len() > depth && segment(row, depth).node == node
 }
 
-/// Rows before a run of one node at their end, and that run.
+/// The run of rows of one node that rows begin with, and the others.
 pub fn split_run<'a>(rows: &'a [Row], depth: usize, node: u32) -> (&'a [Row], &'a [Row])
     ensures parts { rows.now ≡ result.0.now ++ result.1.now }
-    ensures run { AllGoThrough depth node result.1.now }
-    ensures front { ends_through depth node result.0.now ≡ false }
+    ensures run { AllGoThrough depth node result.0.now }
+    ensures others { begins_through depth node result.1.now ≡ false }
 {
-    let mut front = rows;
-    while let Some((last, before)) = front.split_last() {
-        if !goes_through(last, depth, node) {
+    let mut others = rows;
+    while let Some((first, later)) = others.split_first() {
+        if !goes_through(first, depth, node) {
             break;
         }
-        front = before;
+        others = later;
     }
-    rows.split_at(front.len())
+    rows.split_at(rows.len() - others.len())
 }
 
 /// How far the rows of an entry at the beginning of rows go at least, and at most. Rows at distances that

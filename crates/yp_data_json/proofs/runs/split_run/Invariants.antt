@@ -3,8 +3,8 @@ use Rattle.yp_base.specs.declared.row.Row.{Row}
 use Rattle.yp_data_json.specs.Runs.{AllGoThrough}
 use Rattle.yp_data_json.proofs.runs.split_run.Given as goal
 
-abbrev pub invariant-loop-last : goal.invariant-loop-last
-invariant-loop-last l = (run : List Row) × (l.rows ≡ l.front ++ run) × AllGoThrough l.depth l.node run
+abbrev pub invariant-loop-first : goal.invariant-loop-first
+invariant-loop-first l = (run : List Row) × (l.rows ≡ run ++ l.others) × AllGoThrough l.depth l.node run
 
-abbrev pub decreases-loop-last : goal.decreases-loop-last
-decreases-loop-last l = length l.front
+abbrev pub decreases-loop-first : goal.decreases-loop-first
+decreases-loop-first l = length l.others

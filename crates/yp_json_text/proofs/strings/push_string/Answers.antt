@@ -1,6 +1,6 @@
 use Rattle.std.proofs.Common.{sym, ◌∙◌, string_bytes}
-use Rattle.yp_encode.proofs.Told.{plain_told}
-use Rattle.yp_encode.proofs.parts.push_string.Goals as goal
+use Rattle.yp_json_text.proofs.Told.{plain_told}
+use Rattle.yp_json_text.proofs.strings.push_string.Goals as goal
 
 pub returns : goal.returns
 returns c =

@@ -3,7 +3,7 @@ use Rattle.std.proofs.Common.{◌≡◌, ℕ, List, [], ◌∷◌, ◌++◌, tru
 use Rattle.std.specs.List.{list_all}
 use Rattle.std.proofs.lemmas.Bool.{and_parts}
 use Rattle.json.specs.Print.{escape, escape_byte, quoted}
-use Rattle.yp_encode.specs.Texts.{stands_for_itself}
+use Rattle.yp_json_text.specs.Strings.{stands_for_itself}
 
 plain_byte : (b : ℕ) → stands_for_itself b ≡ true → escape_byte b ≡ b ∷ []
 unfolding escape_byte
