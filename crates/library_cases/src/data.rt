@@ -16,13 +16,13 @@ use yp_base::row::Rows;
 use yp_data_json::at_path::{read_payload, read_rows};
 use yp_data_json::fault::{DataError, DataFault};
 use yp_data_json::holding::{accepted_data_holds_its_rows, names_stand_once};
-use yp_data_json::writing::write_rows;
+use yp_data_json::writing::push_rows;
 use yp_path::target::read_target;
 use yp_schema::schema::Schema;
 
 pub fn answer(alloc: Global, schema: &Schema, call: &str, arguments: &Json) -> Answer {
     Ok(Some(match call {
-        "read_rows" | "read_payload" | "write_rows" => at_place(alloc, schema, call, arguments)?,
+        "read_rows" | "read_payload" | "push_rows" => at_place(alloc, schema, call, arguments)?,
         _ => return Ok(None),
     }))
 }
@@ -110,10 +110,12 @@ fn written(alloc: Global, schema: &Schema, at: &Path, rows: &Rows) -> OrFault<St
     requires place { is_place schema.now at.now ≡ true }
     requires whole { AreWhole schema.now at.now rows.now }
 {
-    let json = write_rows(alloc, schema, at, rows)?;
+    let mut text = String::new(alloc);
+    push_rows(alloc, schema, &mut text, at, rows)?;
+    let json = Json::from_str(alloc, text.as_str())?;
     let again = rows_read(alloc, schema, at, &json)?;
     if again.as_str() == shown::rows(alloc, rows)?.as_str() {
-        Ok(json.to_string(alloc)?)
+        Ok(text)
     } else {
         shown::quoted(alloc, "other rows are read again")
     }

@@ -7,7 +7,7 @@ use crate::given::{self, part};
 use crate::shown::{self, Answer};
 use serde_json::Value as Json;
 use std::alloc::Global;
-use yp_base::json::{member, read_json, read_json_fits, write_json, written_json_is_read};
+use yp_base::json::{member, read_json, read_json_fits, written_json_is_read};
 use yp_base::leaf_type::LeafType;
 use yp_base::memory::Duplicate;
 use yp_base::payload::Payload;
@@ -16,6 +16,7 @@ use yp_base::text::{
     TextFault, fitting_value_is_writable, read_text, read_text_fits, write_text,
     written_text_is_read,
 };
+use yp_json_text::values::push_value;
 use yp_schema::schema::Schema;
 
 pub fn answer(alloc: Global, call: &str, arguments: &Json) -> Answer {
@@ -131,7 +132,9 @@ fn json_value(alloc: Global, ty: &LeafType, json: &Json) -> OrFault<String>
 }
 
 fn written_json(alloc: Global, ty: &LeafType, value: &Value) -> OrFault<String> {
-    Ok(write_json(alloc, ty, value)?.to_string(alloc)?)
+    let mut text = String::new(alloc);
+    push_value(alloc, &mut text, ty, value)?;
+    Ok(text)
 }
 
 /// A copy of a type.

@@ -15,7 +15,7 @@ use yp_base::series::Series;
 use yp_base::steps::Steps;
 use yp_changes::changed::{Changed, ChangedRow};
 use yp_data_json::at_path::read_rows;
-use yp_data_json::writing::write_rows;
+use yp_data_json::writing::push_rows;
 use yp_edit::applying::apply;
 use yp_edit::fault::EditFault;
 use yp_patch::fault::PatchFault;
@@ -178,7 +178,9 @@ pub fn data_of(alloc: Global, schema: &Schema, rows: &Rows) -> anyhow::Result<St
     requires { AreWritable schema.now [] rows.now }
 {
     let top = Path::from_vec(Vec::new(alloc));
-    Ok(write_rows(alloc, schema, &top, rows)?.to_string(alloc)?)
+    let mut text = String::new(alloc);
+    push_rows(alloc, schema, &mut text, &top, rows)?;
+    Ok(text)
 }
 
 /// A row that changed: its path, with what it held before and after.

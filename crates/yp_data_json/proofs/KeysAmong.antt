@@ -1,12 +1,12 @@
 -- Keys put among the members of an entry.
-use Rattle.std.proofs.Common.{◌≡◌, ◌≢◌, ℕ, zero, suc, ◌+◌, ◌<◌, ◌≤◌, List, [], ◌∷◌, ◌++◌, length, drop, take, Bool, true, false, true≢false, Option, Some, None, refl, sym, ap, subst, ◌∙◌, arith, add-one, append-nil, append_assoc, Ordering, Less, Equal, Greater, nat_cmp, not, ◌&&◌}
+use Rattle.std.proofs.Common.{◌≡◌, ◌≢◌, ℕ, zero, suc, ◌+◌, ◌-◌, ◌<◌, ◌≤◌, List, [], ◌∷◌, ◌++◌, length, drop, take, Bool, true, false, true≢false, Option, Some, None, refl, sym, ap, subst, ◌∙◌, arith, add-one, append-nil, append_assoc, Ordering, Less, Equal, Greater, nat_cmp, not, ◌&&◌}
 use Rattle.std.specs.Prelude.{nat_eq}
 use Rattle.std.specs.Cmp.Lexicographic.{slice_cmp}
 use Rattle.std.specs.Ordering.{ordering_reverse}
 use Rattle.std.specs.List.{AllByRecursion}
 use Rattle.std.proofs.lemmas.Bool.{and_parts, eqb-true, eq-eqb, ltb-true, or_left, or_right, or_parts}
 use Rattle.std.proofs.lemmas.Cmp.{nat_list_cmp_total, alike_right}
-use Rattle.std.proofs.lemmas.List.{take-append-drop}
+use Rattle.std.proofs.lemmas.List.{take-append-drop, drop-drop, length-drop}
 use Rattle.yp_base.specs.declared.atom.Atom.{Atom}
 use Rattle.yp_base.specs.declared.path.Seg.{Seg}
 use Rattle.yp_base.specs.declared.row.Row.{Row}
@@ -191,6 +191,19 @@ none_less leaf keys i key order is least =
 pub ascending_back : (front back : List Key) → AreAscending (front ++ back) → AreAscending back
 ascending_back [] back order = order
 ascending_back (key ∷ front) back order = ascending_back front back order.1
+
+-- keys from a place on are those before a leaf, and the others
+pub cut_at : (keys : List Key) (next leaf place : ℕ) (waiting before : List Key) → waiting ≡ drop next keys → IsPlaceOf leaf waiting place → before ≡ take place waiting
+    → (drop next keys ≡ before ++ drop (next + place) keys) × (AllByRecursion (λ key. key.leaf < leaf) before × AllByRecursion (λ key. leaf ≤ key.leaf) (drop (next + place) keys))
+cut_at keys next leaf place waiting before wait at front =
+    let after : drop place waiting ≡ drop (next + place) keys = ap (drop place) wait ∙ drop-drop place next keys in (
+      sym wait ∙ sym (take-append-drop place waiting) ∙ ap (λ xs. xs ++ drop place waiting) (sym front) ∙ ap (λ xs. before ++ xs) after,
+      (subst (AllByRecursion (λ (key : Key). key.leaf < leaf)) (sym front) at.before, subst (AllByRecursion (λ (key : Key). leaf ≤ key.leaf)) after at.after),
+    )
+
+-- a place among the keys that are left is a place among all
+pub place_within : (keys : List Key) (next place : ℕ) (waiting : List Key) → waiting ≡ drop next keys → next ≤ length keys → place ≤ length waiting → next + place ≤ length keys
+place_within keys next place waiting wait within low = let e : length waiting ≡ length keys - next = ap length wait ∙ length-drop next keys in omega arith
 
 -- ---- keys that are brought into order
 

@@ -1,7 +1,7 @@
 //! Writing the keys of a list entry among its other members.
-ghost use Rattle.std.specs.Prelude.{◌≡◌, ◌<◌, ◌++◌, Some, length, IfOk, OnOk, string_bytes};
+ghost use Rattle.std.specs.Prelude.{◌≡◌, ◌<◌, ◌≤◌, ◌++◌, ℕ, Option, Some, drop, length, IfOk, OnOk, string_bytes};
 ghost use Rattle.std.specs.List.{AllByRecursion};
-ghost use Rattle.serde_json.specs.Data.{Members};
+ghost use Rattle.serde_json.specs.Data.{Members, no_members};
 ghost use Rattle.serde_json.specs.Written.{compact_text, members_text};
 ghost use Rattle.yp_schema.specs.Nodes.{node_at};
 ghost use Rattle.yp_schema.specs.WellFormed.{IsSchema};
@@ -104,4 +104,25 @@ pub fn push_keys(
         later = true;
     }
     Ok(later)
+}
+
+/// Appends the keys from a place on as members, and the brace after them.
+pub fn push_last_keys(
+    alloc: Global,
+    schema: &Schema,
+    text: &mut String,
+    later: bool,
+    keys: &[Key],
+    next: usize,
+) -> Result<(), NoMemory>
+    requires schema { IsSchema schema.now }
+    requires within { next ≤ length keys.now }
+    requires below { (parent : Option ℕ) × AllByRecursion (IsKeyBelow schema.now parent) (drop next keys.now) }
+    requires ascending { AreAscending (drop next keys.now) }
+    ensures { OnOk result (string_bytes text.old ++ members_text later (among schema.now (drop next keys.now) no_members) ≡ string_bytes text.new) }
+{
+    let (_, left) = keys.split_at(next);
+    push_keys(alloc, schema, text, later, left)?;
+    text.push_str("}")?;
+    Ok(())
 }

@@ -4,7 +4,7 @@
 //! what is read by a second function on the JSON value's data (`specs/Reading.antt`,
 //! `specs/AtPath.antt`), since the first fault goes by the order of the visit. `holding` has the law
 //! that what is read needs no order: it is data of the schema, and its rows are those that the data
-//! hold (`specs/Holding.antt`). `writing::write_rows` writes rows as such JSON
+//! hold (`specs/Holding.antt`). `writing::push_rows` appends rows as such JSON to a text
 //! (`specs/Writing.antt`), and what is written of all rows at a place is read there again.
 #![tactic(auto)]
 

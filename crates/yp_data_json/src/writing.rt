@@ -16,7 +16,7 @@ ghost use Rattle.yp_data_json.specs.Runs.{EndsIn, AllGoThrough, AreBelow, GoOnBe
 ghost use Rattle.yp_data_json.specs.EntryKeys.{AreAscending, GoOnWithKeys, among};
 
 use crate::at_path::qualified;
-use crate::entry_keys::{Key, in_order, place_of, push_key, push_keys};
+use crate::entry_keys::{Key, in_order, place_of, push_key, push_keys, push_last_keys};
 use crate::runs::{segment, split_entry, split_run};
 use std::alloc::Global;
 use yp_base::memory::NoMemory;
@@ -129,10 +129,7 @@ fn push_members(
             left = others;
         }
     }
-    let (_, waiting) = keys.split_at(next);
-    push_keys(alloc, schema, text, later, waiting)?;
-    text.push_str("}")?;
-    Ok(())
+    push_last_keys(alloc, schema, text, later, keys, next)
 }
 
 /// Appends the value of one member: rows of one node at a depth.

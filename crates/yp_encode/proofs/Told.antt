@@ -1,7 +1,6 @@
 -- The text of a line, part by part.
 use Rattle.std.proofs.Common.{◌≡◌, ℕ, ◌+◌, ◌<◌, ◌≤◌, List, [], ◌∷◌, ◌++◌, length, drop, get_or, Bool, true, false, refl, sym, ap, ◌∙◌, append_assoc}
 use Rattle.std.specs.Prelude.{codes, decimal}
-use Rattle.std.specs.List.{list_all}
 use Rattle.std.proofs.lemmas.List.{drop_all}
 use Rattle.json.specs.Print.{escape_byte, quoted}
 use Rattle.serde_json.specs.Data.{Data, no_members}
@@ -15,9 +14,8 @@ use Rattle.yp_path.specs.Targets.{target_text}
 use Rattle.yp_data_json.specs.Writing.{rows_json}
 use Rattle.yp_time.specs.Instants.{event_text}
 use Rattle.yp_encode.specs.Lines.{operation_word, carries_value, value_member, edit_data, edits_from, mark, patch_data, id_member, reason_member, name_of, body_of, line_of}
-use Rattle.yp_encode.specs.Texts.{stands_for_itself, head_text, opening_text, full_text, changes_text}
+use Rattle.yp_encode.specs.Texts.{head_text, opening_text, full_text, changes_text}
 use Rattle.yp_encode.proofs.Edits.{left_at}
-use Rattle.yp_encode.proofs.Plain.{quoted_plain}
 
 -- one part behind another
 both : (old a b mid new : List ℕ) → mid ≡ old ++ a → new ≡ mid ++ b → new ≡ old ++ (a ++ b)
@@ -25,11 +23,6 @@ both old a b mid new first second = second ∙ ap (λ x. x ++ b) first ∙ appen
 
 abbrev put_in : List ℕ → List ℕ → List ℕ
 put_in old x = old ++ x
-
-pub plain_told : (value bytes old s1 s2 new : List ℕ) → list_all stands_for_itself bytes ≡ true → bytes ≡ value → s1 ≡ old ++ codes "\"" → s2 ≡ s1 ++ value → new ≡ s2 ++ codes "\"" → new ≡ old ++ quoted value
-plain_told value bytes old s1 s2 new plain is first second third =
-    both old (codes "\"" ++ value) (codes "\"") s2 new (both old (codes "\"") value s1 s2 first second) third
-    ∙ ap (put_in old) (sym (quoted_plain value (sym (ap (λ (x : List ℕ). list_all stands_for_itself x) is) ∙ plain)))
 
 -- ---- edits
 

@@ -1,5 +1,5 @@
 -- Parts of a line, as texts.
-use Rattle.std.specs.Prelude.{ℕ, List, ◌++◌, Bool, true, not, ◌&&◌, ◌==◌, nat_le, codes, decimal}
+use Rattle.std.specs.Prelude.{ℕ, List, ◌++◌, Bool, true, codes, decimal}
 use Rattle.json.specs.Print.{quoted}
 use Rattle.serde_json.specs.Written.{members_text}
 use Rattle.yp_base.specs.declared.notice.Change.{Change}
@@ -7,10 +7,6 @@ use Rattle.yp_schema.specs.declared.schema.SchemaNode.{SchemaNode}
 use Rattle.yp_path.specs.Targets.{target_text}
 use Rattle.yp_time.specs.Instants.{event_text}
 use Rattle.yp_encode.specs.Lines.{operation_word, mark}
-
--- whether a byte stands for itself in a JSON string (RFC 8259 section 7)
-abbrev pub stands_for_itself : ℕ → Bool
-stands_for_itself b = nat_le 32 b && not (b == 34) && not (b == 92)
 
 -- what an edit has before its value
 abbrev pub head_text : List SchemaNode → ℕ → Change → List ℕ

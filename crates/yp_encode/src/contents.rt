@@ -1,23 +1,21 @@
 //! The texts of what updates carry, which the lines of many subscriptions share.
 ghost use Rattle.std.specs.List.{AllByRecursion};
 ghost use Rattle.std.specs.Prelude.{◌≡◌, ◌<◌, ◌^◌, ◌++◌, [], length, IfOk, OnOk, codes, false, true, string_bytes};
-ghost use Rattle.serde_json.specs.View.{view};
-ghost use Rattle.serde_json.specs.Written.{has_float, compact_text, comma_if, items_text};
+ghost use Rattle.serde_json.specs.Written.{compact_text, items_text};
 ghost use Rattle.yp_data_json.specs.Writing.{rows_json};
 ghost use Rattle.yp_schema.specs.Datastore.{is_path_of, AreWritable};
 ghost use Rattle.yp_encode.specs.Lines.{operation_word, carries_value, edit_data, edits_from, patch_data};
 ghost use Rattle.yp_encode.specs.Sendable.{IsSendableChange};
 ghost use Rattle.yp_encode.specs.Texts.{head_text};
 
-use crate::parts::{push_counted, push_member};
-use serde_json::Value as Json;
-use std::alloc::{AllocError, Global};
+use std::alloc::Global;
 use yp_base::memory::NoMemory;
 use yp_base::notice::{Change, ChangeKind, Changes};
 use yp_base::path::Path;
 use yp_base::row::Rows;
 use yp_base::txt::Txt;
-use yp_data_json::writing::write_rows;
+use yp_data_json::writing::push_rows;
+use yp_json_text::strings::{push_comma, push_counted, push_member};
 use yp_path::target::write_target;
 use yp_schema::schema::Schema;
 
@@ -39,16 +37,6 @@ fn has_value(kind: ChangeKind) -> bool
     ensures { result ≡ carries_value kind }
 {
     matches!(kind, ChangeKind::Create | ChangeKind::Replace)
-}
-
-/// Adds what leads to a member's value, and JSON without white space.
-fn push_json(alloc: Global, text: &mut String, lead: &str, json: &Json) -> Result<(), AllocError>
-    requires { has_float (view json.now) ≡ false }
-    ensures { OnOk result (string_bytes text.new ≡ string_bytes text.old ++ (lead.now ++ compact_text (view json.now))) }
-{
-    text.push_str(lead)?;
-    let json = json.to_string(alloc)?;
-    text.push_str(json.as_str())
 }
 
 /// Adds what an edit has before its value.
@@ -79,9 +67,8 @@ fn push_value(
     requires { AreWritable schema.now change.now.target change.now.rows }
     ensures { OnOk result (string_bytes text.new ≡ string_bytes text.old ++ (codes ",\"value\":" ++ compact_text (rows_json schema.now change.now.target change.now.rows))) }
 {
-    let json = write_rows(alloc, schema, &change.target, &change.rows)?;
-    push_json(alloc, text, ",\"value\":", &json)?;
-    Ok(())
+    text.push_str(",\"value\":")?;
+    push_rows(alloc, schema, text, &change.target, &change.rows)
 }
 
 /// Adds the edit of a change.
@@ -103,13 +90,6 @@ fn push_edit(
         text.push_str("}")?;
     }
     Ok(())
-}
-
-/// Adds a comma, where something stands before.
-fn push_comma(text: &mut String, later: bool) -> Result<(), AllocError>
-    ensures { OnOk result (string_bytes text.new ≡ string_bytes text.old ++ comma_if later) }
-{
-    text.push_str(if later { "," } else { "" })
 }
 
 /// Adds the edits of changes, counted from 1, and the bracket behind them.
@@ -153,22 +133,14 @@ fn push_patch(
     Ok(())
 }
 
-/// The text of JSON without white space.
-fn compact(alloc: Global, json: &Json) -> Result<String, AllocError>
-    requires { has_float (view json.now) ≡ false }
-    ensures { IfOk result (λ text. string_bytes text ≡ compact_text (view json.now)) }
-{
-    json.to_string(alloc)
-}
-
 /// What a full update carries: its rows as JSON, without white space (RFC 7951).
 pub fn contents_text(alloc: Global, schema: &Schema, rows: &Rows) -> Result<Txt, NoMemory>
     requires { AreWritable schema.now [] rows.now }
     ensures { IfOk result (λ text. text ≡ compact_text (rows_json schema.now [] rows.now)) }
 {
     let top = Path::from_vec(Vec::new(alloc));
-    let json = write_rows(alloc, schema, &top, rows)?;
-    let text = compact(alloc, &json)?;
+    let mut text = String::with_capacity(alloc, 256)?;
+    push_rows(alloc, schema, &mut text, &top, rows)?;
     Ok(Txt::from_string(text))
 }
 

@@ -7,4 +7,3 @@
 
 pub mod contents;
 pub mod line;
-mod parts;

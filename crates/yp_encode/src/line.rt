@@ -14,11 +14,11 @@ ghost use Rattle.yp_encode.specs.Sendable.{IsSendable};
 ghost use Rattle.yp_encode.specs.Texts.{opening_text, full_text, changes_text};
 
 use crate::contents::{contents_text, patch_text};
-use crate::parts::{push_member, push_number};
 use std::alloc::Global;
 use yp_base::memory::NoMemory;
 use yp_base::notice::Notice;
 use yp_base::txt::Txt;
+use yp_json_text::strings::{push_member, push_number};
 use yp_schema::schema::Schema;
 use yp_time::start::Start;
 use yp_time::writing::event_time;
