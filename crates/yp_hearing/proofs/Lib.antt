@@ -4,3 +4,4 @@ pub mod States
 pub mod Told
 pub mod Tracks
 pub mod Windows
+pub mod Interleaved

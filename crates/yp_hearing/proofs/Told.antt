@@ -1,5 +1,5 @@
 -- Each notification that a receiver is offered by a legal journal is told, and heard again.
-use Rattle.std.proofs.Common.{◌≡◌, ℕ, zero, suc, ◌<◌, ◌≤◌, ◌^◌, List, [], ◌∷◌, ◌++◌, length, take, Bool, true, false, Option, Some, None, refl, sym, ap, subst, ◌∙◌, arith, length-append}
+use Rattle.std.proofs.Common.{◌≡◌, ℕ, zero, suc, ◌<◌, ◌≤◌, ◌^◌, List, [], ◌∷◌, ◌++◌, length, take, Bool, true, false, Option, Some, None, refl, sym, subst, ◌∙◌, arith}
 use Rattle.std.specs.List.{AllByRecursion}
 use Rattle.yp_base.specs.declared.notice.Change.{Change}
 use Rattle.yp_base.specs.declared.notice.Notice.{Notice as Message}
@@ -22,11 +22,11 @@ use Rattle.yp_journal.specs.declared.entry.Entry.{Entry}
 use Rattle.yp_journal.specs.declared.receiver.ReceiverInfo.{ReceiverInfo}
 use Rattle.yp_journal.specs.History.{JournalState, first_state, rules_at, may_read, state_of, state_at, IsLegal}
 use Rattle.yp_journal.specs.JournalLaws.{opening_datastore}
-use Rattle.yp_attempt.specs.Attempts.{IsReplayOf, Notification, Replayed, answers_in, notification_of, replay, taken_of}
+use Rattle.yp_attempt.specs.Attempts.{Notification, Replayed, notification_of, replay, taken_of}
 use Rattle.yp_attempt.specs.Content.{Content}
-use Rattle.yp_attempt.specs.ListLaws.{all_before, all_weaker}
-use Rattle.yp_attempt.specs.Moments.{Moment, AllMayFollow}
-use Rattle.yp_attempt.specs.Runs.{Found, IsFirst, Run, first_offer, first_run}
+use Rattle.yp_attempt.specs.ListLaws.{all_weaker}
+use Rattle.yp_attempt.specs.Moments.{Moment}
+use Rattle.yp_attempt.specs.Runs.{Found, IsFirst, Reaches, Run, first_offer, first_run}
 use Rattle.yp_attempt.specs.Tracks.{Track, Body, All, Edits, Marked, Notice, Answer, Attempt}
 use Rattle.yp_mirror.specs.Following.{IsBodyOf, TellsWindow}
 use Rattle.yp_mirror.specs.Heard.{of_sub}
@@ -36,20 +36,18 @@ use Rattle.yp_moment.specs.Entries.{moments_of, selected_by}
 use Rattle.yp_moment.specs.Followed.{CanBeFollowed}
 use Rattle.yp_moment.specs.Notices.{state_notice, notice_by}
 use Rattle.yp_moment.specs.Windows.{recorded}
-use Rattle.yp_promise.specs.Serving.{run_of}
-use Rattle.yp_promise.specs.Shown.{offered_to}
 use Rattle.yp_promise.proofs.Bodies.{EntriesKeepDatastores, wanted}
 use Rattle.yp_promise.proofs.Entering.{count_moments}
-use Rattle.yp_promise.proofs.Own.{AttemptsTell, own_attempt, own_part}
+use Rattle.yp_promise.proofs.Own.{AttemptsTell, own_attempt}
 use Rattle.yp_world.specs.TakenLaws.{all_there, all_taken, number_is, one_there}
 use Rattle.yp_encode.specs.Sendable.{IsSendable, IsSendableChange}
 use Rattle.yp_receiver.specs.Hearable.{IsHearableChange, IsHearable, HasTexts, HasReadableText, IsTold}
 use Rattle.yp_receiver.specs.Readable.{has_value_text, HaveTexts}
 use Rattle.yp_texts.specs.Commands.{CommandHasUtf8}
-use Rattle.yp_hearing.specs.Hearing.{told_of}
+use Rattle.yp_hearing.specs.Hearing.{CanBeTold, told_of}
 use Rattle.yp_hearing.specs.Windows.{HasOwnTexts, CanBeHeard, WindowsAreHeard}
 use Rattle.yp_hearing.proofs.Depth.{sent_shallow}
-use Rattle.yp_hearing.proofs.States.{MomentFits, journal_fits}
+use Rattle.yp_hearing.proofs.States.{journal_fits}
 use Rattle.yp_hearing.proofs.Tracks.{BodyFits, MadeFits, AttemptFits, attempts_fit}
 
 -- ---- notices
@@ -112,7 +110,7 @@ abbrev pub EntriesKeepTexts : Type 0
 EntriesKeepTexts = (nodes : List SchemaNode) (entries : List Entry) (state : JournalState) → IsSchema nodes → AllByRecursion (λ entry. CommandHasUtf8 entry.command) entries → HaveTexts state.rows
     → HaveTexts (state_of nodes state entries).rows
 
-all_taken_first : {X : Type 0} (P : X → Type 0) (n : ℕ) (xs : List X) → AllByRecursion P xs → AllByRecursion P (take n xs)
+pub all_taken_first : {X : Type 0} (P : X → Type 0) (n : ℕ) (xs : List X) → AllByRecursion P xs → AllByRecursion P (take n xs)
 all_taken_first P zero [] all = tt
 all_taken_first P zero (x ∷ xs) all = tt
 all_taken_first P (suc n) [] all = tt
@@ -171,36 +169,32 @@ pub record ToldLaws : Type 0 where
   pub tell : AttemptsTell
   pub handed : (nodes : List SchemaNode) (receivers : List ReceiverInfo) (entries : List Entry) → IsLegal nodes (first_state receivers) entries → AllByRecursion (λ m. CanBeFollowed m.act) (moments_of nodes receivers entries)
   pub finds : (c : Content) (stamp : ℕ) (tracks : List Track) (found : Found) → first_offer c stamp tracks ≡ Some found → IsFirst c stamp tracks found
-  pub reached : (c : Content) (receivers : List ℕ) (journal : List Moment) (answers : List Answer) → AllMayFollow [] journal → IsReplayOf c receivers journal answers (replay c receivers first_run journal answers)
+  pub replays : (c : Content) (receivers : List ℕ) (past : List Moment) (answers : List Answer) (run : Run) → Reaches c receivers past answers run → replay c receivers first_run past answers ≡ record { run = run; rest = []; left = [] }
+  pub runs : (nodes : List SchemaNode) (receivers : List ReceiverInfo) (entries : List Entry) (receiver : ℕ) (answers : List Answer) → IsSchema nodes → IsLegal nodes (first_state receivers) entries
+      → IsRunOf recorded (story_of (moments_of nodes receivers entries) receiver) receiver (replay recorded (receiver ∷ []) first_run (moments_of nodes receivers entries) answers).run
 
-module _ (laws : ToldLaws) (nodes : List SchemaNode) (receivers : List ReceiverInfo) (entries : List Entry) (receiver : ℕ) (schema : IsSchema nodes) (legal : IsLegal nodes (first_state receivers) entries)
-    (may : AllMayFollow [] (moments_of nodes receivers entries)) (short : length entries < 2 ^ 32)
-    (same : (replay recorded (receiver ∷ []) first_run (moments_of nodes receivers entries) (answers_in (own_part nodes receivers entries receiver).done)).run ≡ own_part nodes receivers entries receiver) where
+module _ (laws : ToldLaws) (nodes : List SchemaNode) (receivers : List ReceiverInfo) (entries : List Entry) (receiver : ℕ) (can : CanBeTold nodes receivers entries) (answers : List Answer) (run : Run)
+    (reaches : Reaches recorded (receiver ∷ []) (moments_of nodes receivers entries) answers run) where
   abbrev moments : List Moment
   moments = moments_of nodes receivers entries
 
-  abbrev offered : List Attempt
-  offered = offered_to receiver (run_of nodes receivers entries)
-
   -- each attempt keeps within bounds
-  own_fits : AllByRecursion (AttemptFits (length entries)) offered
+  own_fits : AllByRecursion (AttemptFits (length entries)) run.done
   own_fits =
-      let end : Replayed = replay recorded (receiver ∷ []) first_run moments (answers_in (own_part nodes receivers entries receiver).done) in
-      let is = laws.reached recorded (receiver ∷ []) moments (answers_in (own_part nodes receivers entries receiver).done) may in
-      let long : length (is.past ++ end.rest) ≡ length moments = ap length is.entries in
-      let few : length is.past ≤ length entries = omega (arith, long, length-append is.past end.rest, count_moments nodes receivers entries) in
-      let all : AllByRecursion MomentFits is.past = all_before MomentFits is.past end.rest (subst (AllByRecursion MomentFits) (sym is.entries) (journal_fits nodes receivers entries legal (laws.handed nodes receivers entries legal))) in
-      subst (λ (run : Run). AllByRecursion (AttemptFits (length entries)) run.done) same
-      (attempts_fit (length entries) (laws.finds recorded) (receiver ∷ []) is.past is.given end.run is.reaches few all)
+      let few : length moments ≤ length entries = omega (arith, count_moments nodes receivers entries) in
+      attempts_fit (length entries) (laws.finds recorded) (receiver ∷ []) moments answers run reaches few (journal_fits nodes receivers entries can.legal (laws.handed nodes receivers entries can.legal))
 
-  module _ (of : IsRunOf recorded (story_of moments receiver) receiver (own_part nodes receivers entries receiver)) (texts : AllByRecursion (λ entry. CommandHasUtf8 entry.command) entries) where
-    attempt_told : (front : List Attempt) (a : Attempt) (back : List Attempt) → offered ≡ front ++ a ∷ back → IsTold nodes (told_of (notification_of a))
-    attempt_told front a back is =
-        let fits = one_there (AttemptFits (length entries)) front a back (subst (AllByRecursion (AttemptFits (length entries))) is own_fits) in
-        let made = laws.tell recorded (story_of moments receiver) receiver (own_part nodes receivers entries receiver) of a.sub (of_sub a.sub front) a (own_attempt nodes receivers entries receiver (own_part nodes receivers entries receiver) front a back is a.sub (number_is a.sub)) in
-        made_told nodes schema laws.top (length entries) (notification_of a) short fits.sub fits.made
-        (told_body laws.keeps laws.texts laws.windows nodes schema receivers entries receiver texts a.sub a.made.from a.made.position a.made.body made)
+  -- it is a run of the journal's story
+  of : IsRunOf recorded (story_of moments receiver) receiver run
+  of = subst (λ (end : Replayed). IsRunOf recorded (story_of moments receiver) receiver end.run) (laws.replays recorded (receiver ∷ []) moments answers run reaches) (laws.runs nodes receivers entries receiver answers can.schema can.legal)
 
-    -- each notification that the receiver's queue accepted is told
-    pub taken_told : AllByRecursion (λ n. IsTold nodes (told_of n)) (taken_of offered)
-    taken_told = all_taken (λ n. IsTold nodes (told_of n)) offered (all_there (λ (a : Attempt). IsTold nodes (told_of (notification_of a))) offered [] offered refl attempt_told)
+  attempt_told : (front : List Attempt) (a : Attempt) (back : List Attempt) → run.done ≡ front ++ a ∷ back → IsTold nodes (told_of (notification_of a))
+  attempt_told front a back is =
+      let fits = one_there (AttemptFits (length entries)) front a back (subst (AllByRecursion (AttemptFits (length entries))) is own_fits) in
+      let made = laws.tell recorded (story_of moments receiver) receiver run of a.sub (of_sub a.sub front) a (own_attempt nodes receivers entries receiver run front a back is a.sub (number_is a.sub)) in
+      made_told nodes can.schema laws.top (length entries) (notification_of a) can.few fits.sub fits.made
+      (told_body laws.keeps laws.texts laws.windows nodes can.schema receivers entries receiver can.texts a.sub a.made.from a.made.position a.made.body made)
+
+  -- each notification that the receiver's queue accepted is told
+  pub taken_told : AllByRecursion (λ n. IsTold nodes (told_of n)) (taken_of run.done)
+  taken_told = all_taken (λ n. IsTold nodes (told_of n)) run.done (all_there (λ (a : Attempt). IsTold nodes (told_of (notification_of a))) run.done [] run.done refl attempt_told)

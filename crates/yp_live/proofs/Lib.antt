@@ -10,3 +10,4 @@ pub mod Taking
 pub mod Told
 pub mod TurnLaws
 pub mod Turning
+pub mod Interleaved

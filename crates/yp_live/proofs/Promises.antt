@@ -1,5 +1,5 @@
 -- The report of a script's run tells of it, and can be written.
-use Rattle.std.proofs.Common.{◌≡◌, ℕ, ◌<◌, ◌≤◌, List, [], ◌∷◌, ◌++◌, length, map, Ok, sym, ap, ◌∙◌, subst, arith}
+use Rattle.std.proofs.Common.{◌≡◌, ℕ, ◌<◌, ◌≤◌, ◌^◌, List, [], ◌∷◌, ◌++◌, length, map, Ok, sym, ap, ◌∙◌, subst, arith}
 use Rattle.std.specs.Prelude.{codes}
 use Rattle.std.specs.List.{AllByRecursion, flat_map}
 use Rattle.std.proofs.lemmas.List.Elements.{recursion_from_All}
@@ -21,6 +21,7 @@ use Rattle.yp_promise.specs.Serving.{IsComplete, run_of}
 use Rattle.yp_promise.specs.Shown.{got_by, offered_to}
 use Rattle.yp_texts.specs.Commands.{CommandHasUtf8, ScriptHasUtf8}
 use Rattle.yp_hearing.specs.Hearing.{CanBeTold, IsHeardAsMade, LinesMirror, line_for}
+use Rattle.yp_hearing.specs.Interleaving.{EachInterleavingIsHeard}
 use Rattle.yp_live.specs.declared.run.Run.{Run}
 use Rattle.yp_live.specs.declared.script.Ran.{Ran}
 use Rattle.yp_live.specs.declared.turns.Turn.{Turn}
@@ -32,6 +33,7 @@ use Rattle.yp_live.specs.Report.{reply_lines, reply_text}
 use Rattle.yp_live.specs.Runs.{IsRun, IsRunOf, CanBeWritten, text_from}
 use Rattle.yp_live.specs.Turns.{entries_from, journal_of}
 use Rattle.yp_live.proofs.CountLaws.{summary_is}
+use Rattle.yp_live.proofs.Interleaved.{journal_has, same_length}
 use Rattle.yp_live.proofs.Journals.{journal_is}
 use Rattle.yp_live.proofs.Told.{desks_told, desks_writable, replies_told}
 use Rattle.yp_live.proofs.TurnLaws.{OfCommand, of_entries, of_script, of_turns}
@@ -60,12 +62,13 @@ AreHeard = (nodes : List SchemaNode) (receivers : List ReceiverInfo) (entries : 
     → CanBeTold nodes receivers entries → receiver < length receivers → IsStart start
     → lines_heard nodes [] (map (line_for nodes start) (got_by receiver (run_of nodes receivers entries))) ≡ received [] (got_by receiver (run_of nodes receivers entries))
 
--- what they say of its end, of the queues then, and of each line
+-- what they say of its end, of the queues then, and of each line, also in every interleaving
 pub record EndLaws : Type 0 where
   pub complete : (nodes : List SchemaNode) (receivers : List ReceiverInfo) (entries : List Entry) → IsSchema nodes → IsLegal nodes (first_state receivers) entries → IsComplete nodes receivers entries (run_of nodes receivers entries)
   pub posts : (nodes : List SchemaNode) (receivers : List ReceiverInfo) (entries : List Entry) → HavePosts receivers (run_of nodes receivers entries)
   pub heard : (nodes : List SchemaNode) (receivers : List ReceiverInfo) (entries : List Entry) (receiver start : ℕ) → CanBeTold nodes receivers entries → receiver < length receivers → IsStart start
       → AllByRecursion (IsHeardAsMade nodes start) (got_by receiver (run_of nodes receivers entries))
+  pub lines : (nodes : List SchemaNode) (receivers : List ReceiverInfo) (entries : List Entry) (start : ℕ) → CanBeTold nodes receivers entries → IsStart start → EachInterleavingIsHeard nodes receivers entries start
 
 abbrev pub AreCopies : Type 0
 AreCopies = (nodes : List SchemaNode) (receivers : List ReceiverInfo) (entries : List Entry) (receiver start : ℕ)
@@ -98,14 +101,27 @@ module _ (serves : AreServed) (interleaved : AreInterleaved) (interleaving : Are
   all_heard : (receiver : ℕ) → receiver < length script.receivers → lines_heard script.schema [] (map (line_for script.schema script.start) (got_by receiver served)) ≡ received [] (got_by receiver served)
   all_heard receiver less = hears script.schema script.receivers is.entries receiver script.start can_be_told less is.start
 
+  -- so can each journal of the script
+  each_can : (journal : List Entry) → IsJournalOf script journal → IsJournalOf script is.entries → IsLegal script.schema (first_state script.receivers) journal → CanBeTold script.schema script.receivers journal
+  each_can journal of its legal =
+      let u = utf8 bytes script read in
+      let many : length journal ≡ length is.entries = same_length script journal is.entries of its in
+      record {
+        schema = is.is.worker.followed.schema;
+        legal = legal;
+        texts = journal_has CommandHasUtf8 script journal u.before u.lanes u.after of;
+        few = subst (λ (n : ℕ). n < 2 ^ 32) (sym many) is.few;
+      }
+
   -- its entries are the journal of the script
   is_served : IsServed script is.entries
   is_served =
       let followed = is.is.worker.followed in
       let state = first_state script.receivers in
       let journal : is.entries ≡ journal_of script = of_turns script.schema state is.entries followed.legal ∙ ap (entries_from script.schema state) is.turns in
+      let its : IsJournalOf script is.entries = subst (λ (those : List Entry). IsJournalOf script those) (sym journal) (journal_is script) in
       record {
-        journal = subst (λ (those : List Entry). IsJournalOf script those) (sym journal) (journal_is script);
+        journal = its;
         serial = journal;
         legal = followed.legal;
         complete = ends.complete script.schema script.receivers is.entries followed.schema followed.legal;
@@ -114,6 +130,7 @@ module _ (serves : AreServed) (interleaved : AreInterleaved) (interleaving : Are
         serves = λ receiver less. serves script.schema script.receivers is.entries receiver followed.schema followed.legal less;
         mirrored = λ receiver less. copies script.schema script.receivers is.entries receiver script.start can_be_told less is.start;
         interleaved = λ journal of legal. interleaved script.schema script.receivers journal followed.schema legal;
+        lines = λ journal of legal. ends.lines script.schema script.receivers journal script.start (each_can journal of its legal) is.start;
         interleaving = interleaving script.schema script.receivers is.entries followed.schema followed.legal;
       }
 

@@ -29,19 +29,19 @@ module _ (P : Command → Type 0) where
   abbrev pub OfCommand : Turn → Type 0
   OfCommand turn = P turn.command
 
-  of_lane : (lane index : ℕ) (commands : List Command) → AllByRecursion P commands → AllByRecursion OfCommand (turns_of lane index commands)
-  of_lane lane index [] all = tt
-  of_lane lane index (command ∷ commands) all = (all.0, of_lane lane (index + 1) commands all.1)
+  pub of_one_lane : (lane index : ℕ) (commands : List Command) → AllByRecursion P commands → AllByRecursion OfCommand (turns_of lane index commands)
+  of_one_lane lane index [] all = tt
+  of_one_lane lane index (command ∷ commands) all = (all.0, of_one_lane lane (index + 1) commands all.1)
 
   of_lanes : (lane : ℕ) (lanes : List (List Command)) → AllByRecursion (AllByRecursion P) lanes → AllByRecursion OfCommand (lane_turns lane lanes)
   of_lanes lane [] all = tt
-  of_lanes lane (commands ∷ lanes) all = all_joined OfCommand (turns_of lane 1 commands) (lane_turns (lane + 1) lanes) (of_lane lane 1 commands all.0) (of_lanes (lane + 1) lanes all.1)
+  of_lanes lane (commands ∷ lanes) all = all_joined OfCommand (turns_of lane 1 commands) (lane_turns (lane + 1) lanes) (of_one_lane lane 1 commands all.0) (of_lanes (lane + 1) lanes all.1)
 
   pub of_script : (before : List Command) (lanes : List (List Command)) (after : List Command) → AllByRecursion P before → AllByRecursion (AllByRecursion P) lanes → AllByRecursion P after
       → AllByRecursion OfCommand (serial_turns before lanes after)
   of_script before lanes after first middle last =
-      all_joined OfCommand (turns_of 0 1 before) (lane_turns 1 lanes ++ turns_of 0 (length before + 1) after) (of_lane 0 1 before first)
-      (all_joined OfCommand (lane_turns 1 lanes) (turns_of 0 (length before + 1) after) (of_lanes 1 lanes middle) (of_lane 0 (length before + 1) after last))
+      all_joined OfCommand (turns_of 0 1 before) (lane_turns 1 lanes ++ turns_of 0 (length before + 1) after) (of_one_lane 0 1 before first)
+      (all_joined OfCommand (lane_turns 1 lanes) (turns_of 0 (length before + 1) after) (of_lanes 1 lanes middle) (of_one_lane 0 (length before + 1) after last))
 
   -- and of the entries of these turns
   pub of_entries : (entries : List Entry) → AllByRecursion OfCommand (map turn_of entries) → AllByRecursion (λ entry. P entry.command) entries

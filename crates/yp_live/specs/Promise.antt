@@ -11,6 +11,7 @@ use Rattle.yp_promise.specs.Promise.{Serves}
 use Rattle.yp_promise.specs.Serving.{IsComplete, run_of}
 use Rattle.yp_promise.specs.Shown.{got_by, offered_to}
 use Rattle.yp_hearing.specs.Hearing.{IsHeardAsMade, LinesMirror}
+use Rattle.yp_hearing.specs.Interleaving.{EachInterleavingIsHeard}
 use Rattle.yp_live.specs.Journal.{IsJournalOf}
 use Rattle.yp_live.specs.Report.{report_of, report_text}
 use Rattle.yp_live.specs.Summary.{summary_text}
@@ -38,6 +39,8 @@ pub record IsServed (script : Script) (entries : List Entry) : Type 0 where
       → LinesMirror script.schema script.receivers entries receiver script.start (got_by receiver (run_of script.schema script.receivers entries))
   -- and however writers, workers and receivers interleave, each receiver is served too: by each journal of the script, in whatever order its lanes' commands came, and by each list of events that appends its entries, with one worker or more
   pub interleaved : (journal : List Entry) → IsJournalOf script journal → IsLegal script.schema (first_state script.receivers) journal → EachInterleavingServes script.schema script.receivers journal
+  -- and there too each line that a receiver took is heard as just the notification that was made, and the trees of the lines' bytes are what is selected
+  pub lines : (journal : List Entry) → IsJournalOf script journal → IsLegal script.schema (first_state script.receivers) journal → EachInterleavingIsHeard script.schema script.receivers journal script.start
   -- of which one is the serial run, notification for notification
   pub interleaving : OneIsTheSerialRun script.schema script.receivers entries
 

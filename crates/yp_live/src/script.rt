@@ -17,7 +17,7 @@ use yp_base::memory::NoMemory;
 use yp_base::steps::Steps;
 use yp_hearing::laws::{
     a_receiver_holds_what_its_lines_tell, each_line_is_heard_as_its_notification,
-    the_trees_of_lines_mirror,
+    every_interleaving_is_heard, the_trees_of_lines_mirror,
 };
 use yp_promise::interleavings::{
     an_interleaving_is_the_serial_run, every_interleaving_serves_each_receiver,
@@ -87,6 +87,7 @@ fn report_by<L: Ledger>(alloc: Global, script: Script, blank: Blank) -> Result<S
     a_serial_run_is_complete();
     queues_hold_what_was_not_taken();
     each_line_is_heard_as_its_notification();
+    every_interleaving_is_heard();
     let mut steps = Steps::<L>::open(blank);
     let Ran { schema, run } = run_script(alloc, script)?;
     let Run { replies, desks, .. } = run;
@@ -113,6 +114,7 @@ fn summary_by<L: Ledger>(alloc: Global, script: Script, blank: Blank) -> Result<
     a_serial_run_is_complete();
     queues_hold_what_was_not_taken();
     each_line_is_heard_as_its_notification();
+    every_interleaving_is_heard();
     let mut steps = Steps::<L>::open(blank);
     let Ran { run, .. } = run_script(alloc, script)?;
     let Run { replies, desks, .. } = run;

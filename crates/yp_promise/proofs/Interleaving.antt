@@ -11,6 +11,7 @@ use Rattle.yp_attempt.specs.Attempts.{Notification, answers_in, replay, taken_of
 use Rattle.yp_attempt.specs.Content.{IsLawful}
 use Rattle.yp_attempt.specs.Moments.{Moment}
 use Rattle.yp_attempt.specs.Runs.{Reaches, Run, Standing, first_run}
+use Rattle.yp_attempt.specs.Tracks.{Answer}
 use Rattle.yp_mirror.specs.Stories.{Leads, story_of}
 use Rattle.yp_moment.specs.Entries.{moment_of, moments_from, moments_of}
 use Rattle.yp_moment.specs.Windows.{recorded}
@@ -30,7 +31,7 @@ first_moments nodes state entries zero = refl
 first_moments nodes state [] (suc n) = refl
 first_moments nodes state (entry ∷ entries) (suc n) = ap (λ (moments : List Moment). moment_of nodes state entry ∷ moments) (first_moments nodes (next_state nodes state entry.command) entries n)
 
-first_legal : (nodes : List SchemaNode) (state : JournalState) (entries : List Entry) (n : ℕ) → IsLegal nodes state entries → IsLegal nodes state (take n entries)
+pub first_legal : (nodes : List SchemaNode) (state : JournalState) (entries : List Entry) (n : ℕ) → IsLegal nodes state entries → IsLegal nodes state (take n entries)
 first_legal nodes state entries zero legal = tt
 first_legal nodes state [] (suc n) legal = tt
 first_legal nodes state (entry ∷ entries) (suc n) legal = (legal.0, first_legal nodes (next_state nodes state entry.command) entries n legal.1)
@@ -94,6 +95,9 @@ module _ (laws : InterleavingLaws) (nodes : List SchemaNode) (receivers : List R
         standing = is.standing;
         are = is.are;
         within = position;
+        reaches =
+            subst (λ (xs : List Moment). Reaches recorded (receiver ∷ []) xs is.delivery.answers (Own xs)) absorbed
+            (subst (λ (answers : List Answer). Reaches recorded (receiver ∷ []) (absorbed_by world is.standing) answers (Own (absorbed_by world is.standing))) part.delivers.answers part.reaches);
         accepted = accepted;
         places = is.places;
         fits = is.fits;

@@ -4,8 +4,8 @@ use Rattle.std.specs.List.{slice_get}
 use Rattle.yp_schema.specs.declared.schema.SchemaNode.{SchemaNode}
 use Rattle.yp_journal.specs.declared.entry.Entry.{Entry}
 use Rattle.yp_journal.specs.declared.receiver.ReceiverInfo.{ReceiverInfo}
-use Rattle.yp_attempt.specs.Attempts.{attempts, stream}
-use Rattle.yp_attempt.specs.Runs.{Standing}
+use Rattle.yp_attempt.specs.Attempts.{attempts, replay, stream}
+use Rattle.yp_attempt.specs.Runs.{Reaches, Standing, first_run}
 use Rattle.yp_moment.specs.Entries.{moments_of}
 use Rattle.yp_moment.specs.Windows.{recorded}
 use Rattle.yp_world.specs.Holding.{AreOf}
@@ -26,12 +26,13 @@ world_after receivers workers events = after_events (setup_of receivers workers)
 abbrev pub AppendAll : List SchemaNode → List ReceiverInfo → ℕ → List Entry → List Event → Type 0
 AppendAll nodes receivers workers entries events = (world_after receivers workers events).journal ≡ moments_of nodes receivers entries
 
--- a receiver is served by the world after these events: of the entries that its worker absorbed, what its queue accepted is what the definition makes for it with the answers that the queue gave; it took that, or it stands in the queue, in order; and all that is promised holds
+-- a receiver is served by the world after these events: the answers that its queue gave lead over all the entries that its worker absorbed; what the queue accepted is what the definition makes for it of these entries, with these answers; it took that, or it stands in the queue, in order; and all that is promised holds
 pub record IsServedAfter (nodes : List SchemaNode) (receivers : List ReceiverInfo) (workers : ℕ) (entries : List Entry) (events : List Event) (receiver : ℕ) : Type 0 where
   pub delivery : Delivery
   pub standing : Standing
   pub are : AreOf (setup_of receivers workers) (world_after receivers workers events) receiver delivery standing
   pub within : standing.position ≤ length entries
+  pub reaches : Reaches recorded (receiver ∷ []) (moments_of nodes receivers (take standing.position entries)) delivery.answers (replay recorded (receiver ∷ []) first_run (moments_of nodes receivers (take standing.position entries)) delivery.answers).run
   pub accepted : stream recorded receiver (moments_of nodes receivers (take standing.position entries)) delivery.answers ≡ delivery.taken ++ delivery.queue
   pub places : slice_get (map (λ receiver. receiver.places) receivers) receiver ≡ Some delivery.places
   pub fits : length delivery.queue ≤ delivery.places
