@@ -1,7 +1,7 @@
 #!/usr/bin/env python3
 """Windows of patches, drawn, each with the roots and the record that the rules give.
 
-    window_cases.py            writes the cases, as crates/publisher_cases reads them
+    window_cases.py            writes the cases, as crates/selection_cases reads them
     window_cases.py PROGRAM    runs that program on them, and prints what differs, if anything does
 
 What each window gives is worked out afresh: the selection before and after each patch, by the models of

@@ -1,4 +1,0 @@
-use Rattle.library_cases.proofs.trees.steps.Given as goal
-
-abbrev pub ghosts-taken : goal.ghosts-taken
-ghosts-taken a = record { name = a.blank.name; parts = a.blank.parts }

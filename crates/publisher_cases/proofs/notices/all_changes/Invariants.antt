@@ -1,6 +1,0 @@
-use Rattle.std.specs.List.{AllByRecursion}
-use Rattle.yp_encode.specs.Sendable.{IsSendableChange}
-use Rattle.publisher_cases.proofs.notices.all_changes.Given as goal
-
-abbrev pub invariant-loop-edit : goal.invariant-loop-edit
-invariant-loop-edit l = AllByRecursion (IsSendableChange l.schema) l.changes.items

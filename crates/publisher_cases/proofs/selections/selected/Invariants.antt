@@ -1,4 +1,0 @@
-use Rattle.publisher_cases.proofs.selections.selected.Given as goal
-
-abbrev pub ghosts-select_counted : goal.ghosts-select_counted
-ghosts-select_counted a = record { name = a.blank.name; parts = a.blank.parts }

@@ -1,0 +1,2 @@
+-- A lemma on rows.
+pub mod Datastores
