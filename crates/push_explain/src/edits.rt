@@ -2,11 +2,10 @@
 ghost use Rattle.std.specs.Prelude.{◌≡◌, true};
 ghost use Rattle.yp_schema.specs.Datastore.{is_path_of};
 
-use crate::members::member_text;
-use crate::paths::path_cause;
 use std::alloc::Global;
 use yp_base::memory::NoMemory;
 use yp_base::path::Path;
+use yp_cause::paths::{member_text, path_text};
 use yp_data_json::at_path::read_payload;
 use yp_data_json::fault::{DataError, DataFault};
 use yp_patch::patch::{Edit, EditOp};
@@ -41,7 +40,7 @@ pub fn refused_edit(
         Ok(path) => at_target(alloc, schema, edit, &path, tag),
         Err(error) => {
             let target = edit.target.as_str();
-            let cause = path_cause(alloc, schema, &error)?;
+            let cause = path_text(alloc, schema, &error)?;
             match escaped(alloc, schema, target)? {
                 Some(hint) => Ok(format!(in alloc; "`{target}`: {cause}{hint}")?),
                 None => Ok(format!(in alloc; "`{target}`: {cause}")?),

@@ -2,10 +2,6 @@
 use serde_json::Value as Json;
 use std::alloc::Global;
 use yp_base::memory::NoMemory;
-use yp_script::reading::BYTE_LIMIT;
-
-/// The most lines of a script.
-const MOST_LINES: u32 = 100_000;
 
 /// The lines of a script, each without its line feed.
 #[derive(Drop)]
@@ -25,9 +21,19 @@ impl<'a> Lines<'a> {
 
     /// The text of the lines.
     pub fn text(&self, alloc: Global) -> Result<Vec<u8>, NoMemory> {
+        self.text_before(alloc, u32::MAX)
+    }
+
+    /// The text of the lines before the one of a number.
+    pub fn text_before(&self, alloc: Global, number: u32) -> Result<Vec<u8>, NoMemory> {
         let mut text = Vec::new(alloc);
+        let mut left = number.saturating_sub(1);
         let mut is_first = true;
         for line in self.texts.as_slice() {
+            if left == 0 {
+                break;
+            }
+            left -= 1;
             if !is_first {
                 text.push(b'\n')?;
             }
@@ -48,27 +54,6 @@ impl<'a> Lines<'a> {
             if let Some(line) = self.texts.get_mut(place) {
                 *line = text;
             }
-        }
-    }
-
-    /// Which limit of a script the line of a number is past.
-    pub fn limit_at(&self, number: u32) -> Option<&'static str> {
-        if number > MOST_LINES {
-            return Some("a script has at most 100,000 lines");
-        }
-        let mut bytes = 0usize;
-        let mut left = number;
-        for line in self.texts.as_slice() {
-            if left == 0 {
-                break;
-            }
-            left -= 1;
-            bytes = bytes.saturating_add(line.len()).saturating_add(1);
-        }
-        if bytes > BYTE_LIMIT {
-            Some("a script has at most 67,108,864 bytes")
-        } else {
-            None
         }
     }
 }

@@ -2,17 +2,10 @@
 //! `docs/EXPLAIN.md` says how to use it.
 #![tactic(auto)]
 
-mod before;
-mod calls;
-mod causes;
 mod edits;
 mod explain;
 mod faults;
-mod forms;
 mod lines;
-mod members;
-mod patches;
-mod paths;
 mod refusals;
 
 use crate::explain::{explain, status_of};

@@ -3,15 +3,13 @@ ghost use Rattle.std.specs.Prelude.{◌≤◌, length};
 ghost use Rattle.yp_script.specs.Lines.{line_limit};
 ghost use Rattle.yp_script.specs.Script.{AreReceivers, MayRun, count_commands};
 
-use crate::before::Before;
 use crate::edits::refused_edit;
-use crate::forms::form_name;
 use crate::lines::{Lines, json_of};
-use crate::members::member_text;
 use serde_json::Value as Json;
 use std::alloc::Global;
 use yp_base::json::member;
 use yp_base::memory::NoMemory;
+use yp_cause::paths::member_text;
 use yp_command::command::request_named;
 use yp_command::words::{sole_member, text_in};
 use yp_filter::fault::{FilterError, FilterFault, FilterMember};
@@ -20,6 +18,8 @@ use yp_live::script::report_of_script;
 use yp_patch::fault::PatchFault;
 use yp_patch::reading::read_patch;
 use yp_schema::schema::Schema;
+use yp_script::fault::ScriptFault;
+use yp_script::reading::read_script;
 use yp_script::script::Script;
 use yp_terms::refused::Refused;
 
@@ -66,8 +66,8 @@ fn refusal_in(alloc: Global, line: &str) -> Result<Option<Refusal>, NoMemory> {
 
 /// The lane of the command that a line has, 0 outside of lanes.
 fn lane_of(json: &Json) -> Option<usize> {
-    if form_name(json)? == "lane" {
-        return Some(member(json, "lane")?.as_u64()? as usize);
+    if let Some(lane) = member(json, "lane") {
+        return Some(lane.as_u64()? as usize);
     }
     let (name, value) = sole_member(json)?;
     if request_named(name, value).is_some() {
@@ -227,6 +227,15 @@ fn filter_cause(alloc: Global, schema: &Schema, error: &FilterError) -> Result<S
     })
 }
 
+/// The schema of the script that bytes are.
+fn schema_of(alloc: Global, bytes: &[u8]) -> Result<Option<Schema>, NoMemory> {
+    match read_script(alloc, bytes) {
+        Ok(Script { schema, .. }) => Ok(Some(schema)),
+        Err(ScriptFault::At { .. }) => Ok(None),
+        Err(ScriptFault::Memory) => Err(NoMemory),
+    }
+}
+
 /// The explanation of a refusal: a line.
 fn explained(
     alloc: Global,
@@ -260,7 +269,7 @@ pub fn refusals(alloc: Global, bytes: &[u8], script: Script) -> Result<String, N
     let report = report_of_script(alloc, script)?;
     let lines = Lines::of_text(alloc, bytes)?;
     let lanes = command_lines(alloc, &lines)?;
-    let Some(schema) = Before::line(alloc, &lines, u32::MAX)?.schema(alloc)? else {
+    let Some(schema) = schema_of(alloc, bytes)? else {
         return Ok(told);
     };
     for line in report.lines() {

@@ -25,7 +25,10 @@ fn run_text(alloc: Global, bytes: &[u8]) -> Result<Txt, ReplayFault>
             Ok(text) => Ok(Txt::from_string(text)),
             Err(_) => Err(ReplayFault::Memory),
         },
-        Err(ScriptFault::At { line, kind }) => Err(ReplayFault::Script { line, kind }),
+        Err(ScriptFault::At { line, kind: flaw }) => Err(ReplayFault::Script {
+            line,
+            kind: flaw.kind,
+        }),
         Err(ScriptFault::Memory) => Err(ReplayFault::Memory),
     }
 }

@@ -1,24 +1,27 @@
 //! Lines that ask for subscriptions (RFC 8639 section 2.4.2, RFC 8641 section 4.4.1).
-ghost use Rattle.std.specs.Prelude.{◌≡◌, ◌<◌, ◌≤◌, IfOk, IfSome, length, option_map};
+ghost use Rattle.std.specs.Prelude.{◌≡◌, ◌<◌, ◌≤◌, IfOk, IfSome, is_ok, length, option_map};
 ghost use Rattle.std.specs.Option.{ForSome, ok_or};
 ghost use Rattle.serde_json.specs.Find.{as_str};
 ghost use Rattle.serde_json.specs.View.{view, items_view, members_view};
 ghost use Rattle.yp_base.specs.Types.{is_among};
 ghost use Rattle.yp_time.specs.Ticks.{IsAnchor};
+ghost use Rattle.yp_command.specs.declared.fault.ScriptKind.TheVariants as kinds;
 ghost use Rattle.yp_command.specs.Asks.{terms, members_of, may_have_all, has_only, number_said, number_there, anchor_at, anchor_said, periodic_said, dampening_said, sync_said, holds, operations, is_once, are_operations, kinds_in, excluded_by, excluded_said, on_change_said, trigger_said, xpath_said, filter_said, datastore_said, encoding_said, ask_said, by_said, establish_said};
 ghost use Rattle.yp_command.specs.Commands.{IsBounded, anchor_of};
 ghost use Rattle.yp_command.specs.Readings.{Tells};
 
-use crate::fault::ScriptKind;
+use crate::fault::{Flaw, ScriptKind};
 use crate::halt::{Halt, both, holding};
 use crate::receivers::Receivers;
-use crate::words::{is_text, text_in, text_of, whole};
+use crate::words::{is_text, lacking, text_in, text_of, whole};
 use serde_json::{Map, Value as Json};
 use std::alloc::Global;
 use yp_base::json::member;
 use yp_base::notice::{Kinds, Trigger};
 use yp_base::payload::Payload;
 use yp_base::txt::Txt;
+use yp_cause::cause::{Cause, Wrong};
+use yp_cause::excerpt::Excerpt;
 use yp_journal::command::Command;
 use yp_terms::ask::{Ask, FilterAsk};
 use yp_time::instant::anchor_ticks;
@@ -99,30 +102,55 @@ fn may_have_all(part: AskPart, members: &Map<String, Json>) -> bool
     true
 }
 
-/// Whether it is an object that has no members but those of a part.
-pub(crate) fn has_only(part: AskPart, json: &Json) -> bool
-    ensures { result ≡ has_only part (view json.now) }
-{
-    match json {
-        Json::Object(members) => may_have_all(part, members),
-        _ => false,
+/// The first member that a part may not have.
+fn first_other(alloc: Global, part: AskPart, members: &Map<String, Json>) -> Cause {
+    for (name, _) in members.iter() {
+        if !may_have(part, name.as_str()) {
+            return Cause::unknown(alloc, name.as_str());
+        }
+    }
+    Cause::of(Wrong::NoObject)
+}
+
+/// That a part is no object.
+fn no_object(part: AskPart) -> Cause {
+    match part {
+        AskPart::Periodic => Cause::member("periodic", "is an object"),
+        AskPart::OnChange | AskPart::Dampening => Cause::member("on-change", "is an object"),
+        _ => Cause::of(Wrong::NoObject),
     }
 }
 
-/// A whole number of 32 bits.
-fn read_number(json: &Json) -> Result<u32, Halt>
+/// Whether it is an object that has no members but those of a part, or what is wrong with it.
+pub(crate) fn has_only(alloc: Global, part: AskPart, json: &Json) -> Result<(), Cause>
+    ensures { is_ok result ≡ has_only part (view json.now) }
+{
+    match json {
+        Json::Object(members) => {
+            if may_have_all(part, members) {
+                Ok(())
+            } else {
+                Err(first_other(alloc, part, members))
+            }
+        }
+        _ => Err(no_object(part)),
+    }
+}
+
+/// The whole number of 32 bits that a member of this name is.
+fn read_number(json: &Json, name: &'static str) -> Result<u32, Halt>
     ensures { Tells result (number_said (view json.now)) }
 {
-    Ok(whole(json, 0, MOST)? as u32)
+    Ok(whole(json, name, 0, MOST)? as u32)
 }
 
 /// One that may not be left out.
-pub(crate) fn read_number_there(json: Option<&Json>) -> Result<u32, Halt>
+pub(crate) fn read_number_there(json: Option<&Json>, name: &'static str) -> Result<u32, Halt>
     ensures { Tells result (number_there (option_map (λ json. view json.now) json.entry)) }
 {
     match json {
-        Some(json) => read_number(json),
-        None => Err(Halt::Fault(ScriptKind::Member)),
+        Some(json) => read_number(json, name),
+        None => Err(Halt::Fault(Flaw::member(Cause::missing(name)))),
     }
 }
 
@@ -138,7 +166,11 @@ fn anchor_at(start: Option<Start>, text: &str) -> Option<i64>
 }
 
 /// The anchor, where one is given.
-fn read_anchor(start: Option<Start>, json: Option<&Json>) -> Result<Option<i64>, Halt>
+fn read_anchor(
+    alloc: Global,
+    start: Option<Start>,
+    json: Option<&Json>,
+) -> Result<Option<i64>, Halt>
     ensures read { Tells result (anchor_said start (option_map (λ json. view json.now) json.entry)) }
     ensures within { IfOk result (λ anchor. ForSome anchor IsAnchor) }
 {
@@ -146,20 +178,20 @@ fn read_anchor(start: Option<Start>, json: Option<&Json>) -> Result<Option<i64>,
         None => Ok(None),
         Some(Json::String(text)) => match anchor_at(start, text.as_str()) {
             Some(anchor) => Ok(Some(anchor)),
-            None => Err(Halt::Fault(ScriptKind::Instant)),
+            None => Err(Halt::Fault(Flaw::no_instant(alloc, "anchor-time", text.as_str()))),
         },
-        Some(_) => Err(Halt::Fault(ScriptKind::Member)),
+        Some(_) => Err(Halt::Fault(Flaw::wrong("anchor-time", "is a text"))),
     }
 }
 
 /// The trigger of a periodic subscription.
-fn read_periodic(start: Option<Start>, json: &Json) -> Result<Trigger, Halt>
+fn read_periodic(alloc: Global, start: Option<Start>, json: &Json) -> Result<Trigger, Halt>
     ensures read { Tells result (periodic_said start (view json.now)) }
     ensures anchor { IfOk result (λ trigger. ForSome (anchor_of trigger) IsAnchor) }
 {
-    let period = read_number_there(member(json, "period"));
-    let anchor = read_anchor(start, member(json, "anchor-time"));
-    let only = has_only(AskPart::Periodic, json);
+    let period = read_number_there(member(json, "period"), "period");
+    let anchor = read_anchor(alloc, start, member(json, "anchor-time"));
+    let only = has_only(alloc, AskPart::Periodic, json);
     let (period, anchor) = holding(ScriptKind::Member, only, both(period, anchor))?;
     Ok(Trigger::Periodic { period, anchor })
 }
@@ -169,7 +201,7 @@ fn read_dampening(json: Option<&Json>) -> Result<u32, Halt>
     ensures { Tells result (dampening_said (option_map (λ json. view json.now) json.entry)) }
 {
     match json {
-        Some(json) => read_number(json),
+        Some(json) => read_number(json, "dampening-period"),
         None => Ok(0),
     }
 }
@@ -181,7 +213,7 @@ fn read_sync(json: Option<&Json>) -> Result<bool, Halt>
     match json {
         None => Ok(true),
         Some(Json::Bool(sync)) => Ok(*sync),
-        Some(_) => Err(Halt::Fault(ScriptKind::Member)),
+        Some(_) => Err(Halt::Fault(Flaw::wrong("sync-on-start", "is `true` or `false`"))),
     }
 }
 
@@ -248,8 +280,18 @@ fn read_kinds(items: &[Json]) -> Result<Kinds, Halt>
     if are_operations(items) {
         Ok(kinds_in(items))
     } else {
-        Err(Halt::Fault(ScriptKind::Member))
+        Err(Halt::Fault(no_operations()))
     }
+}
+
+/// That the operations that are excluded are none, or stand twice.
+fn no_operations() -> Flaw
+    ensures { result ≡ kinds.Member }
+{
+    Flaw::wrong(
+        "excluded-change",
+        "is an array of `create`, `delete`, `insert`, `move` and `replace`, each at most once",
+    )
 }
 
 /// The operations that are excluded, none where nothing is said.
@@ -259,12 +301,12 @@ fn read_excluded(json: Option<&Json>) -> Result<Kinds, Halt>
     match json {
         None => Ok(kinds_in(&[])),
         Some(Json::Array(items)) => read_kinds(items.as_slice()),
-        Some(_) => Err(Halt::Fault(ScriptKind::Member)),
+        Some(_) => Err(Halt::Fault(no_operations())),
     }
 }
 
 /// The trigger of a subscription on change, which may have the members of a part.
-fn read_on_change(part: AskPart, json: &Json) -> Result<Trigger, Halt>
+fn read_on_change(alloc: Global, part: AskPart, json: &Json) -> Result<Trigger, Halt>
     ensures read { Tells result (on_change_said part (view json.now)) }
     ensures anchor { IfOk result (λ trigger. ForSome (anchor_of trigger) IsAnchor) }
 {
@@ -272,7 +314,7 @@ fn read_on_change(part: AskPart, json: &Json) -> Result<Trigger, Halt>
     let sync = read_sync(member(json, "sync-on-start"));
     let excluded = read_excluded(member(json, "excluded-change"));
     let terms = both(dampening, both(sync, excluded));
-    let only = has_only(part, json);
+    let only = has_only(alloc, part, json);
     let (dampening, (sync, excluded)) = holding(ScriptKind::Member, only, terms)?;
     Ok(Trigger::OnChange {
         dampening,
@@ -283,6 +325,7 @@ fn read_on_change(part: AskPart, json: &Json) -> Result<Trigger, Halt>
 
 /// The trigger: just one of the two, of which one on change may have the members of a part.
 pub(crate) fn read_trigger(
+    alloc: Global,
     part: AskPart,
     start: Option<Start>,
     json: &Json,
@@ -292,12 +335,12 @@ pub(crate) fn read_trigger(
 {
     match member(json, "periodic") {
         Some(periodic) => match member(json, "on-change") {
-            Some(_) => Err(Halt::Fault(ScriptKind::Member)),
-            None => read_periodic(start, periodic),
+            Some(_) => Err(Halt::Fault(Flaw::member(Cause::of(Wrong::TwoTriggers)))),
+            None => read_periodic(alloc, start, periodic),
         },
         None => match member(json, "on-change") {
-            Some(on_change) => read_on_change(part, on_change),
-            None => Err(Halt::Fault(ScriptKind::Member)),
+            Some(on_change) => read_on_change(alloc, part, on_change),
+            None => Err(Halt::Fault(Flaw::member(Cause::of(Wrong::NoTrigger)))),
         },
     }
 }
@@ -309,7 +352,7 @@ fn read_xpath(json: Option<&Json>) -> Result<FilterAsk, Halt>
     match json {
         None => Ok(FilterAsk::All),
         Some(Json::String(_)) => Ok(FilterAsk::XPath),
-        Some(_) => Err(Halt::Fault(ScriptKind::Member)),
+        Some(_) => Err(Halt::Fault(Flaw::wrong("datastore-xpath-filter", "is a text"))),
     }
 }
 
@@ -319,7 +362,7 @@ pub(crate) fn read_filter(alloc: Global, json: &Json) -> Result<FilterAsk, Halt>
 {
     match member(json, "datastore-subtree-filter") {
         Some(filter) => match member(json, "datastore-xpath-filter") {
-            Some(_) => Err(Halt::Fault(ScriptKind::Member)),
+            Some(_) => Err(Halt::Fault(Flaw::member(Cause::of(Wrong::TwoFilters)))),
             None => Ok(FilterAsk::Subtree(Payload::from_json(alloc, filter)?)),
         },
         None => read_xpath(member(json, "datastore-xpath-filter")),
@@ -332,7 +375,7 @@ fn read_datastore(alloc: Global, json: &Json) -> Result<Txt, Halt>
 {
     match text_in(json, "datastore") {
         Some(text) => Ok(text_of(alloc, text)?),
-        None => Err(Halt::Fault(ScriptKind::Member)),
+        None => Err(Halt::Fault(lacking(json, "datastore", "is a text"))),
     }
 }
 
@@ -343,7 +386,7 @@ fn read_encoding(alloc: Global, json: &Json) -> Result<Txt, Halt>
     match member(json, "encoding") {
         Some(encoding) => match encoding.as_str() {
             Some(text) => Ok(text_of(alloc, text)?),
-            None => Err(Halt::Fault(ScriptKind::Member)),
+            None => Err(Halt::Fault(Flaw::wrong("encoding", "is a text"))),
         },
         None => Ok(text_of(alloc, "encode-json")?),
     }
@@ -357,7 +400,7 @@ pub(crate) fn read_ask(alloc: Global, start: Option<Start>, json: &Json) -> Resu
     let names = both(read_encoding(alloc, json), read_datastore(alloc, json));
     let terms = both(
         read_filter(alloc, json),
-        read_trigger(AskPart::OnChange, start, json),
+        read_trigger(alloc, AskPart::OnChange, start, json),
     );
     let ((encoding, datastore), (filter, trigger)) = both(names, terms)?;
     Ok(Ask {
@@ -368,16 +411,23 @@ pub(crate) fn read_ask(alloc: Global, start: Option<Start>, json: &Json) -> Resu
     })
 }
 
+/// That no receiver has this name.
+pub(crate) fn no_receiver(alloc: Global, name: &str) -> Flaw
+    ensures { result ≡ kinds.Member }
+{
+    Flaw::member(Cause::about(Wrong::NoReceiver, Excerpt::of(alloc, name)))
+}
+
 /// The number of the receiver that asks.
-pub(crate) fn read_by(receivers: &Receivers, json: &Json) -> Result<u32, Halt>
+pub(crate) fn read_by(alloc: Global, receivers: &Receivers, json: &Json) -> Result<u32, Halt>
     ensures { Tells result (by_said receivers.now (view json.now)) }
 {
     match text_in(json, "by") {
         Some(name) => match receivers.number_of(name) {
             Some(by) => Ok(by as u32),
-            None => Err(Halt::Fault(ScriptKind::Member)),
+            None => Err(Halt::Fault(no_receiver(alloc, name))),
         },
-        None => Err(Halt::Fault(ScriptKind::Member)),
+        None => Err(Halt::Fault(lacking(json, "by", "is a text"))),
     }
 }
 
@@ -391,8 +441,9 @@ pub fn read_establish(
     ensures read { Tells result (establish_said start receivers.now (view json.now)) }
     ensures bounds { IfOk result IsBounded }
 {
-    let parts = both(read_by(receivers, json), read_ask(alloc, start, json));
-    let only = has_only(AskPart::Establish, json);
+    let by = read_by(alloc, receivers, json);
+    let parts = both(by, read_ask(alloc, start, json));
+    let only = has_only(alloc, AskPart::Establish, json);
     let (by, ask) = holding(ScriptKind::Member, only, parts)?;
     Ok(Command::Establish { by, ask })
 }

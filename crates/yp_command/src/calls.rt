@@ -6,6 +6,7 @@ ghost use Rattle.serde_json.specs.View.{items_view, view};
 ghost use Rattle.yp_base.specs.Types.{are_distinct};
 ghost use Rattle.yp_schema.specs.Stated.{texts_in};
 ghost use Rattle.yp_time.specs.Ticks.{IsAnchor};
+ghost use Rattle.yp_command.specs.declared.fault.ScriptKind.TheVariants.{Member};
 ghost use Rattle.yp_command.specs.Calls.{amend_said, are_some_distinct, call_said, configure_said, delete_said, given_filter_said, given_trigger_said, has_either, id_said, kill_said, modify_said, receivers_said, reconfigure_said, resync_said, unconfigure_said};
 ghost use Rattle.yp_command.specs.Commands.{IsBounded, anchor_of};
 ghost use Rattle.yp_command.specs.Readings.{Tells};
@@ -14,10 +15,10 @@ ghost use Rattle.yp_command.specs.Words.{where_true};
 use crate::ask::{
     AskPart, has_only, read_ask, read_by, read_filter, read_number_there, read_trigger,
 };
-use crate::fault::ScriptKind;
+use crate::fault::{Flaw, ScriptKind};
 use crate::halt::{Halt, both, holding};
 use crate::receivers::Receivers;
-use crate::words::text_of;
+use crate::words::{lacking, text_of};
 use serde_json::Value as Json;
 use std::alloc::Global;
 use std::collections::BTreeSet;
@@ -31,45 +32,49 @@ use yp_journal::command::Command;
 use yp_terms::ask::{Amend, FilterAsk};
 use yp_time::start::Start;
 
+/// What `receivers` is.
+const ARE_NAMES: &str = "is an array of names";
+
 /// The id of the subscription that a call is about.
 fn read_id(json: &Json) -> Result<u32, Halt>
     ensures { Tells result (id_said (view json.now)) }
 {
-    read_number_there(member(json, "id"))
+    read_number_there(member(json, "id"), "id")
 }
 
 /// The number of the receiver that makes a call, and the id of the subscription that it is about.
-fn read_call(receivers: &Receivers, json: &Json) -> Result<(u32, u32), Halt>
+fn read_call(alloc: Global, receivers: &Receivers, json: &Json) -> Result<(u32, u32), Halt>
     ensures { Tells result (call_said receivers.now (view json.now)) }
 {
-    let parts = both(read_by(receivers, json), read_id(json));
-    holding(ScriptKind::Member, has_only(AskPart::Call, json), parts)
+    let parts = both(read_by(alloc, receivers, json), read_id(json));
+    let only = has_only(alloc, AskPart::Call, json);
+    holding(ScriptKind::Member, only, parts)
 }
 
 /// The deletion that a line asks for, by the receivers so far.
-pub fn read_delete(receivers: &Receivers, json: &Json) -> Result<Command, Halt>
+pub fn read_delete(alloc: Global, receivers: &Receivers, json: &Json) -> Result<Command, Halt>
     ensures read { Tells result (delete_said receivers.now (view json.now)) }
     ensures bounds { IfOk result IsBounded }
 {
-    let (by, id) = read_call(receivers, json)?;
+    let (by, id) = read_call(alloc, receivers, json)?;
     Ok(Command::Delete { by, id })
 }
 
 /// The kill that a line asks for, by the receivers so far.
-pub fn read_kill(receivers: &Receivers, json: &Json) -> Result<Command, Halt>
+pub fn read_kill(alloc: Global, receivers: &Receivers, json: &Json) -> Result<Command, Halt>
     ensures read { Tells result (kill_said receivers.now (view json.now)) }
     ensures bounds { IfOk result IsBounded }
 {
-    let (by, id) = read_call(receivers, json)?;
+    let (by, id) = read_call(alloc, receivers, json)?;
     Ok(Command::Kill { by, id })
 }
 
 /// The full update that a line asks for, by the receivers so far.
-pub fn read_resync(receivers: &Receivers, json: &Json) -> Result<Command, Halt>
+pub fn read_resync(alloc: Global, receivers: &Receivers, json: &Json) -> Result<Command, Halt>
     ensures read { Tells result (resync_said receivers.now (view json.now)) }
     ensures bounds { IfOk result IsBounded }
 {
-    let (by, id) = read_call(receivers, json)?;
+    let (by, id) = read_call(alloc, receivers, json)?;
     Ok(Command::Resync { by, id })
 }
 
@@ -92,12 +97,16 @@ fn read_given_filter(alloc: Global, json: &Json) -> Result<Option<FilterAsk>, Ha
 }
 
 /// The trigger, where one is given: of one on change the dampening period alone.
-fn read_given_trigger(start: Option<Start>, json: &Json) -> Result<Option<Trigger>, Halt>
+fn read_given_trigger(
+    alloc: Global,
+    start: Option<Start>,
+    json: &Json,
+) -> Result<Option<Trigger>, Halt>
     ensures read { Tells result (given_trigger_said start (view json.now)) }
     ensures anchor { IfOk result (λ trigger. ForSome (option_and_then anchor_of trigger) IsAnchor) }
 {
     if has_either(json, "periodic", "on-change") {
-        Ok(Some(read_trigger(AskPart::Dampening, start, json)?))
+        Ok(Some(read_trigger(alloc, AskPart::Dampening, start, json)?))
     } else {
         Ok(None)
     }
@@ -110,7 +119,7 @@ fn read_amend(alloc: Global, start: Option<Start>, json: &Json) -> Result<Amend,
 {
     let terms = both(
         read_given_filter(alloc, json),
-        read_given_trigger(start, json),
+        read_given_trigger(alloc, start, json),
     );
     let (filter, trigger) = terms?;
     Ok(Amend { filter, trigger })
@@ -126,9 +135,9 @@ pub fn read_modify(
     ensures read { Tells result (modify_said start receivers.now (view json.now)) }
     ensures bounds { IfOk result IsBounded }
 {
-    let call = both(read_by(receivers, json), read_id(json));
+    let call = both(read_by(alloc, receivers, json), read_id(json));
     let parts = both(call, read_amend(alloc, start, json));
-    let only = has_only(AskPart::Modify, json);
+    let only = has_only(alloc, AskPart::Modify, json);
     let ((by, id), amend) = holding(ScriptKind::Member, only, parts)?;
     Ok(Command::Modify { by, id, amend })
 }
@@ -186,6 +195,20 @@ fn read_distinct(alloc: Global, items: &Vec<Json>) -> Result<Option<Names>, NoMe
     }
 }
 
+/// What is wrong with the names of receivers where they are none, or one stands twice.
+fn wrong_names(items: &Vec<Json>) -> Flaw
+    ensures { result ≡ Member }
+{
+    let words = if items.is_empty() {
+        "is empty"
+    } else if items.iter().all(Json::is_string) {
+        "has a name twice"
+    } else {
+        ARE_NAMES
+    };
+    Flaw::wrong("receivers", words)
+}
+
 /// The names of the receivers that a subscription is configured for.
 fn read_receivers(alloc: Global, json: &Json) -> Result<Names, Halt>
     ensures { Tells result (receivers_said (view json.now)) }
@@ -193,9 +216,9 @@ fn read_receivers(alloc: Global, json: &Json) -> Result<Names, Halt>
     match member(json, "receivers") {
         Some(Json::Array(items)) => match read_distinct(alloc, items)? {
             Some(names) => Ok(names),
-            None => Err(Halt::Fault(ScriptKind::Member)),
+            None => Err(Halt::Fault(wrong_names(items))),
         },
-        _ => Err(Halt::Fault(ScriptKind::Member)),
+        _ => Err(Halt::Fault(lacking(json, "receivers", ARE_NAMES))),
     }
 }
 
@@ -206,7 +229,7 @@ pub fn read_configure(alloc: Global, start: Option<Start>, json: &Json) -> Resul
 {
     let whom = both(read_id(json), read_receivers(alloc, json));
     let parts = both(whom, read_ask(alloc, start, json));
-    let only = has_only(AskPart::Configure, json);
+    let only = has_only(alloc, AskPart::Configure, json);
     let ((id, receivers), ask) = holding(ScriptKind::Member, only, parts)?;
     Ok(Command::Configure { id, receivers, ask })
 }
@@ -217,17 +240,17 @@ pub fn read_reconfigure(alloc: Global, start: Option<Start>, json: &Json) -> Res
     ensures bounds { IfOk result IsBounded }
 {
     let parts = both(read_id(json), read_amend(alloc, start, json));
-    let only = has_only(AskPart::Reconfigure, json);
+    let only = has_only(alloc, AskPart::Reconfigure, json);
     let (id, amend) = holding(ScriptKind::Member, only, parts)?;
     Ok(Command::Reconfigure { id, amend })
 }
 
 /// The end of a configured subscription that a line asks for.
-pub fn read_unconfigure(json: &Json) -> Result<Command, Halt>
+pub fn read_unconfigure(alloc: Global, json: &Json) -> Result<Command, Halt>
     ensures read { Tells result (unconfigure_said (view json.now)) }
     ensures bounds { IfOk result IsBounded }
 {
-    let only = has_only(AskPart::Unconfigure, json);
+    let only = has_only(alloc, AskPart::Unconfigure, json);
     let id = holding(ScriptKind::Member, only, read_id(json))?;
     Ok(Command::Unconfigure { id })
 }

@@ -3,6 +3,7 @@ ghost use Rattle.std.specs.Prelude.{◌≡◌, IfOk, option_map};
 ghost use Rattle.serde_json.specs.View.{view};
 ghost use Rattle.yp_command.specs.Commands.{IsBounded};
 ghost use Rattle.yp_command.specs.Readings.{Tells};
+ghost use Rattle.yp_command.specs.declared.fault.ScriptKind.TheVariants as kinds;
 ghost use Rattle.yp_command.specs.Requests.{request_named, request_in, seen_request, patch_said, policy_said, command_said};
 
 use crate::ask::read_establish;
@@ -10,17 +11,19 @@ use crate::calls::{
     read_configure, read_delete, read_kill, read_modify, read_reconfigure, read_resync,
     read_unconfigure,
 };
-use crate::fault::ScriptKind;
+use crate::fault::{Flaw, ScriptKind};
 use crate::halt::Halt;
 use crate::receivers::Receivers;
 use crate::take::read_take;
 use crate::words::{sole_member, whole};
 use serde_json::Value as Json;
 use std::alloc::Global;
+use yp_cause::patches::patch_cause;
+use yp_cause::policies::policy_cause;
 use yp_journal::command::Command;
-use yp_nacm_text::fault::PolicyFault;
+use yp_nacm_text::fault::{Place, PolicyFault, PolicyKind};
 use yp_nacm_text::policy::read_policy;
-use yp_patch::fault::PatchFault;
+use yp_patch::fault::{PatchError, PatchFault};
 use yp_patch::reading::read_patch;
 use yp_schema::schema::Schema;
 use yp_time::start::Start;
@@ -100,6 +103,16 @@ pub fn request_in(json: &Json) -> Option<Request<&Json>>
     }
 }
 
+/// A fault of a patch, which its reader tells by this error.
+fn patch_flaw(alloc: Global, json: &Json, error: &PatchError) -> Flaw
+    ensures { result ≡ kinds.Patch }
+{
+    Flaw {
+        kind: ScriptKind::Patch,
+        cause: patch_cause(alloc, json, error),
+    }
+}
+
 /// The patch that a line asks for (RFC 8072).
 fn read_edit(alloc: Global, json: &Json) -> Result<Command, Halt>
     ensures read { Tells result (patch_said (view json.now)) }
@@ -108,9 +121,19 @@ fn read_edit(alloc: Global, json: &Json) -> Result<Command, Halt>
     match read_patch(alloc, json) {
         Ok(patch) => Ok(Command::Edit(patch)),
         Err(error) => match error.fault {
-            PatchFault::Shape => Err(Halt::Fault(ScriptKind::Patch)),
+            PatchFault::Shape => Err(Halt::Fault(patch_flaw(alloc, json, &error))),
             PatchFault::Memory => Err(Halt::Memory),
         },
+    }
+}
+
+/// A fault of a policy, of this kind and at this place.
+fn policy_flaw(alloc: Global, schema: &Schema, json: &Json, place: Place, kind: PolicyKind) -> Flaw
+    ensures { result ≡ kinds.Policy }
+{
+    Flaw {
+        kind: ScriptKind::Policy,
+        cause: policy_cause(alloc, schema, json, place, kind),
     }
 }
 
@@ -121,7 +144,9 @@ fn read_rules(alloc: Global, schema: &Schema, json: &Json) -> Result<Command, Ha
 {
     match read_policy(alloc, schema, json) {
         Ok(policy) => Ok(Command::Rules(policy)),
-        Err(PolicyFault::At { .. }) => Err(Halt::Fault(ScriptKind::Policy)),
+        Err(PolicyFault::At { place, kind }) => {
+            Err(Halt::Fault(policy_flaw(alloc, schema, json, place, kind)))
+        }
         Err(PolicyFault::Memory) => Err(Halt::Memory),
     }
 }
@@ -138,17 +163,17 @@ pub fn read_command(
     ensures bounds { IfOk result IsBounded }
 {
     match request {
-        Request::Tick(json) => Ok(Command::Tick(whole(json, 0, LAST_TICK)?)),
+        Request::Tick(json) => Ok(Command::Tick(whole(json, "tick", 0, LAST_TICK)?)),
         Request::Patch(json) => read_edit(alloc, json),
         Request::Policy(json) => read_rules(alloc, schema, json),
         Request::Establish(json) => read_establish(alloc, start, receivers, json),
         Request::Modify(json) => read_modify(alloc, start, receivers, json),
-        Request::Delete(json) => read_delete(receivers, json),
-        Request::Kill(json) => read_kill(receivers, json),
-        Request::Resync(json) => read_resync(receivers, json),
+        Request::Delete(json) => read_delete(alloc, receivers, json),
+        Request::Kill(json) => read_kill(alloc, receivers, json),
+        Request::Resync(json) => read_resync(alloc, receivers, json),
         Request::Configure(json) => read_configure(alloc, start, json),
         Request::Reconfigure(json) => read_reconfigure(alloc, start, json),
-        Request::Unconfigure(json) => read_unconfigure(json),
-        Request::Take(json) => read_take(receivers, json),
+        Request::Unconfigure(json) => read_unconfigure(alloc, json),
+        Request::Take(json) => read_take(alloc, receivers, json),
     }
 }

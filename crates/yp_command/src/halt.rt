@@ -1,27 +1,28 @@
 //! What stops the reading of a line.
-ghost use Rattle.std.specs.Prelude.{◌≡◌, Ok, IfOk};
+ghost use Rattle.std.specs.Prelude.{◌≡◌, Ok, IfOk, is_ok};
 ghost use Rattle.yp_command.specs.Faults.{Said, least, both, holding};
 ghost use Rattle.yp_command.specs.Readings.{Tells, beside};
 
-use crate::fault::ScriptKind;
+use crate::fault::{Flaw, ScriptKind};
 use std::alloc::AllocError;
 use yp_base::memory::NoMemory;
+use yp_cause::cause::Cause;
 
 /// Why a line or a part of it says nothing: its least fault, or want of memory.
-#[derive(Debug, Clone, Copy, PartialEq, Eq, Drop)]
+#[derive(Debug, Drop)]
 pub enum Halt {
-    Fault(ScriptKind),
+    Fault(Flaw),
     Memory,
 }
 
-impl From<ScriptKind> for Halt {
+impl From<Flaw> for Halt {
     ghost use Rattle.std.specs.Prelude.{◌≡◌};
     ghost use Rattle.yp_command.specs.declared.halt.Halt.TheVariants.{Fault};
 
-    ghost from_gives = { λ kind e. e ≡ Fault kind };
+    ghost from_gives = { λ flaw e. e ≡ Fault flaw };
 
-    fn from(kind: ScriptKind) -> Halt {
-        Halt::Fault(kind)
+    fn from(flaw: Flaw) -> Halt {
+        Halt::Fault(flaw)
     }
 }
 
@@ -47,38 +48,45 @@ impl From<AllocError> for Halt {
     }
 }
 
-/// Which of two faults of a line is told: the one with the lesser number.
-pub fn least(kind: ScriptKind, other: ScriptKind) -> ScriptKind
-    ensures { result ≡ least kind other }
+/// Which of two faults of a line is told: the one with the lesser number, and of two of one kind the first.
+pub fn least(flaw: Flaw, other: Flaw) -> Flaw
+    ensures { result ≡ least flaw other }
 {
-    if kind.number() <= other.number() {
-        kind
+    if flaw.kind.number() <= other.kind.number() {
+        flaw
     } else {
         other
     }
 }
 
 /// What stops a part of a line that has this fault too.
-pub fn beside(kind: ScriptKind, halt: Halt) -> Halt
-    ensures { result ≡ beside kind halt }
+pub fn beside(flaw: Flaw, halt: Halt) -> Halt
+    ensures { result ≡ beside flaw halt }
 {
     match halt {
-        Halt::Fault(other) => Halt::Fault(least(kind, other)),
+        Halt::Fault(other) => Halt::Fault(least(flaw, other)),
         Halt::Memory => Halt::Memory,
     }
 }
 
-/// A part of a line that has this fault too, unless a test holds.
-pub fn holding<X: Drop>(kind: ScriptKind, holds: bool, part: Result<X, Halt>) -> Result<X, Halt>
-    ensures read { (said : Said X) → Tells part said → Tells result (holding kind holds said) }
+/// A part of a line that has a fault of this kind too, of the cause that a test gives, unless the test holds.
+pub fn holding<X: Drop>(
+    kind: ScriptKind,
+    test: Result<(), Cause>,
+    part: Result<X, Halt>,
+) -> Result<X, Halt>
+    ensures read { (said : Said X) → Tells part said → Tells result (holding kind (is_ok test) said) }
     ensures same { IfOk result (λ x. part ≡ Ok x) }
 {
-    if holds {
-        return part;
-    }
-    match part {
-        Ok(_) => Err(Halt::Fault(kind)),
-        Err(halt) => Err(beside(kind, halt)),
+    match test {
+        Ok(()) => part,
+        Err(cause) => {
+            let flaw = Flaw { kind, cause };
+            match part {
+                Ok(_) => Err(Halt::Fault(flaw)),
+                Err(halt) => Err(beside(flaw, halt)),
+            }
+        }
     }
 }
 
@@ -90,9 +98,9 @@ pub fn both<X: Drop, Y: Drop>(part: Result<X, Halt>, other: Result<Y, Halt>) -> 
 {
     match part {
         Ok(x) => Ok((x, other?)),
-        Err(Halt::Fault(kind)) => match other {
-            Ok(_) => Err(Halt::Fault(kind)),
-            Err(halt) => Err(beside(kind, halt)),
+        Err(Halt::Fault(flaw)) => match other {
+            Ok(_) => Err(Halt::Fault(flaw)),
+            Err(halt) => Err(beside(flaw, halt)),
         },
         Err(Halt::Memory) => Err(Halt::Memory),
     }

@@ -1,17 +1,27 @@
 //! Lines by which receivers take packets from their queues.
-ghost use Rattle.std.specs.Prelude.{◌≡◌, ◌<◌, ◌≤◌, IfOk, IfSome, length, slice_get};
+ghost use Rattle.std.specs.Prelude.{◌≡◌, ◌<◌, ◌≤◌, IfOk, IfSome, is_ok, length, slice_get};
 ghost use Rattle.serde_json.specs.View.{view};
 ghost use Rattle.yp_command.specs.Commands.{IsBounded};
 ghost use Rattle.yp_command.specs.Readings.{Tells};
 ghost use Rattle.yp_command.specs.Takes.{is_taker, taker_number, taker_said, count_said, take_said};
+ghost use Rattle.yp_command.specs.Words.{has_count};
+ghost use Rattle.yp_command.specs.declared.fault.ScriptKind.TheVariants.{Member};
 
-use crate::fault::ScriptKind;
+use crate::ask::no_receiver;
+use crate::fault::{Flaw, ScriptKind};
 use crate::halt::{Halt, both, holding};
 use crate::receivers::Receivers;
-use crate::words::{has_count, text_in, whole_there};
+use crate::words::{has_count, lacking_among, text_in, whole};
 use serde_json::Value as Json;
+use std::alloc::Global;
 use yp_base::json::member;
+use yp_cause::cause::{Cause, Wrong};
+use yp_cause::excerpt::Excerpt;
+use yp_cause::lines::other_member;
 use yp_journal::command::Command;
+
+/// The members of a take.
+const MEMBERS: [&str; 2] = ["receiver", "count"];
 
 /// The most packets that one command takes.
 const MOST_PACKETS: u64 = 32;
@@ -43,32 +53,65 @@ fn taker_number(receivers: &Receivers, name: &str) -> Option<usize>
     }
 }
 
+/// What is wrong with a take in which the member of this name isn't what it must be, as these words say.
+fn wrong_member(alloc: Global, json: &Json, name: &'static str, words: &'static str) -> Flaw
+    ensures { result ≡ Member }
+{
+    lacking_among(alloc, json, &MEMBERS, name, words)
+}
+
+/// Why the receiver of a name takes no packets by commands.
+fn no_taker(alloc: Global, receivers: &Receivers, name: &str) -> Flaw
+    ensures { result ≡ Member }
+{
+    match receivers.number_of(name) {
+        Some(_) => Flaw::member(Cause::about(Wrong::TakesByItself, Excerpt::of(alloc, name))),
+        None => no_receiver(alloc, name),
+    }
+}
+
 /// The number of the receiver that a line names.
-fn read_taker(receivers: &Receivers, json: &Json) -> Result<u32, Halt>
+fn read_taker(alloc: Global, receivers: &Receivers, json: &Json) -> Result<u32, Halt>
     ensures { Tells result (taker_said receivers.now (view json.now)) }
 {
     match text_in(json, "receiver") {
         Some(name) => match taker_number(receivers, name) {
             Some(number) => Ok(number as u32),
-            None => Err(Halt::Fault(ScriptKind::Member)),
+            None => Err(Halt::Fault(no_taker(alloc, receivers, name))),
         },
-        None => Err(Halt::Fault(ScriptKind::Member)),
+        None => Err(Halt::Fault(wrong_member(alloc, json, "receiver", "is a text"))),
     }
 }
 
 /// How many packets it takes at most.
-fn read_count(json: &Json) -> Result<u32, Halt>
+fn read_count(alloc: Global, json: &Json) -> Result<u32, Halt>
     ensures { Tells result (count_said (view json.now)) }
 {
-    Ok(whole_there(member(json, "count"), 1, MOST_PACKETS)? as u32)
+    match member(json, "count") {
+        Some(count) => Ok(whole(count, "count", 1, MOST_PACKETS)? as u32),
+        None => Err(Halt::Fault(wrong_member(alloc, json, "count", "is missing"))),
+    }
+}
+
+/// Whether it is an object of two members, or what is wrong with it.
+fn has_two(alloc: Global, json: &Json) -> Result<(), Cause>
+    ensures { is_ok result ≡ has_count 2 (view json.now) }
+{
+    if has_count(json, 2) {
+        return Ok(());
+    }
+    match other_member(alloc, json, &MEMBERS) {
+        Some(cause) => Err(cause),
+        None => Err(Cause::of(Wrong::NoObject)),
+    }
 }
 
 /// The take that a line asks for, by the receivers so far.
-pub fn read_take(receivers: &Receivers, json: &Json) -> Result<Command, Halt>
+pub fn read_take(alloc: Global, receivers: &Receivers, json: &Json) -> Result<Command, Halt>
     ensures read { Tells result (take_said receivers.now (view json.now)) }
     ensures bounds { IfOk result IsBounded }
 {
-    let parts = both(read_taker(receivers, json), read_count(json));
-    let (receiver, count) = holding(ScriptKind::Member, has_count(json, 2), parts)?;
+    let parts = both(read_taker(alloc, receivers, json), read_count(alloc, json));
+    let (receiver, count) = holding(ScriptKind::Member, has_two(alloc, json), parts)?;
     Ok(Command::Take { receiver, count })
 }

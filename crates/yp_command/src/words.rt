@@ -3,14 +3,17 @@ ghost use Rattle.std.specs.Prelude.{◌≡◌, ◌≤◌, option_map, is_some, I
 ghost use Rattle.serde_json.specs.Find.{as_str};
 ghost use Rattle.serde_json.specs.View.{view, members_view};
 ghost use Rattle.serde_json.specs.Events.{members_len};
-ghost use Rattle.yp_command.specs.Words.{seen_member, first_member, sole_member, has_count, text_at, says, is_text, whole_said, whole_there, is_yes};
+ghost use Rattle.yp_command.specs.declared.fault.ScriptKind.TheVariants.{Member};
+ghost use Rattle.yp_command.specs.Words.{seen_member, first_member, sole_member, has_count, text_at, says, is_text, whole_said, is_yes};
 
-use crate::fault::ScriptKind;
+use crate::fault::Flaw;
 use serde_json::{Map, Value as Json};
 use std::alloc::Global;
 use yp_base::json::member;
 use yp_base::memory::NoMemory;
 use yp_base::txt::Txt;
+use yp_cause::cause::Cause;
+use yp_cause::lines::other_member;
 
 /// How many members an object has.
 fn count(members: &Map<String, Json>) -> usize
@@ -92,8 +95,9 @@ pub fn says(json: &Json, name: &str, word: &str) -> bool
     }
 }
 
-/// A whole number within bounds: `Limit` where it lies outside, `Member` where it is none.
-pub fn whole(json: &Json, low: u64, high: u64) -> Result<u64, ScriptKind>
+/// The whole number within bounds that a member of this name is: `Limit` where it lies outside, `Member` where
+/// it is none.
+pub fn whole(json: &Json, name: &'static str, low: u64, high: u64) -> Result<u64, Flaw>
     ensures read { result ≡ whole_said low high (view json.now) }
     ensures low { IfOk result (λ number. low ≤ number) }
     ensures high { IfOk result (λ number. number ≤ high) }
@@ -104,29 +108,45 @@ pub fn whole(json: &Json, low: u64, high: u64) -> Result<u64, ScriptKind>
                 if low <= whole && whole <= high {
                     Ok(whole)
                 } else {
-                    Err(ScriptKind::Limit)
+                    Err(Flaw::out_of_range(name, low, high))
                 }
             }
             None => {
                 if number.is_i64() {
-                    Err(ScriptKind::Limit)
+                    Err(Flaw::out_of_range(name, low, high))
                 } else {
-                    Err(ScriptKind::Member)
+                    Err(Flaw::wrong(name, "is a whole number, without a point or an exponent"))
                 }
             }
         },
-        _ => Err(ScriptKind::Member),
+        _ => Err(Flaw::wrong(name, "is a whole number")),
     }
 }
 
-/// A whole number within bounds that may not be left out.
-pub fn whole_there(json: Option<&Json>, low: u64, high: u64) -> Result<u64, ScriptKind>
-    ensures read { result ≡ whole_there low high (option_map (λ json. view json.now) json.entry) }
-    ensures high { IfOk result (λ number. number ≤ high) }
+/// What is wrong with an object in which no member of this name is what it must be, as these words say.
+pub fn lacking(json: &Json, name: &'static str, words: &'static str) -> Flaw
+    ensures { result ≡ Member }
 {
-    match json {
-        Some(json) => whole(json, low, high),
-        None => Err(ScriptKind::Member),
+    match member(json, name) {
+        Some(_) => Flaw::wrong(name, words),
+        None => Flaw::member(Cause::missing(name)),
+    }
+}
+
+/// What is wrong with an object of these members alone in which the one of this name isn't what it must be, as
+/// these words say.
+pub fn lacking_among(
+    alloc: Global,
+    json: &Json,
+    names: &[&'static str],
+    name: &'static str,
+    words: &'static str,
+) -> Flaw
+    ensures { result ≡ Member }
+{
+    match other_member(alloc, json, names) {
+        Some(cause) => Flaw::member(cause),
+        None => Flaw::wrong(name, words),
     }
 }
 

@@ -73,7 +73,10 @@ impl From<ScriptFault> for ReplayFault {
 
     fn from(fault: ScriptFault) -> ReplayFault {
         match fault {
-            ScriptFault::At { line, kind } => ReplayFault::Script { line, kind },
+            ScriptFault::At { line, kind: flaw } => ReplayFault::Script {
+                line,
+                kind: flaw.kind,
+            },
             ScriptFault::Memory => ReplayFault::Memory,
         }
     }

@@ -5,7 +5,7 @@ use crate::lines::{first_line, is_blank_line, json_within, text_within};
 use serde_json::Value as Json;
 use std::alloc::Global;
 use yp_base::memory::NoMemory;
-use yp_command::fault::ScriptKind;
+use yp_command::fault::{Flaw, ScriptKind};
 
 /// The most lines of a script.
 pub const LINE_LIMIT: u32 = 100_000;
@@ -17,7 +17,7 @@ pub const BYTE_LIMIT: usize = 67_108_864;
 #[derive(Drop)]
 pub struct Line {
     pub number: u32,
-    pub json: Result<Json, ScriptKind>,
+    pub json: Result<Json, Flaw>,
 }
 
 /// A line as it stands: its number, and its text without its line feed, or `Limit` where it is the line in
@@ -89,7 +89,7 @@ impl<'a> Lines<'a> {
             if !(within && is_blank_line(text)) {
                 return Ok(Some(Line {
                     number: self.number,
-                    json: json_within(alloc, within, text)?,
+                    json: json_within(alloc, self.number, within, text)?,
                 }));
             }
         }

@@ -1,14 +1,14 @@
 //! What is wrong with a script.
 
 use yp_base::memory::NoMemory;
-use yp_command::fault::ScriptKind;
+use yp_command::fault::Flaw;
 use yp_command::halt::Halt;
 
 /// Why a script wasn't read: its first line with a fault, or want of memory.
-#[derive(Debug, Drop, Clone, Copy, PartialEq, Eq, thiserror::Error)]
+#[derive(Debug, Drop, thiserror::Error)]
 pub enum ScriptFault {
-    #[error("line {line}: {kind:?}")]
-    At { line: u32, kind: ScriptKind },
+    #[error("line {line}: {kind}")]
+    At { line: u32, kind: Flaw },
     #[error("no memory")]
     Memory,
 }

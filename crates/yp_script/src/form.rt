@@ -1,12 +1,16 @@
 //! The forms of a script's lines.
 ghost use Rattle.std.specs.Prelude.{◌≡◌, option_map};
 ghost use Rattle.serde_json.specs.View.{view};
+ghost use Rattle.yp_command.specs.declared.fault.ScriptKind.TheVariants.{UnknownCommand};
 ghost use Rattle.yp_command.specs.Requests.{seen_request};
 ghost use Rattle.yp_script.specs.Forms.{seen_form, form_named, lane_form, line_form};
 
 use serde_json::Value as Json;
+use std::alloc::Global;
 use yp_base::json::member;
+use yp_cause::lines::form_cause;
 use yp_command::command::{Request, request_in, request_named};
+use yp_command::fault::{Flaw, ScriptKind};
 use yp_command::words::{has_count, sole_member};
 
 /// The form of a line, with the values that stand in it.
@@ -76,5 +80,15 @@ pub fn line_form(json: &Json) -> Option<Form<&Json>>
     match sole_member(json) {
         Some((name, value)) => form_named(name, value),
         None => lane_form(json),
+    }
+}
+
+/// The fault of a line that has no form.
+pub fn no_form(alloc: Global, json: &Json) -> Flaw
+    ensures { result ≡ UnknownCommand }
+{
+    Flaw {
+        kind: ScriptKind::UnknownCommand,
+        cause: form_cause(alloc, json),
     }
 }

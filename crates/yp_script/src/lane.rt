@@ -4,7 +4,7 @@ ghost use Rattle.yp_journal.specs.declared.command.Command.{Command as Asked};
 ghost use Rattle.yp_command.specs.Faults.{Said, together};
 ghost use Rattle.yp_command.specs.Readings.{Tells};
 
-use yp_command::fault::ScriptKind;
+use yp_command::fault::Flaw;
 use yp_command::halt::{Halt, both};
 use yp_journal::command::Command;
 
@@ -16,7 +16,7 @@ pub struct Laned {
 }
 
 /// The number of a lane, or what stops it.
-fn number_of(lane: Result<u64, ScriptKind>) -> Result<u64, Halt>
+fn number_of(lane: Result<u64, Flaw>) -> Result<u64, Halt>
     ensures read { Tells result lane }
     ensures same { IfOk result (λ number. lane ≡ Ok number) }
 {
@@ -25,10 +25,7 @@ fn number_of(lane: Result<u64, ScriptKind>) -> Result<u64, Halt>
 
 /// A command of a lane, from what its number and the command are read as.
 #[tactic(auto, using(crate::proofs::LaneLaws::together_is))]
-pub fn lane_command(
-    lane: Result<u64, ScriptKind>,
-    command: Result<Command, Halt>,
-) -> Result<Laned, Halt>
+pub fn lane_command(lane: Result<u64, Flaw>, command: Result<Command, Halt>) -> Result<Laned, Halt>
     ensures read { (said : Said Asked) → Tells command said → Tells result (together (λ lane command. record { lane = lane; command = command }) lane said) }
     ensures lane { IfOk result (λ laned. lane ≡ Ok laned.lane) }
     ensures command { IfOk result (λ laned. command ≡ Ok laned.command) }

@@ -1,14 +1,19 @@
 //! Lines of a text and their JSON.
 ghost use Rattle.std.specs.Prelude.{◌≡◌, ◌≢◌, ◌-◌, ℕ, ◌<◌, ◌≤◌, ◌∷◌, length, take, slice_index, IfOk, Some, option_map};
+ghost use Rattle.std.specs.Result.{result_ok};
 ghost use Rattle.serde_json.specs.View.{view};
+ghost use Rattle.yp_command.specs.declared.fault.ScriptKind.TheVariants.{Limit, TooLong};
 ghost use Rattle.yp_command.specs.Faults.{said_map};
 ghost use Rattle.yp_script.specs.Lines.{pieces_of, without_feed, is_blank, json_of, json_in, text_in};
 
+use crate::cursor::{BYTE_LIMIT, LINE_LIMIT};
 use memchr::memchr;
 use serde_json::Value as Json;
 use std::alloc::{AllocError, Global};
 use yp_base::memory::NoMemory;
-use yp_command::fault::ScriptKind;
+use yp_cause::cause::{Cause, Wrong};
+use yp_cause::lines::json_cause;
+use yp_command::fault::{Flaw, ScriptKind};
 
 /// The most bytes of a line of a script, its line feed aside.
 const MOST_LINE_BYTES: usize = 65_536;
@@ -50,55 +55,83 @@ pub fn is_blank_line(line: &[u8]) -> bool
     true
 }
 
-/// The JSON of a text, where it is JSON.
-pub fn read_json(alloc: Global, text: &[u8]) -> Result<Option<Json>, NoMemory>
-    ensures { IfOk result (λ read. option_map view read ≡ json_of text.now) }
+/// The JSON of a text, or why it is not JSON.
+pub fn read_json(alloc: Global, text: &[u8]) -> Result<Result<Json, Cause>, NoMemory>
+    ensures { IfOk result (λ read. option_map view (result_ok read) ≡ json_of text.now) }
 {
     match std::str::from_utf8(text) {
         Ok(text) => match Json::from_str(alloc, text) {
-            Ok(json) => Ok(Some(json)),
+            Ok(json) => Ok(Ok(json)),
             Err(error) => {
                 if error.is_memory() {
                     Err(NoMemory)
                 } else {
-                    Ok(None)
+                    Ok(Err(json_cause(alloc, &error)))
                 }
             }
         },
-        Err(_) => Ok(None),
+        Err(error) => Ok(Err(Cause::of(Wrong::NotUtf8 {
+            bytes: error.valid_up_to(),
+        }))),
     }
 }
 
-/// The JSON of a line: `Limit` where it isn't within the limits of a script, then `TooLong` and `NotJson`.
+/// The fault of a line of this number that isn't within the limits of a script.
+fn past_limit(number: u32) -> Flaw
+    ensures { result ≡ Limit }
+{
+    if number > LINE_LIMIT {
+        Flaw::too_many(LINE_LIMIT as u64, "lines")
+    } else {
+        Flaw::too_many(BYTE_LIMIT as u64, "bytes")
+    }
+}
+
+/// The fault of a line that is too long.
+fn too_long(text: &[u8]) -> Flaw
+    ensures { result ≡ TooLong }
+{
+    Flaw {
+        kind: ScriptKind::TooLong,
+        cause: Cause::of(Wrong::TooLong { bytes: text.len() }),
+    }
+}
+
+/// The JSON of a line of this number: `Limit` where it isn't within the limits of a script, then `TooLong` and
+/// `NotJson`.
 pub fn json_within(
     alloc: Global,
+    number: u32,
     within: bool,
     text: &[u8],
-) -> Result<Result<Json, ScriptKind>, NoMemory>
+) -> Result<Result<Json, Flaw>, NoMemory>
     ensures { IfOk result (λ read. said_map view read ≡ json_in within text.now) }
 {
     if !within {
-        return Ok(Err(ScriptKind::Limit));
+        return Ok(Err(past_limit(number)));
     }
     if text.len() > MOST_LINE_BYTES {
-        return Ok(Err(ScriptKind::TooLong));
+        return Ok(Err(too_long(text)));
     }
     match read_json(alloc, text)? {
-        Some(json) => Ok(Ok(json)),
-        None => Ok(Err(ScriptKind::NotJson)),
+        Ok(json) => Ok(Ok(json)),
+        Err(cause) => Ok(Err(Flaw {
+            kind: ScriptKind::NotJson,
+            cause,
+        })),
     }
 }
 
-/// The JSON that the text of a line is, with the same limits.
-pub fn json_limited(within: bool, text: &[u8], json: Json) -> Result<Json, ScriptKind>
+/// The JSON that the text of a line of this number is, with the same limits.
+pub fn json_limited(number: u32, within: bool, text: &[u8], json: Json) -> Result<Json, Flaw>
     requires { json_of text.now ≡ Some (view json) }
     ensures { said_map view result ≡ json_in within text.now }
 {
     if !within {
-        return Err(ScriptKind::Limit);
+        return Err(past_limit(number));
     }
     if text.len() > MOST_LINE_BYTES {
-        return Err(ScriptKind::TooLong);
+        return Err(too_long(text));
     }
     Ok(json)
 }
@@ -111,5 +144,18 @@ pub fn text_within(within: bool, text: &[u8]) -> Result<&[u8], ScriptKind>
         Ok(text)
     } else {
         Err(ScriptKind::Limit)
+    }
+}
+
+/// The fault of a line without a text, which is past the limit of bytes.
+pub fn past_bytes(kind: ScriptKind) -> Flaw
+    ensures { result ≡ kind }
+{
+    Flaw {
+        kind,
+        cause: Cause::of(Wrong::TooMany {
+            most: BYTE_LIMIT as u64,
+            what: "bytes",
+        }),
     }
 }

@@ -3,15 +3,27 @@ ghost use Rattle.std.specs.Prelude.{◌≡◌, ◌++◌, ◌∷◌, [], map, Ok,
 ghost use Rattle.std.specs.Option.{ForSome};
 ghost use Rattle.serde_json.specs.View.{view};
 ghost use Rattle.yp_schema.specs.Reading.{schema_of};
+ghost use Rattle.yp_command.specs.declared.fault.ScriptKind.TheVariants as kinds;
 ghost use Rattle.yp_script.specs.Readings.{Gives, IsFault, at_part};
 
 use crate::fault::ScriptFault;
 use serde_json::Value as Json;
 use std::alloc::Global;
 use yp_base::memory::NoMemory;
-use yp_command::fault::ScriptKind;
-use yp_schema::fault::SchemaFault;
+use yp_cause::lines::node_cause;
+use yp_command::fault::{Flaw, ScriptKind};
+use yp_schema::fault::{SchemaFault, SchemaKind};
 use yp_schema::schema::Schema;
+
+/// The fault of the node at a place of a part.
+fn node_flaw(alloc: Global, part: Option<&Json>, place: usize, kind: SchemaKind) -> Flaw
+    ensures { result ≡ kinds.Schema }
+{
+    Flaw {
+        kind: ScriptKind::Schema,
+        cause: node_cause(alloc, part, place, kind),
+    }
+}
 
 /// The parts of a schema so far, each with the number of its line, and what they compile to, where they
 /// were compiled since the last of them.
@@ -59,9 +71,9 @@ impl Parts {
     {
         match Schema::read(alloc, self.parts.as_slice()) {
             Ok(schema) => Ok(schema),
-            Err(SchemaFault::At { part, .. }) => Err(ScriptFault::At {
+            Err(SchemaFault::At { part, place, kind }) => Err(ScriptFault::At {
                 line: self.numbers[part],
-                kind: ScriptKind::Schema,
+                kind: node_flaw(alloc, self.parts.get(part), place, kind),
             }),
             Err(SchemaFault::Memory) => Err(ScriptFault::Memory),
         }

@@ -6,19 +6,19 @@ ghost use Rattle.yp_script.specs.Script.{complete_start};
 
 use crate::cursor::Line;
 use crate::fault::ScriptFault;
-use crate::form::{Form, line_form};
+use crate::form::{Form, line_form, no_form};
 use crate::gathered::{Gathered, empty_lanes, lanes_of, push_in};
 use crate::lane::lane_command;
 use crate::parts::Parts;
 use crate::receiver::read_receiver;
 use crate::script::Script;
-use crate::stage::{Stage, is_complete, next_stage};
+use crate::stage::{Stage, is_complete, misplaced, next_stage, unfinished};
 use crate::start::read_start;
 use serde_json::Value as Json;
 use std::alloc::Global;
 use yp_base::memory::NoMemory;
 use yp_command::command::{Request, read_command};
-use yp_command::fault::ScriptKind;
+use yp_command::fault::Flaw;
 use yp_command::halt::{Halt, beside};
 use yp_command::receivers::Receivers;
 use yp_command::words::{is_yes, whole};
@@ -85,10 +85,10 @@ impl Reader {
     }
 
     /// Takes the start.
-    fn take_start(&mut self, json: &Json) -> Result<(), Halt>
+    fn take_start(&mut self, alloc: Global, json: &Json) -> Result<(), Halt>
         ensures { Adds result self.old self.new (forms.Start (view json.now)) }
     {
-        self.start = Some(read_start(json)?);
+        self.start = Some(read_start(alloc, json)?);
         Ok(())
     }
 
@@ -147,7 +147,7 @@ impl Reader {
     fn take_lanes(&mut self, alloc: Global, json: &Json) -> Result<(), Halt>
         ensures { Adds result self.old self.new (forms.Lanes (view json.now)) }
     {
-        let count = whole(json, 1, MOST_LANES)?;
+        let count = whole(json, "lanes", 1, MOST_LANES)?;
         self.lanes = empty_lanes(alloc, count)?;
         Ok(())
     }
@@ -162,7 +162,7 @@ impl Reader {
         ensures { Adds result self.old self.new (forms.Lane (view number.now) (seen_request request.entry)) }
     {
         let command = self.read_asked(alloc, request);
-        let lane = whole(number, 1, self.lanes.len() as u64);
+        let lane = whole(number, "lane", 1, self.lanes.len() as u64);
         let laned = lane_command(lane, command)?;
         push_in(&mut self.lanes, laned)?;
         Ok(())
@@ -175,7 +175,7 @@ impl Reader {
         if is_yes(json) {
             Ok(())
         } else {
-            Err(Halt::Fault(ScriptKind::Member))
+            Err(Halt::Fault(Flaw::wrong("join", "is `true`")))
         }
     }
 
@@ -185,7 +185,7 @@ impl Reader {
         ensures { Takes result self.old self.new line (seen_form form.entry) }
     {
         match form {
-            Form::Start(json) => self.take_start(json),
+            Form::Start(json) => self.take_start(alloc, json),
             Form::Schema(json) => self.take_part(line, json),
             Form::Receiver(json) => self.take_receiver(alloc, json),
             Form::Command(request) => self.take_command(alloc, request),
@@ -205,34 +205,32 @@ impl Reader {
                 self.stage = stage;
                 Ok(())
             }
-            None => match self.take_values(alloc, line, form) {
-                Ok(()) => Err(Halt::Fault(ScriptKind::Order)),
-                Err(halt) => Err(beside(ScriptKind::Order, halt)),
-            },
+            None => {
+                let flaw = misplaced(self.stage, &form);
+                match self.take_values(alloc, line, form) {
+                    Ok(()) => Err(Halt::Fault(flaw)),
+                    Err(halt) => Err(beside(flaw, halt)),
+                }
+            }
         }
     }
 
     /// Takes the JSON of a line, where it is JSON.
-    fn take_json(
-        &mut self,
-        alloc: Global,
-        line: u32,
-        json: &Result<Json, ScriptKind>,
-    ) -> Result<(), Halt>
-        ensures { Goes result self.old self.new line (λ progress. line_taken progress (said_map view json.now)) }
+    fn take_json(&mut self, alloc: Global, line: u32, json: Result<Json, Flaw>) -> Result<(), Halt>
+        ensures { Goes result self.old self.new line (λ progress. line_taken progress (said_map view json)) }
     {
         match json {
-            Ok(json) => match line_form(json) {
+            Ok(json) => match line_form(&json) {
                 Some(form) => self.take_form(alloc, line, form),
-                None => Err(Halt::Fault(ScriptKind::UnknownCommand)),
+                None => Err(Halt::Fault(no_form(alloc, &json))),
             },
-            Err(kind) => Err(Halt::Fault(*kind)),
+            Err(flaw) => Err(Halt::Fault(flaw)),
         }
     }
 
-    /// The fault of a script that stops at a line for a fault of this kind: that of a part of the schema
+    /// The fault of a script that stops at a line for this fault: that of a part of the schema
     /// comes before it.
-    fn stop(&self, alloc: Global, line: u32, kind: ScriptKind) -> ScriptFault
+    fn stop(&self, alloc: Global, line: u32, kind: Flaw) -> ScriptFault
         ensures { IsFault result (progress_by self.now line (λ progress. Err kind)) }
     {
         match self.parts.read(alloc) {
@@ -242,12 +240,13 @@ impl Reader {
     }
 
     /// Takes the next line. Its fault is the first of the script, and the least of the line.
-    pub fn take(&mut self, alloc: Global, line: &Line) -> Result<(), ScriptFault>
-        ensures { Steps result self.old self.new line.now.number (λ progress. line_taken progress (seen_line line.now).json) }
+    pub fn take(&mut self, alloc: Global, line: Line) -> Result<(), ScriptFault>
+        ensures { Steps result self.old self.new line.number (λ progress. line_taken progress (seen_line line).json) }
     {
-        match self.take_json(alloc, line.number, &line.json) {
+        let Line { number, json } = line;
+        match self.take_json(alloc, number, json) {
             Ok(()) => Ok(()),
-            Err(Halt::Fault(kind)) => Err(self.stop(alloc, line.number, kind)),
+            Err(Halt::Fault(flaw)) => Err(self.stop(alloc, number, flaw)),
             Err(Halt::Memory) => Err(ScriptFault::Memory),
         }
     }
@@ -290,7 +289,7 @@ impl Reader {
             }),
             None => Err(ScriptFault::At {
                 line: end,
-                kind: ScriptKind::Order,
+                kind: unfinished(stage),
             }),
         }
     }

@@ -26,7 +26,7 @@ fn read_text(alloc: Global, text: &[u8]) -> Result<Script, ScriptFault>
     let mut lines = Lines::of_text(text);
     let mut reader = Reader::new(alloc);
     while let Some(line) = lines.next(alloc)? {
-        reader.take(alloc, &line)?;
+        reader.take(alloc, line)?;
     }
     reader.finish(alloc, lines.number + 1)
 }
@@ -34,9 +34,9 @@ fn read_text(alloc: Global, text: &[u8]) -> Result<Script, ScriptFault>
 /// Reads a script. Its lines are a start, schema lines, receivers, commands, and lanes with commands
 /// behind them where there are lanes. The fault is that of the first line that has one, by the lines
 /// before it; of its faults the least is told, but a line past the limits of lines and bytes has
-/// `Limit` before all others. Where the text ends too early, the line after the last has `Order`. The
-/// commands of a script that was read may run in a journal of its schema and receivers, and are 100,000
-/// at most.
+/// `Limit` before all others. The fault has its cause in words. Where the text ends too early, the line
+/// after the last has `Order`. The commands of a script that was read may run in a journal of its schema
+/// and receivers, and are 100,000 at most.
 pub fn read_script(alloc: Global, bytes: &[u8]) -> Result<Script, ScriptFault>
     ensures read { Gives result (script_in bytes.now) }
     ensures order { OnOk result (AreInOrder (lines_from 0 0 (pieces_of (take (byte_limit + 1) bytes.now)))) }

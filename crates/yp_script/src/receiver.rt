@@ -1,19 +1,26 @@
 //! Receiver lines.
 ghost use Rattle.std.specs.Prelude.{◌≡◌, ◌<◌, ◌≤◌, None, IfOk, OnOk, IfSome, length, option_map, codes};
 ghost use Rattle.serde_json.specs.View.{view};
+ghost use Rattle.yp_command.specs.declared.fault.ScriptKind.TheVariants.{Member};
 ghost use Rattle.yp_command.specs.Names.{receiver_number};
 ghost use Rattle.yp_command.specs.Readings.{Tells};
-ghost use Rattle.yp_command.specs.Words.{where_true, text_at};
+ghost use Rattle.yp_base.specs.Json.{member_of};
+ghost use Rattle.yp_command.specs.Words.{where_true, text_at, whole_there};
 ghost use Rattle.yp_script.specs.Values.{is_receiver_name, is_user_name, is_new_name, places_said, receiver_said};
 
 use serde_json::Value as Json;
 use std::alloc::Global;
 use yp_base::json::member;
-use yp_command::fault::ScriptKind;
+use yp_cause::cause::{Cause, Wrong};
+use yp_cause::excerpt::Excerpt;
+use yp_command::fault::Flaw;
 use yp_command::halt::{Halt, least};
 use yp_command::receivers::Receivers;
-use yp_command::words::{has_count, says, text_in, text_of, whole_there};
+use yp_command::words::{has_count, lacking_among, says, text_in, text_of, whole};
 use yp_journal::receiver::ReceiverInfo;
+
+/// The members of a receiver.
+const MEMBERS: [&str; 4] = ["name", "user", "queue", "take"];
 
 /// The most receivers of a script.
 const MOST_RECEIVERS: usize = 16;
@@ -31,6 +38,30 @@ fn is_name(text: &str) -> bool
         }
     }
     true
+}
+
+/// What is wrong with a receiver in which the member of this name isn't what it must be, as these words say.
+fn wrong_member(alloc: Global, json: &Json, name: &'static str, words: &'static str) -> Flaw
+    ensures { result ≡ Member }
+{
+    lacking_among(alloc, json, &MEMBERS, name, words)
+}
+
+/// What is wrong with the name of a receiver that isn't one's own.
+fn wrong_name(alloc: Global, json: &Json) -> Flaw
+    ensures { result ≡ Member }
+{
+    match text_in(json, "name") {
+        Some(text) if is_name(text) => {
+            Flaw::member(Cause::about(Wrong::ReceiverTwice, Excerpt::of(alloc, text)))
+        }
+        _ => wrong_member(
+            alloc,
+            json,
+            "name",
+            "is a text of 1 to 32 letters, digits, `_`, `-` and `.`",
+        ),
+    }
 }
 
 /// The member that is the name of a receiver that isn't declared yet.
@@ -66,19 +97,31 @@ fn user_name(json: &Json) -> Option<&str>
     }
 }
 
+/// How many packets a queue holds.
+fn read_queue(alloc: Global, json: &Json) -> Result<u64, Flaw>
+    ensures read { result ≡ whole_there 1 32 (member_of (codes "queue") (view json.now)) }
+    ensures most { IfOk result (λ places. places ≤ 32) }
+{
+    match member(json, "queue") {
+        Some(queue) => whole(queue, "queue", 1, 32),
+        None => Err(wrong_member(alloc, json, "queue", "is missing")),
+    }
+}
+
 /// How many packets the queue of one receiver more holds, where there is room for it.
-fn places_of(receivers: &Receivers, json: &Json) -> Result<u64, ScriptKind>
+fn places_of(alloc: Global, receivers: &Receivers, json: &Json) -> Result<u64, Flaw>
     ensures read { result ≡ places_said receivers.now (view json.now) }
     ensures most { IfOk result (λ places. places ≤ 32) }
     ensures room { OnOk result (length receivers.now < 16) }
 {
-    let places = whole_there(member(json, "queue"), 1, 32);
+    let places = read_queue(alloc, json);
     if receivers.len() < MOST_RECEIVERS {
         return places;
     }
+    let flaw = Flaw::too_many(MOST_RECEIVERS as u64, "receivers");
     match places {
-        Ok(_) => Err(ScriptKind::Limit),
-        Err(kind) => Err(least(ScriptKind::Limit, kind)),
+        Ok(_) => Err(flaw),
+        Err(other) => Err(least(flaw, other)),
     }
 }
 
@@ -94,11 +137,15 @@ pub fn read_receiver(
 {
     let auto = says(json, "take", "auto");
     if !has_count(json, 4) || !(auto || says(json, "take", "command")) {
-        return Err(Halt::Fault(ScriptKind::Member));
+        return Err(Halt::Fault(wrong_member(alloc, json, "take", "is `auto` or `command`")));
     }
-    let name = new_name(receivers, json).ok_or(ScriptKind::Member)?;
-    let user = user_name(json).ok_or(ScriptKind::Member)?;
-    let places = places_of(receivers, json)?;
+    let Some(name) = new_name(receivers, json) else {
+        return Err(Halt::Fault(wrong_name(alloc, json)));
+    };
+    let Some(user) = user_name(json) else {
+        return Err(Halt::Fault(wrong_member(alloc, json, "user", "is a text of 1 to 64 bytes")));
+    };
+    let places = places_of(alloc, receivers, json)?;
     Ok(ReceiverInfo {
         name: text_of(alloc, name)?,
         user: text_of(alloc, user)?,

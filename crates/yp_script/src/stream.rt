@@ -14,14 +14,14 @@ pub use crate::cursor::TextLine;
 use crate::cursor::{BYTE_LIMIT, LINE_LIMIT, Line, Lines};
 use crate::fault::ScriptFault;
 use crate::form::{Form, line_form};
-use crate::lines::{json_limited, json_within, read_json};
+use crate::lines::{json_limited, json_within, past_bytes, read_json};
 use crate::reader::Reader;
-use crate::stage::Stage;
+use crate::stage::{Stage, unfinished};
 use serde_json::Value as Json;
 use std::alloc::Global;
 use std::marker::Model;
 use yp_base::memory::NoMemory;
-use yp_command::fault::ScriptKind;
+use yp_command::fault::Flaw;
 use yp_schema::schema::Schema;
 
 /// The notification lines of a stream that are left. Contracts see the list of them.
@@ -68,19 +68,20 @@ fn is_part(json: &Json) -> bool
 }
 
 /// The JSON of a line with a script's limits, where the line is a part of the schema.
-fn read_part(alloc: Global, line: &TextLine) -> Result<Option<Result<Json, ScriptKind>>, NoMemory>
+fn read_part(alloc: Global, line: &TextLine) -> Result<Option<Result<Json, Flaw>>, NoMemory>
     ensures { IfOk result (λ part. option_map (said_map view) part ≡ part_said (seen_text line.now)) }
 {
     match line.text {
         Ok(text) => match read_json(alloc, text)? {
-            Some(json) => {
+            Ok(json) => {
                 if is_part(&json) {
-                    Ok(Some(json_limited(line.number <= LINE_LIMIT, text, json)))
+                    let within = line.number <= LINE_LIMIT;
+                    Ok(Some(json_limited(line.number, within, text, json)))
                 } else {
                     Ok(None)
                 }
             }
-            None => Ok(None),
+            Err(_) => Ok(None),
         },
         Err(_) => Ok(None),
     }
@@ -115,8 +116,8 @@ fn first_part(alloc: Global, lines: &mut Lines) -> Result<Line, ScriptFault>
     match lines.next_text() {
         Some(line) => {
             let json = match line.text {
-                Ok(text) => json_within(alloc, line.number <= LINE_LIMIT, text)?,
-                Err(kind) => Err(kind),
+                Ok(text) => { json_within(alloc, line.number, line.number <= LINE_LIMIT, text)? }
+                Err(kind) => Err(past_bytes(kind)),
             };
             Ok(Line {
                 number: line.number,
@@ -125,7 +126,7 @@ fn first_part(alloc: Global, lines: &mut Lines) -> Result<Line, ScriptFault>
         }
         None => Err(ScriptFault::At {
             line: lines.number + 1,
-            kind: ScriptKind::Order,
+            kind: unfinished(Stage::Started),
         }),
     }
 }
@@ -137,7 +138,7 @@ fn open(alloc: Global, lines: &mut Lines) -> Result<Reader, ScriptFault>
 {
     let line = first_part(alloc, lines)?;
     let mut reader = Reader::at_stage(alloc, Stage::Started);
-    reader.take(alloc, &line)?;
+    reader.take(alloc, line)?;
     Ok(reader)
 }
 
@@ -148,7 +149,7 @@ fn take_parts(alloc: Global, reader: &mut Reader, lines: &mut Lines) -> Result<(
     ensures fault { IfErr result (λ fault. IsFault fault (stream_by reader.old (texts_left lines.old))) }
 {
     while let Some(line) = next_part(alloc, lines)? {
-        reader.take(alloc, &line)?;
+        reader.take(alloc, line)?;
     }
     Ok(())
 }

@@ -1,6 +1,12 @@
-use Rattle.std.proofs.Common.{◌≡◌, Some, None, sym, ◌∙◌}
+use Rattle.std.proofs.Common.{◌≡◌, Some, None, Err, ap, subst, sym, ◌∙◌}
+use Rattle.yp_command.specs.declared.fault.ScriptKind.{ScriptKind}
+use Rattle.yp_command.specs.declared.fault.ScriptKind.TheVariants as kinds
+use Rattle.yp_command.specs.declared.halt.Halt.{Halt}
+use Rattle.yp_command.specs.Readings.{beside}
 use Rattle.yp_script.specs.Forms.{seen_form}
 use Rattle.yp_script.specs.Order.{next_stage}
+use Rattle.yp_script.specs.Readers.{Goes}
+use Rattle.yp_script.specs.Script.{form_taken}
 use Rattle.yp_script.proofs.StepLaws.{leads_seen, goes_on, goes_nowhere, halts_nowhere}
 use Rattle.yp_script.proofs.reader.Reader.take_form.Goals as goal
 
@@ -12,9 +18,11 @@ returns-in_ok-take_values-in-Some c =
 pub returns-in-Ok : goal.returns-in-Ok
 returns-in-Ok c =
     let leads : next_stage c.args.self.now.stage (seen_form c.args.form) ≡ None = leads_seen c.args.self.now.stage c.args.form ∙ sym c.next_stage.ensures ∙ c.in-None.is in
-    goes_nowhere c.args.self.now c.take_values-in-None.new.self c.args.line (seen_form c.args.form) leads c.in-Ok.ensures
+    rw c.misplaced-flaw.ensures (goes_nowhere c.args.self.now c.take_values-in-None.new.self c.args.line (seen_form c.args.form) leads c.in-Ok.ensures)
 
 pub returns-in-Err : goal.returns-in-Err
 returns-in-Err c =
     let leads : next_stage c.args.self.now.stage (seen_form c.args.form) ≡ None = leads_seen c.args.self.now.stage c.args.form ∙ sym c.next_stage.ensures ∙ c.in-None.is in
-    rw c.beside.ensures (halts_nowhere c.args.self.now c.take_values-in-None.new.self c.args.line (seen_form c.args.form) c.in-Err.halt leads c.in-Err.ensures)
+    let is : c.beside.result ≡ beside kinds.Order c.in-Err.halt = c.beside.ensures ∙ ap (λ (kind : ScriptKind). beside kind c.in-Err.halt) c.misplaced-flaw.ensures in
+    subst (λ (halt : Halt). Goes {U = Unit {0}} (Err halt) c.args.self.now c.take_values-in-None.new.self c.args.line (λ progress. form_taken progress (seen_form c.args.form))) (sym is)
+    (halts_nowhere c.args.self.now c.take_values-in-None.new.self c.args.line (seen_form c.args.form) c.in-Err.halt leads c.in-Err.ensures)

@@ -1,12 +1,21 @@
 //! What is wrong with a path, in words.
-use crate::members::member_text;
 use std::alloc::Global;
 use yp_base::memory::NoMemory;
 use yp_path::fault::{PathError, PathFault};
 use yp_schema::schema::{Kind, Schema};
 
+/// The name of a node of the schema, as a member of its parent.
+pub fn member_text(schema: &Schema, node: Option<u32>) -> Option<&str> {
+    let node = node?;
+    if node < schema.count() {
+        Some(schema.member_text(node))
+    } else {
+        None
+    }
+}
+
 /// What is wrong with a path: the segment, its fault, and the keys of its node where they are wrong.
-pub fn path_cause(alloc: Global, schema: &Schema, error: &PathError) -> Result<String, NoMemory> {
+pub fn path_text(alloc: Global, schema: &Schema, error: &PathError) -> Result<String, NoMemory> {
     let keys = match error.fault {
         PathFault::Memory => return Err(NoMemory),
         PathFault::Syntax | PathFault::UnknownNode => None,
