@@ -7,17 +7,17 @@ use case_frame::given::{self, part};
 use case_frame::shown::{self, Answer};
 use serde_json::Value as Json;
 use std::alloc::Global;
-use yp_base::json::{member, read_json, read_json_fits, written_json_is_read};
 use yp_base::leaf_type::LeafType;
 use yp_base::memory::Duplicate;
-use yp_base::payload::Payload;
 use yp_base::row::Value;
-use yp_base::text::{
+use yp_json_text::values::push_value;
+use yp_schema::schema::Schema;
+use yp_value::json::{member, read_json, read_json_fits, written_json_is_read};
+use yp_value::payload::Payload;
+use yp_value::text::{
     TextFault, fitting_value_is_writable, read_text, read_text_fits, write_text,
     written_text_is_read,
 };
-use yp_json_text::values::push_value;
-use yp_schema::schema::Schema;
 
 pub fn answer(alloc: Global, call: &str, arguments: &Json) -> Answer {
     Ok(Some(match call {

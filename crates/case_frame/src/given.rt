@@ -3,12 +3,12 @@ use crate::fault::{CaseFault, OrFault};
 use serde_json::Value as Json;
 use std::alloc::Global;
 use yp_base::atom::{Atom, Keys};
-use yp_base::json::member;
 use yp_base::notice::Kinds;
 use yp_base::path::{Path, Seg};
 use yp_base::row::{Row, Rows, Value};
 use yp_base::series::Series;
 use yp_base::txt::Txt;
+use yp_value::json::member;
 
 /// The argument of a name.
 pub fn part<'a>(arguments: &'a Json, name: &str) -> OrFault<&'a Json> {

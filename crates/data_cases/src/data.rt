@@ -11,7 +11,6 @@ use case_frame::shown::{self, Answer};
 use serde_json::Value as Json;
 use std::alloc::Global;
 use yp_base::path::Path;
-use yp_base::payload::Payload;
 use yp_base::row::Rows;
 use yp_data_json::at_path::{read_payload, read_rows};
 use yp_data_json::fault::{DataError, DataFault};
@@ -19,6 +18,7 @@ use yp_data_json::holding::{accepted_data_holds_its_rows, names_stand_once};
 use yp_data_json::writing::push_rows;
 use yp_path::target::read_target;
 use yp_schema::schema::Schema;
+use yp_value::payload::Payload;
 
 pub fn answer(alloc: Global, schema: &Schema, call: &str, arguments: &Json) -> Answer {
     Ok(Some(match call {

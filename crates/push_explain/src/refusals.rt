@@ -7,7 +7,6 @@ use crate::edits::refused_edit;
 use crate::lines::{Lines, json_of};
 use serde_json::Value as Json;
 use std::alloc::Global;
-use yp_base::json::member;
 use yp_base::memory::NoMemory;
 use yp_cause::paths::member_text;
 use yp_command::command::request_named;
@@ -22,6 +21,7 @@ use yp_script::fault::ScriptFault;
 use yp_script::reading::read_script;
 use yp_script::script::Script;
 use yp_terms::refused::Refused;
+use yp_value::json::member;
 
 /// The most lanes of a script.
 const MOST_LANES: usize = 64;

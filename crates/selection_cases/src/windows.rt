@@ -19,7 +19,6 @@ use serde_json::Value as Json;
 use std::alloc::Global;
 use std::marker::Brand;
 use std::sync::ledger::{Blank, Ledger};
-use yp_base::json::member;
 use yp_base::memory::{Duplicate, NoMemory};
 use yp_base::notice::{Changes, Kinds};
 use yp_base::path::Path;
@@ -38,6 +37,7 @@ use yp_touch::changes::record_of_step;
 use yp_touch::laws::roots_end_as_rows;
 use yp_touch::touched::Touched;
 use yp_tree::tree::Tree;
+use yp_value::json::member;
 
 /// What is asked of the datastore as it is, a tree that follows it, and the places that were touched.
 #[derive(Drop)]

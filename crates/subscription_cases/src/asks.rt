@@ -8,13 +8,13 @@ use case_frame::fault::{CaseFault, OrFault};
 use case_frame::given::{id, items, no_kinds, number, text};
 use serde_json::Value as Json;
 use std::alloc::Global;
-use yp_base::json::member;
 use yp_base::leaf_type::Names;
 use yp_base::notice::Trigger;
-use yp_base::payload::Payload;
 use yp_base::series::Series;
 use yp_base::txt::Txt;
 use yp_terms::ask::{Amend, Ask, FilterAsk};
+use yp_value::json::member;
+use yp_value::payload::Payload;
 
 // The last tick.
 const LAST_TICK: u64 = 1_000_000_000_000;

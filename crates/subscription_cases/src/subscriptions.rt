@@ -8,10 +8,10 @@ use case_frame::given::{id, number, part};
 use case_frame::shown::{Answer, quoted, truth};
 use serde_json::Value as Json;
 use std::alloc::Global;
-use yp_base::json::member;
 use yp_base::memory::Duplicate;
 use yp_registry::registry::Registry;
 use yp_terms::refused::Refused;
+use yp_value::json::member;
 
 // Receivers have numbers of 32 bits.
 const MOST_RECEIVERS: usize = 4_294_967_295;

@@ -1,7 +1,7 @@
 //! The line with which a case begins.
 use serde_json::Value as Json;
 use std::alloc::Global;
-use yp_base::json::member;
+use yp_value::json::member;
 
 /// A case isn't written as it has to be.
 #[derive(Debug, Drop, Clone, Copy, PartialEq, Eq, thiserror::Error)]

@@ -1,18 +1,19 @@
 -- What a look at a track changes, and what it leaves.
 use Rattle.std.proofs.Common.{◌≡◌, ℕ, refl, sym, ap, ◌∙◌, Bool, true, false, not, ◌&&◌, ◌||◌, List, [], ◌∷◌, map, Option, Some, None, arith}
 use Rattle.std.specs.Prelude.{if◌then◌else◌, ◌==◌, nat_lt, option_map}
-use Rattle.std.proofs.lemmas.Bool.{true≢false, and_parts, not-true}
-use Rattle.std.proofs.lemmas.Option.{none-some}
+use Rattle.std.proofs.lemmas.Bool.{true≢false, and_parts, not-true, and_right}
 use Rattle.yp_base.specs.declared.notice.Trigger.{Trigger}
 use Rattle.yp_base.specs.declared.notice.Trigger.TheVariants.{Periodic as Every, OnChange}
 use Rattle.yp_feed.specs.declared.item.Item.{Item}
 use Rattle.yp_feed.specs.declared.item.Item.TheVariants.{Changes}
-use Rattle.yp_feed.specs.Machine.{FeedState, resyncs, is_on_change, is_at, is_past, is_empty_record, owes, due_item, first_of, first_owed, offer_of, freezes, frozen, suspended}
+use Rattle.yp_feed.specs.Machine.{FeedState, resyncs, is_on_change, is_at, is_past, is_empty_record, owes, due_item, first_owed, offer_of, freezes, frozen}
+use Rattle.yp_feed.specs.MachineLaws.{nothing_owed}
 use Rattle.yp_attempt.specs.Content.{Content, IsLawful}
 use Rattle.yp_attempt.specs.Tracks.{Track, current, roots_in, record_in, edit_count, offered_item, freeze_tried, moving, rebased}
 use Rattle.yp_attempt.specs.Runs.{Found, found_in, first_offer}
 use Rattle.yp_attempt.specs.Workers.{ready, found_rebased}
-use Rattle.yp_attempt.specs.ListLaws.{by_bool, and_false}
+use Rattle.yp_attempt.specs.ListLaws.{by_bool}
+use Rattle.yp_attempt.specs.TrackLaws.{moving_idle}
 
 -- ---- the base moves
 
@@ -32,32 +33,13 @@ moving_flags blocked owing empty e =
     let b = and_parts (not owing) empty a.1 in
     (not-true owing b.0, b.1)
 
-is_zero : (n : ℕ) → (n == 0) ≡ true → n ≡ 0
-is_zero n e = grind (arith, e)
-
-empty_edits : (trigger : Trigger) (last : Option ℕ) (roots edits stamp : ℕ) → is_empty_record trigger last roots edits stamp ≡ true → edits ≡ 0
-empty_edits (Every period anchor) last roots edits stamp e = absurd (true≢false (sym e))
-empty_edits (OnChange dampening sync excluded) last roots edits stamp e =
-    let a = and_parts (is_past last dampening stamp) (nat_lt 0 roots && (edits == 0)) e in
-    is_zero edits (and_parts (nat_lt 0 roots) (edits == 0) a.1).1
-
-owes_first : (started modified incomplete suspended resumed sync terminated : Bool) (other : Option Item) → (started || (modified || (incomplete || (suspended || (resumed || (sync || terminated)))))) ≡ false → first_of started modified incomplete suspended resumed sync terminated other ≡ other
-owes_first true modified incomplete suspended resumed sync terminated other e = absurd (true≢false e)
-owes_first false true incomplete suspended resumed sync terminated other e = absurd (true≢false e)
-owes_first false false true suspended resumed sync terminated other e = absurd (true≢false e)
-owes_first false false false true resumed sync terminated other e = absurd (true≢false e)
-owes_first false false false false true sync terminated other e = absurd (true≢false e)
-owes_first false false false false false true terminated other e = absurd (true≢false e)
-owes_first false false false false false false true other e = absurd (true≢false e)
-owes_first false false false false false false false other e = refl
-
 none_lt : (n : ℕ) → n ≡ 0 → nat_lt 0 n ≡ false
 none_lt n e = grind (arith, e)
 
 -- no record is due where there is no root or no edit
 due_none : (trigger : Trigger) (last : Option ℕ) (due roots edits stamp : ℕ) → is_on_change trigger ≡ true → (nat_lt 0 roots && nat_lt 0 edits) ≡ false → due_item trigger last due roots edits stamp ≡ None
 due_none (Every period anchor) last due roots edits stamp on e = absurd (true≢false (sym on))
-due_none (OnChange dampening sync excluded) last due roots edits stamp on e = ap (λ (b : Bool). if b then Some Changes else None) (and_false (is_past last dampening stamp) (nat_lt 0 roots && nat_lt 0 edits) e)
+due_none (OnChange dampening sync excluded) last due roots edits stamp on e = ap (λ (b : Bool). if b then Some Changes else None) (and_right (is_past last dampening stamp) (nat_lt 0 roots && nat_lt 0 edits) e)
 
 empty_on : (trigger : Trigger) (last : Option ℕ) (roots edits stamp : ℕ) → is_empty_record trigger last roots edits stamp ≡ true → is_on_change trigger ≡ true
 empty_on (Every period anchor) last roots edits stamp e = absurd (true≢false (sym e))
@@ -70,16 +52,8 @@ if_none false x e = e
 nothing_due : (f : FeedState) (roots edits stamp : ℕ) → owes f.owed ≡ false → is_on_change f.trigger ≡ true → (nat_lt 0 roots && nat_lt 0 edits) ≡ false → offer_of f roots edits stamp ≡ None
 nothing_due f roots edits stamp none on e =
     if_none (is_at f.last_full stamp) (first_owed f.owed (due_item f.trigger f.last_record f.due roots edits stamp))
-    (owes_first f.owed.started f.owed.modified f.owed.incomplete f.owed.suspended f.owed.resumed f.owed.sync f.owed.terminated (due_item f.trigger f.last_record f.due roots edits stamp) none
+    (nothing_owed f.owed.started f.owed.modified f.owed.incomplete f.owed.suspended f.owed.resumed f.owed.sync f.owed.terminated (due_item f.trigger f.last_record f.due roots edits stamp) none
     ∙ due_none f.trigger f.last_record f.due roots edits stamp on e)
-
--- a track whose base moves offers nothing, before and after
-moving_idle : (c : Content) (stamp : ℕ) (t : Track) → moving c stamp t ≡ true → offered_item c stamp t ≡ None
-moving_idle c stamp t e =
-    let q = moving_flags (is_at t.feed.last_full stamp) (owes t.feed.owed) (is_empty_record t.feed.trigger t.feed.last_record (roots_in c t) (edit_count c t) stamp) e in
-    let on : is_on_change t.feed.trigger ≡ true = empty_on t.feed.trigger t.feed.last_record (roots_in c t) (edit_count c t) stamp q.1 in
-    let none : edit_count c t ≡ 0 = empty_edits t.feed.trigger t.feed.last_record (roots_in c t) (edit_count c t) stamp q.1 in
-    nothing_due t.feed (roots_in c t) (edit_count c t) stamp q.0 on (and_false (nat_lt 0 (roots_in c t)) (nat_lt 0 (edit_count c t)) (none_lt (edit_count c t) none))
 
 moved_idle : (c : Content) (lawful : IsLawful c) (n stamp : ℕ) (t : Track) → moving c stamp t ≡ true → offered_item c stamp (rebased c n stamp t) ≡ None
 moved_idle c lawful n stamp t e =
@@ -94,19 +68,15 @@ same_offer : (c : Content) (lawful : IsLawful c) (n stamp : ℕ) (t : Track) →
 same_offer c lawful n stamp t =
     by_bool (moving c stamp t) (λ e. moved_idle c lawful n stamp t e ∙ sym (moving_idle c stamp t e)) (λ e. ap (λ (k : Track). offered_item c stamp k) (unmoved c n stamp t e))
 
--- what offers stays as it is
-pub offering_stays : (c : Content) (n stamp : ℕ) (t : Track) (item : Item) → offered_item c stamp t ≡ Some item → rebased c n stamp t ≡ t
-offering_stays c n stamp t item e = by_bool (moving c stamp t) (λ q. absurd (none-some item (sym (moving_idle c stamp t q) ∙ e))) (λ q. unmoved c n stamp t q)
-
 empty_none : (trigger : Trigger) (last : Option ℕ) (roots edits stamp : ℕ) → roots ≡ 0 → is_empty_record trigger last roots edits stamp ≡ false
 empty_none (Every period anchor) last roots edits stamp e = refl
-empty_none (OnChange dampening sync excluded) last roots edits stamp e = and_false (is_past last dampening stamp) (nat_lt 0 roots && (edits == 0)) (ap (λ (b : Bool). b && (edits == 0)) (none_lt roots e))
+empty_none (OnChange dampening sync excluded) last roots edits stamp e = and_right (is_past last dampening stamp) (nat_lt 0 roots && (edits == 0)) (ap (λ (b : Bool). b && (edits == 0)) (none_lt roots e))
 
 still_there : (c : Content) (lawful : IsLawful c) (n stamp : ℕ) (t : Track) → moving c stamp t ≡ true → moving c stamp (rebased c n stamp t) ≡ false
 still_there c lawful n stamp t e =
     let new : Track = record t { feed = record t.feed { base = n }; first = current t; later = [] } in
     ap (λ (k : Track). moving c stamp k) (moved c n stamp t e)
-    ∙ and_false (not (is_at new.feed.last_full stamp)) _ (and_false (not (owes new.feed.owed)) _ (empty_none new.feed.trigger new.feed.last_record (roots_in c new) (edit_count c new) stamp (lawful.still (current t))))
+    ∙ and_right (not (is_at new.feed.last_full stamp)) _ (and_right (not (owes new.feed.owed)) _ (empty_none new.feed.trigger new.feed.last_record (roots_in c new) (edit_count c new) stamp (lawful.still (current t))))
 
 rebased_twice : (c : Content) (lawful : IsLawful c) (n stamp : ℕ) (t : Track) → rebased c n stamp (rebased c n stamp t) ≡ rebased c n stamp t
 rebased_twice c lawful n stamp t =
@@ -128,7 +98,7 @@ thawed_so : (c : Content) (n stamp : ℕ) (t : Track) → IsThawed c t → freez
 thawed_so c n stamp t e = ap (tried_as c n stamp t) e
 
 owed_thaws : (on tries roots : Bool) (rest : Bool) → (on && (tries && (roots && not (true || rest)))) ≡ false
-owed_thaws on tries roots rest = and_false on _ (and_false tries _ (and_false roots false refl))
+owed_thaws on tries roots rest = and_right on _ (and_right tries _ (and_right roots false refl))
 
 pub tried_thaws : (c : Content) (n stamp : ℕ) (t : Track) → IsThawed c (freeze_tried c n stamp t)
 tried_thaws c n stamp t = by (freezes t.feed (roots_in c t)) refl
@@ -138,7 +108,7 @@ tried_thaws c n stamp t = by (freezes t.feed (roots_in c t)) refl
     by false e = e
 
 few_roots : (on tries : Bool) (roots : ℕ) (rest : Bool) → roots ≡ 0 → (on && (tries && (nat_lt 256 roots && rest))) ≡ false
-few_roots on tries roots rest e = and_false on _ (and_false tries _ (ap (λ (b : Bool). b && rest) (few roots e)))
+few_roots on tries roots rest e = and_right on _ (and_right tries _ (ap (λ (b : Bool). b && rest) (few roots e)))
   where
     few : (n : ℕ) → n ≡ 0 → nat_lt 256 n ≡ false
     few n q = grind (arith, q)
@@ -150,7 +120,7 @@ rebased_thaws c lawful n stamp t thawed =
     (λ e. ap (λ (k : Track). freezes k.feed (roots_in c k)) (unmoved c n stamp t e) ∙ thawed)
 
 no_tries : (on rest : Bool) → (on && (nat_lt 0 0 && rest)) ≡ false
-no_tries on rest = and_false on (nat_lt 0 0 && rest) refl
+no_tries on rest = and_right on (nat_lt 0 0 && rest) refl
 
 pub untried_thaws : (c : Content) (t : Track) → t.feed.tries ≡ 0 → IsThawed c t
 untried_thaws c t e = ap (λ (n : ℕ). freezes (record t.feed { tries = n }) (roots_in c t)) e ∙ no_tries (is_on_change t.feed.trigger) (nat_lt 256 (roots_in c t) && not (t.feed.owed.incomplete || (t.feed.owed.suspended || (t.feed.owed.resumed || (t.feed.owed.sync || t.feed.owed.terminated)))))

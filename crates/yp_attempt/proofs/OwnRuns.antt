@@ -1,5 +1,5 @@
 -- One receiver's part of a run is its own run.
-use Rattle.std.proofs.Common.{◌≡◌, ℕ, ◌+◌, refl, sym, ap, subst, ◌∙◌, Bool, true, false, not, List, [], ◌∷◌, ◌++◌, map, Some, None, append-nil}
+use Rattle.std.proofs.Common.{◌≡◌, ℕ, ◌+◌, refl, sym, ap, subst, ◌∙◌, Bool, true, false, not, List, [], ◌∷◌, ◌++◌, map, Some, None}
 use Rattle.std.specs.Prelude.{if◌then◌else◌, ◌==◌, nat_lt}
 use Rattle.std.specs.List.{filter}
 use Rattle.std.proofs.lemmas.List.Elements.{filter-append}
@@ -11,6 +11,7 @@ use Rattle.yp_attempt.specs.Attempts.{own_tracks, of_receiver, answers_in, own_r
 use Rattle.yp_attempt.specs.ListLaws.{all_filter, filter_pass, filter_fail, filter_map_same, filter_swap}
 use Rattle.yp_attempt.proofs.Offers.{found_first_offer, idle_first, idle_all, all_idle}
 use Rattle.yp_attempt.specs.TrackLaws.{moment_same, answer_same}
+use Rattle.yp_attempt.specs.AttemptLaws.{own_more, other_more, answers_one_more}
 
 -- ---- one receiver's tracks
 
@@ -58,17 +59,6 @@ own_ended_other : (receiver : ℕ) (before : List Track) (track : Track) (after 
 own_ended_other receiver before track after true e = filter-append (is_of receiver) before after
 own_ended_other receiver before track after false e = own_put_other receiver before track after e
 
-own_attempt : (receiver : ℕ) (done : List Attempt) (a : Attempt) → (a.receiver == receiver) ≡ true → of_receiver receiver (done ++ a ∷ []) ≡ of_receiver receiver done ++ a ∷ []
-own_attempt receiver done a e = filter-append (λ (x : Attempt). x.receiver == receiver) done (a ∷ []) ∙ ap (λ (xs : List Attempt). of_receiver receiver done ++ xs) (filter_pass (λ (x : Attempt). x.receiver == receiver) a [] e)
-
-other_attempt : (receiver : ℕ) (done : List Attempt) (a : Attempt) → (a.receiver == receiver) ≡ false → of_receiver receiver (done ++ a ∷ []) ≡ of_receiver receiver done
-other_attempt receiver done a e =
-    filter-append (λ (x : Attempt). x.receiver == receiver) done (a ∷ []) ∙ (ap (λ (xs : List Attempt). of_receiver receiver done ++ xs) (filter_fail (λ (x : Attempt). x.receiver == receiver) a [] e) ∙ append-nil (of_receiver receiver done))
-
-pub answers_one_more : (done : List Attempt) (a : Attempt) → answers_in (done ++ a ∷ []) ≡ answers_in done ++ a.answer ∷ []
-answers_one_more [] a = refl
-answers_one_more (x ∷ done) a = ap (λ (xs : List Answer). x.answer ∷ xs) (answers_one_more done a)
-
 -- where another receiver's feed offers, nothing of this receiver's part changes
 settles_other : (c : Content) (receiver : ℕ) (past : List Moment) (run : Run) (found : Found) (answer : Answer) → IsFirst c run.standing.stamp run.standing.tracks found → is_of receiver found.track ≡ false
     → Reaches c (receiver ∷ []) past (answers_in (of_receiver receiver run.done)) (own_run receiver run)
@@ -77,7 +67,7 @@ settles_other c receiver past run found answer is no_one h =
     let n : ℕ = run.standing.position in
     let a : Attempt = attempt c n run.standing.stamp found.track found.item answer in
     let new : Track = after_answer c n run.standing.stamp found.track found.item answer in
-    let same : of_receiver receiver (run.done ++ a ∷ []) ≡ of_receiver receiver run.done = other_attempt receiver run.done a no_one in
+    let same : of_receiver receiver (run.done ++ a ∷ []) ≡ of_receiver receiver run.done = other_more receiver run.done a no_one in
     let tracks : own_tracks receiver (settled c run.standing found answer) ≡ own_tracks receiver run.standing.tracks =
     own_ended_other receiver found.before new found.after new.feed.ended (ap (λ (x : ℕ). x == receiver) (answer_same c n run.standing.stamp found.track found.item answer).1 ∙ no_one)
     ∙ (sym (own_put_other receiver found.before found.track found.after no_one) ∙ ap (own_tracks receiver) (sym is.parts)) in
@@ -96,7 +86,7 @@ settles_own c receiver past run found answer is own h =
     let offers : waits c (own_run receiver run) ≡ Some part =
     ap (λ (xs : List Track). first_offer c run.standing.stamp xs) (ap (own_tracks receiver) is.parts ∙ own_put receiver found.before found.track found.after own)
     ∙ idle_first c run.standing.stamp (own_tracks receiver found.before) found.track found.item (own_tracks receiver found.after) (all_filter (λ (t : Track). offered_item c run.standing.stamp t ≡ None) (is_of receiver) found.before is.idle) is.offers in
-    let same : of_receiver receiver (run.done ++ a ∷ []) ≡ of_receiver receiver run.done ++ a ∷ [] = own_attempt receiver run.done a own in
+    let same : of_receiver receiver (run.done ++ a ∷ []) ≡ of_receiver receiver run.done ++ a ∷ [] = own_more receiver run.done a own in
     let tracks : own_tracks receiver (settled c run.standing found answer) ≡ settled c (record run.standing { tracks = own_tracks receiver run.standing.tracks }) part answer =
     own_ended receiver found.before new found.after new.feed.ended (ap (λ (x : ℕ). x == receiver) (answer_same c n run.standing.stamp found.track found.item answer).1 ∙ own) in
     let next : Reaches c (receiver ∷ []) past (answers_in (of_receiver receiver run.done) ++ answer ∷ []) (run_settled c (own_run receiver run) part answer) =

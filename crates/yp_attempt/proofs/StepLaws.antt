@@ -17,7 +17,7 @@ use Rattle.yp_attempt.specs.Attempts.{Stop, until_offer, replay, attempts, answe
 use Rattle.yp_attempt.proofs.Replays.{answer_at}
 use Rattle.yp_attempt.specs.ListLaws.{all_map, filter_passes}
 use Rattle.yp_attempt.specs.TrackLaws.{moment_same}
-use Rattle.yp_attempt.proofs.OwnRuns.{answers_one_more}
+use Rattle.yp_attempt.specs.AttemptLaws.{answers_one_more}
 use Rattle.yp_attempt.proofs.OwnAttempts.{until_offer_done}
 
 -- ---- a full attempt

@@ -1,8 +1,7 @@
 -- A worker that stands for entries and answers goes on standing for them.
-use Rattle.std.proofs.Common.{◌≡◌, ℕ, ◌+◌, refl, sym, ap, subst, ◌∙◌, Bool, true, false, List, [], ◌∷◌, ◌++◌, map, Option, Some, None}
+use Rattle.std.proofs.Common.{◌≡◌, ℕ, ◌+◌, refl, sym, ap, subst, ◌∙◌, Bool, true, false, List, [], ◌∷◌, ◌++◌, map, Some, None}
 use Rattle.std.specs.Prelude.{if◌then◌else◌, option_map}
 use Rattle.std.specs.List.{AllByRecursion, filter}
-use Rattle.std.proofs.lemmas.Option.{same_Some, none-some}
 use Rattle.std.proofs.lemmas.List.{map-append}
 use Rattle.yp_base.specs.declared.notice.Trigger.{Trigger}
 use Rattle.yp_feed.specs.declared.item.Item.{Item}
@@ -13,8 +12,10 @@ use Rattle.yp_attempt.specs.Moments.{Moment, with_selection, after_act, after_ru
 use Rattle.yp_attempt.specs.Runs.{Standing, Found, first_offer, IsFirst, unless_ended, with_started, advanced, Run, first_run, waits, run_advanced, run_settled, Reaches, opened, advances, settles}
 use Rattle.yp_attempt.specs.Workers.{ready, all_ready, Stands, found_rebased, takes, answered_alone, puts}
 use Rattle.yp_attempt.specs.ListLaws.{all_append, all_before, all_rest, map_where, map_map_where}
+use Rattle.yp_attempt.specs.AttemptLaws.{none_found, some_found}
+use Rattle.yp_attempt.specs.TrackLaws.{offering_stays, alone_ready}
 use Rattle.yp_attempt.proofs.Offers.{found_first_offer}
-use Rattle.yp_attempt.proofs.Looks.{IsThawed, tried_thaws, untried_thaws, ready_thawed, ready_rebased, ready_twice, offering_stays, first_moved}
+use Rattle.yp_attempt.proofs.Looks.{IsThawed, tried_thaws, untried_thaws, ready_thawed, ready_rebased, ready_twice, first_moved}
 use Rattle.yp_attempt.proofs.Owners.{started_all, ended_all}
 
 -- ---- of no track of a run the record is still to be set aside
@@ -61,14 +62,6 @@ looked_twice c lawful n stamp (x ∷ xs) ys = λ i. ready_twice c lawful n stamp
 pub finds_offer : (c : Content) (lawful : IsLawful c) (receivers : List ℕ) (past : List Moment) (answers : List Answer) (standing : Standing) → (s : Stands c receivers past answers standing) → first_offer c standing.stamp (all_ready c standing) ≡ option_map (found_rebased c s.run.standing.position s.run.standing.stamp) (waits c s.run)
 finds_offer c lawful receivers past answers standing s = (λ i. first_offer c (s.stamp i) (s.tracks i)) ∙ first_moved c lawful s.run.standing.position s.run.standing.stamp s.run.standing.tracks
 
-none_found : (c : Content) (n stamp : ℕ) (o : Option Found) → option_map (found_rebased c n stamp) o ≡ None → o ≡ None
-none_found c n stamp None e = refl
-none_found c n stamp (Some found) e = absurd (none-some (found_rebased c n stamp found) (sym e))
-
-some_found : (c : Content) (n stamp : ℕ) (o : Option Found) (found : Found) → option_map (found_rebased c n stamp) o ≡ Some found → (other : Found) × (o ≡ Some other) × (found_rebased c n stamp other ≡ found)
-some_found c n stamp None found e = absurd (none-some found e)
-some_found c n stamp (Some other) found e = (other, refl, same_Some (found_rebased c n stamp other) found e)
-
 -- an entry, where nothing is found
 pub takes_entry : (c : Content) (lawful : IsLawful c) (receivers : List ℕ) (past : List Moment) (answers : List Answer) (standing : Standing) (m : Moment) → Stands c receivers past answers standing → first_offer c standing.stamp (all_ready c standing) ≡ None → MayFollow past m → Stands c receivers (past ++ m ∷ []) answers (takes c receivers m standing)
 takes_entry c lawful receivers past answers standing m s idle may =
@@ -92,10 +85,6 @@ ended_same c n stamp t = by (freezes t.feed (roots_in c t))
     by : (b : Bool) → (if b then frozen t.feed else t.feed).ended ≡ t.feed.ended
     by true = refl
     by false = refl
-
-alone_ready : (c : Content) (n stamp : ℕ) (t : Track) (item : Item) (answer : Answer) → ready c n stamp (answered_alone n stamp t item answer) ≡ rebased c n stamp (after_answer c n stamp t item answer)
-alone_ready c n stamp t item Took = ready_thawed c n stamp (after_answer c n stamp t item Took) (untried_thaws c (after_answer c n stamp t item Took) refl)
-alone_ready c n stamp t item Full = refl
 
 alone_ended : (c : Content) (n stamp : ℕ) (t : Track) (item : Item) (answer : Answer) → (answered_alone n stamp t item answer).feed.ended ≡ (after_answer c n stamp t item answer).feed.ended
 alone_ended c n stamp t item Took = refl

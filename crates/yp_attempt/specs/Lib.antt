@@ -8,3 +8,4 @@ pub mod Workers
 pub mod Examples
 pub mod ListLaws
 pub mod TrackLaws
+pub mod AttemptLaws

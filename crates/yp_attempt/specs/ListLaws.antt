@@ -1,7 +1,8 @@
 -- Lists whose elements all have a property, filters and choices.
-use Rattle.std.proofs.Common.{◌≡◌, refl, sym, ap, subst, ◌∙◌, Bool, true, false, ◌&&◌, List, [], ◌∷◌, ◌++◌, map}
+use Rattle.std.proofs.Common.{◌≡◌, refl, sym, ap, subst, ◌∙◌, Bool, true, false, List, [], ◌∷◌, ◌++◌, map, Option, Some, None}
 use Rattle.std.specs.Prelude.{if◌then◌else◌}
 use Rattle.std.specs.List.{AllByRecursion, filter}
+use Rattle.std.proofs.lemmas.Option.{none-some}
 
 pub all_append : {X : Type 0} (P : X → Type 0) (xs ys : List X) → AllByRecursion P xs → AllByRecursion P ys → AllByRecursion P (xs ++ ys)
 all_append P [] ys h k = k
@@ -75,10 +76,6 @@ pub by_bool : {P : Type 0} → (b : Bool) → (b ≡ true → P) → (b ≡ fals
 by_bool true f g = f refl
 by_bool false f g = g refl
 
-pub and_false : (a b : Bool) → b ≡ false → (a && b) ≡ false
-and_false true b e = e
-and_false false b e = refl
-
 cond_passes : {X : Type 0} (p : X → Bool) (b : Bool) (x : X) (ys zs : List X) → p x ≡ b → ys ≡ (if b then x ∷ zs else zs) → AllByRecursion (λ y. p y ≡ true) zs → AllByRecursion (λ y. p y ≡ true) ys
 cond_passes p true x ys zs q e h = subst (λ l. AllByRecursion (λ y. p y ≡ true) l) (sym e) (q, h)
 cond_passes p false x ys zs q e h = subst (λ l. AllByRecursion (λ y. p y ≡ true) l) (sym e) h
@@ -86,3 +83,8 @@ cond_passes p false x ys zs q e h = subst (λ l. AllByRecursion (λ y. p y ≡ t
 pub filter_passes : {X : Type 0} (p : X → Bool) (xs : List X) → AllByRecursion (λ x. p x ≡ true) (filter p xs)
 filter_passes p [] = tt
 filter_passes p (x ∷ xs) = cond_passes p (p x) x (filter p (x ∷ xs)) (filter p xs) refl refl (filter_passes p xs)
+
+-- what is chosen unless a test holds
+pub unblocked : {X : Type 0} → (b : Bool) (x : Option X) (y : X) → (if b then None else x) ≡ Some y → (b ≡ false) × (x ≡ Some y)
+unblocked true x y e = absurd (none-some y e)
+unblocked false x y e = (refl, e)

@@ -1,19 +1,19 @@
 -- What holds of paths, and of the texts and numbers in them.
-use Rattle.std.proofs.Common.{◌≡◌, ◌||◌, ℕ, List, [], ◌∷◌, ◌++◌, Bool, true, false, true≢false, Option, Some, None, refl, sym, ap, ◌∙◌}
+use Rattle.std.proofs.Common.{◌≡◌, ◌||◌, ◌&&◌, ℕ, List, [], ◌∷◌, ◌++◌, Bool, true, false, true≢false, Option, Some, None, refl, sym, ap, ◌∙◌}
 use Rattle.std.proofs.lemmas.Bool.{and_parts, and_from, eqb-true}
 use Rattle.std.proofs.lemmas.Cmp.{tied_itself}
 use Rattle.std.proofs.lemmas.Map.Views.{tells_apart}
 use Rattle.std.proofs.lemmas.Slice.Eq.{bytes_eq-Decides}
-use Rattle.std.specs.Cmp.Lexicographic.{nat_list_eq_equiv}
+use Rattle.std.specs.Cmp.Lexicographic.{slice_cmp, nat_list_eq_equiv, nat_list_cmp_total}
 use Rattle.std.specs.List.{AllByRecursion}
-use Rattle.std.specs.Ordering.{is_eq, is_gt, ordering_reverse, is_lt}
+use Rattle.std.specs.Ordering.{is_eq, is_gt, ordering_reverse, is_lt, nat_cmp}
 use Rattle.std.specs.declared.cmp.Ordering.{Ordering}
 use Rattle.std.specs.declared.cmp.Ordering.TheVariants.{Less, Equal, Greater}
 use Rattle.yp_base.specs.declared.path.Seg.{Seg}
 use Rattle.yp_base.specs.Order.{is_within, segment_cmp, path_cmp}
 use Rattle.yp_base.specs.OrderLaws.{segments_total, paths_total}
 use Rattle.yp_base.specs.Types.{same_text}
-use Rattle.yp_base.specs.Paths.{same_number}
+use Rattle.yp_base.specs.Paths.{same_number, is_covered}
 use Rattle.yp_base.specs.Exact.{segments_decide, paths_exact}
 use Rattle.yp_base.specs.Prefixes.{front_not_after, fronts_together}
 
@@ -118,3 +118,29 @@ pub or_turned : (a b c : Bool) → (a || (b || c)) ≡ (b || (a || c))
 or_turned true true c = refl
 or_turned true false c = refl
 or_turned false b c = refl
+
+-- of two paths that a third is at or below, one is at or below the other
+pub within_one : (one two path : List Seg) → is_within one path ≡ true → is_within two path ≡ true → is_within one two ≡ false → is_within two one ≡ true
+within_one [] two path first second apart = absurd (true≢false apart)
+within_one (a ∷ one) [] path first second apart = refl
+within_one (a ∷ one) (b ∷ two) [] first second apart = absurd (true≢false (sym first))
+within_one (a ∷ one) (b ∷ two) (c ∷ path) first second apart =
+    let upper = and_parts (is_eq (segment_cmp a c)) (is_within one path) first in
+    let lower = and_parts (is_eq (segment_cmp b c)) (is_within two path) second in
+    let same : a ≡ b = (segments_decide a c).0 upper.0 ∙ sym ((segments_decide b c).0 lower.0) in
+    let forth : is_eq (segment_cmp a b) ≡ true = (segments_decide a b).1 same in
+    let back : is_eq (segment_cmp b a) ≡ true = (segments_decide b a).1 (sym same) in
+    and_from (is_eq (segment_cmp b a)) (is_within two one) back (within_one one two path upper.1 lower.1 (rest (is_eq (segment_cmp a b)) (is_within one two) forth apart))
+  where
+    rest : (same within : Bool) → same ≡ true → (same && within) ≡ false → within ≡ false
+    rest true within is h = h
+    rest false within is h = absurd (true≢false (sym is))
+
+-- the order of texts turned round
+pub less_text_turned : (one two : List ℕ) → slice_cmp nat_cmp one two ≡ Less → slice_cmp nat_cmp two one ≡ Greater
+less_text_turned one two h = nat_list_cmp_total.antisymm two one ∙ ap ordering_reverse h
+
+-- what is at or below a covered path is covered
+pub covered_below : (above : Option (List Seg)) (path below : List Seg) → is_covered above path ≡ true → is_within path below ≡ true → is_covered above below ≡ true
+covered_below None path below covered within = absurd (true≢false (sym covered))
+covered_below (Some above) path below covered within = within_through above path below covered within

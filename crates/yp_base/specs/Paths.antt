@@ -34,3 +34,8 @@ same_number None None = true
 same_number None (Some y) = false
 same_number (Some x) None = false
 same_number (Some x) (Some y) = nat_eq x y
+
+-- whether a path is at or below another, where there is one
+abbrev pub is_covered : Option (List Seg) → List Seg → Bool
+is_covered None path = false
+is_covered (Some above) path = is_within above path

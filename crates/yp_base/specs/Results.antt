@@ -1,5 +1,6 @@
 -- Steps that may fail.
-use Rattle.std.specs.Prelude.{◌≡◌, false, Option, Some, None, is_some, Result, Ok, Err, refl}
+use Rattle.std.specs.Prelude.{◌≡◌, false, Option, Some, None, is_some, Result, Ok, Err, IfOk, refl}
+use mathlib.Core.Path.{◌∙◌}
 
 -- a step, and the next one with what it gave; the first fault stands
 infixl 10 ◌>>=◌
@@ -21,3 +22,8 @@ none_is (Some x) h = cc
 pub bind_same : {A B F : Type 0} (step : Result A F) (f g : A → Result B F) → ((x : A) → f x ≡ g x) → (step >>= f) ≡ (step >>= g)
 bind_same (Ok x) f g same = same x
 bind_same (Err e) f g same = refl
+
+-- what is answered is also what that is the same as
+pub same_answer : {X E : Type 0} (answer : Result X E) (x y : X) → x ≡ y → IfOk answer (λ is. is ≡ x) → IfOk answer (λ is. is ≡ y)
+same_answer (Ok is) x y same h = h ∙ same
+same_answer (Err e) x y same h = tt

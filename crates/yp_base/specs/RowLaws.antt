@@ -18,7 +18,7 @@ use Rattle.yp_base.specs.OrderLaws.{atoms_total, paths_total}
 use Rattle.yp_base.specs.Exact.{atoms_exact, paths_exact, order_decides}
 pub use Rattle.yp_base.specs.PathLaws.{greater_turned as below}
 use Rattle.yp_base.specs.PathLaws.{less_turned, greater_turned, are_one, IsBefore, before_all}
-use Rattle.yp_base.specs.Rows.{same_value, put_row, put_rows, value_at, path_of, rows_within, rows_without, AreInOrder}
+use Rattle.yp_base.specs.Rows.{same_value, put_row, put_rows, value_at, path_of, rows_within, rows_without, AreInOrder, last_of}
 use Rattle.yp_base.specs.declared.row.Value.{Value}
 use Rattle.yp_base.specs.declared.row.Value.TheVariants.{Atom as Plain, Member, Empty, Present}
 
@@ -273,3 +273,17 @@ value_at_without path upper (row ∷ rows) =
             | false ↦ λ e. value_at_without path upper rows
           ] refl
     ] refl
+
+-- all rows are at or below the top
+pub all_at_top : (rows : List Row) → AllByRecursion (λ (row : Row). is_within [] row.path ≡ true) rows
+all_at_top [] = tt
+all_at_top (row ∷ rows) = (refl, all_at_top rows)
+
+pub all_within : (rows : List Row) → rows_within [] rows ≡ rows
+all_within [] = refl
+all_within (row ∷ rows) = ap (λ (more : List Row). row ∷ more) (all_within rows)
+
+-- rows that come later are the last
+pub last_more : (first : List Row) (later : List (List Row)) (next : List Row) → last_of first (later ++ next ∷ []) ≡ next
+last_more first [] next = refl
+last_more first (one ∷ later) next = last_more one later next

@@ -1,28 +1,22 @@
-//! The values, paths, rows and notices that every crate of the publisher speaks of.
+//! The types, values, paths, rows and notices that every crate of the publisher speaks of.
 //!
-//! Contracts see each list type as the list of its items, a text as the list of its bytes, a JSON
-//! payload as its data, a counter of steps as a number, and all else as plain fields and variants.
+//! Contracts see each list type as the list of its items, a text as the list of its bytes, a counter of
+//! steps as a number, and all else as plain fields and variants.
 //! Paths are ordered segment by segment, a prefix first (`specs/Order.antt`).
 //! Lists, paths and texts are kept by one value, or shared with its copies: once it went through `share`,
 //! a copy takes no memory. What is made to be kept is shared where it is made: `Path::below` gives a
 //! shared path, and `Row::share` shares the path and the text of a row.
-//! Values and their texts follow RFC 7950 section 9 and RFC 7951 section 6; paths RFC 8040 section
-//! 3.5.3; notices RFC 8641 and RFC 8639.
+//! Types follow RFC 7950 section 9; paths RFC 8040 section 3.5.3; notices RFC 8641 and RFC 8639.
 #![tactic(auto)]
 
 pub mod atom;
 mod held;
-pub mod json;
 pub mod laws;
 pub mod leaf_type;
 pub mod memory;
-mod nesting;
 pub mod notice;
-mod number;
 pub mod path;
-pub mod payload;
 pub mod row;
 pub mod series;
 pub mod steps;
-pub mod text;
 pub mod txt;

@@ -1,5 +1,5 @@
 //! Paths: the way from the top of a datastore to a node, an entry or a leaf.
-ghost use Rattle.std.specs.Prelude.{◌≡◌, ◌↔◌, ◌++◌, ◌∷◌, [], IsTrue, IfOk, length, take};
+ghost use Rattle.std.specs.Prelude.{◌≡◌, ◌↔◌, ◌++◌, ◌∷◌, [], IsTrue, IfOk, length, option_copied, take};
 ghost use Rattle.std.specs.Cmp.Lexicographic.{pointwise, slice_partial_cmp, lists_agrees, lists_equiv, lists_ties, lists_po, lists_per};
 ghost use Rattle.std.specs.Ordering.{eq_by_cmp, as_partial_cmp};
 ghost use Rattle.std.specs.Cmp.{partial_equiv_from_equiv, partial_order_from_total};
@@ -7,6 +7,7 @@ ghost use Rattle.std.proofs.lemmas.Cmp.{eq_by_cmp_equiv};
 ghost use Rattle.std.proofs.Common.{refl};
 ghost use Rattle.yp_base.specs.Order.{IsPrefixOf, is_within, segment_cmp, path_cmp};
 ghost use Rattle.yp_base.specs.OrderLaws.{paths_total, segments_total};
+ghost use Rattle.yp_base.specs.Paths.{is_covered};
 
 use crate::atom::Keys;
 use crate::memory::{Duplicate, NoMemory};
@@ -215,6 +216,16 @@ pub fn is_prefix(above: &Path, path: &Path) -> bool
     ensures front { IsTrue result ↔ IsPrefixOf above.now path.now }
 {
     path.items().starts_with(above.items())
+}
+
+/// Whether a path is another or below it, where there is one.
+pub fn is_covered(above: Option<&Path>, path: &Path) -> bool
+    ensures { result ≡ is_covered (option_copied above.entry) path.now }
+{
+    match above {
+        Some(above) => is_prefix(above, path),
+        None => false,
+    }
 }
 
 /// The order of paths: segment by segment, by node number and then by keys, a prefix first.

@@ -5,11 +5,13 @@ ghost use Rattle.std.specs.Cmp.Lexicographic.{pointwise, slice_cmp, nat_list_eq_
 ghost use Rattle.std.specs.Cmp.{partial_equiv_from_equiv};
 ghost use Rattle.std.proofs.Common.{refl};
 ghost use Rattle.std.specs.String.{string_bytes};
+ghost use Rattle.yp_base.specs.Types.{are_distinct};
 
 use crate::held::Held;
 use crate::memory::{Duplicate, NoMemory};
 use std::alloc::Global;
 use std::cmp::Ordering;
+use std::collections::BTreeSet;
 use std::marker::Model;
 
 /// A text in UTF-8. Contracts see its bytes, and nothing of its spare room. Once it is shared, a copy of
@@ -54,6 +56,19 @@ impl Txt {
             text: text.share(alloc)?,
         })
     }
+}
+
+/// Whether no text stands twice.
+pub fn are_distinct(alloc: Global, texts: &[Txt]) -> Result<bool, NoMemory>
+    ensures { IfOk result (λ distinct. distinct ≡ are_distinct texts.now) }
+{
+    let mut seen = BTreeSet::new(alloc);
+    for text in texts {
+        if !seen.insert(text.as_str())? {
+            return Ok(false);
+        }
+    }
+    Ok(true)
 }
 
 impl Duplicate for Txt {

@@ -3,9 +3,9 @@ use crate::cause::{Cause, Wrong};
 use crate::excerpt::Excerpt;
 use serde_json::{Error, Map, Value as Json};
 use std::alloc::Global;
-use yp_base::json::member;
 use yp_base::memory::NoMemory;
 use yp_schema::fault::SchemaKind;
+use yp_value::json::member;
 
 /// The cause of an error of the JSON reader, in a text of one line.
 pub fn json_cause(alloc: Global, error: &Error) -> Cause {

@@ -3,9 +3,9 @@ use crate::cause::Cause;
 use crate::excerpt::Excerpt;
 use serde_json::Value as Json;
 use std::alloc::Global;
-use yp_base::json::member;
 use yp_base::memory::NoMemory;
 use yp_patch::fault::PatchError;
+use yp_value::json::member;
 
 /// The one member of the JSON of a patch.
 const PATCH: &str = "ietf-yang-patch:yang-patch";

@@ -4,11 +4,11 @@ use crate::excerpt::Excerpt;
 use crate::paths::path_text;
 use serde_json::Value as Json;
 use std::alloc::Global;
-use yp_base::json::member;
 use yp_base::memory::NoMemory;
 use yp_nacm_text::fault::{Place, PolicyKind};
 use yp_path::rule::read_rule_path;
 use yp_schema::schema::Schema;
+use yp_value::json::member;
 
 /// The cause of a fault of a policy of a schema, by its place and its kind.
 pub fn policy_cause(

@@ -12,7 +12,7 @@ use Rattle.yp_base.specs.declared.row.Row.{Row}
 use Rattle.yp_base.specs.Order.{path_cmp}
 use Rattle.yp_base.specs.Exact.{paths_exact}
 use Rattle.yp_base.specs.PathLaws.{are_one, less_turned, greater_turned, IsBefore, before_all}
-use Rattle.yp_base.specs.Rows.{value_at, put_row, rows_within, AreInOrder}
+use Rattle.yp_base.specs.Rows.{value_at, put_row, AreInOrder}
 use Rattle.yp_base.specs.RowLaws.{AllPast, all_past, none_past, put_first, put_keeps_order, put_last_row, first_order, rest_order, value_at_put}
 use Rattle.yp_tree.specs.Alike.{same_rows}
 use Rattle.yp_tree.specs.Listed.{without_row}
@@ -186,7 +186,3 @@ made_differ changes before after now order differ is =
 
 pub differ_sorted : (changes : List ChangedRow) (before after : List Row) → AreInOrder before → Differ changes before after → AreSorted changes
 differ_sorted changes before after order differ = subst AreSorted (sym differ.changed) (changed_sorted before after order)
-
-pub all_within : (rows : List Row) → rows_within [] rows ≡ rows
-all_within [] = refl
-all_within (row ∷ rows) = ap (λ (more : List Row). row ∷ more) (all_within rows)

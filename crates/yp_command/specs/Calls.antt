@@ -2,7 +2,7 @@
 use Rattle.std.specs.Prelude.{ℕ, ◌||◌, List, [], ◌∷◌, Bool, false, Option, Some, None, is_some, Ok, if◌then◌else◌, codes}
 use Rattle.serde_json.specs.Data.{Data, array}
 use Rattle.yp_base.specs.declared.notice.Trigger.{Trigger}
-use Rattle.yp_base.specs.Json.{member_of}
+use Rattle.yp_value.specs.Json.{member_of}
 use Rattle.yp_base.specs.Results.{or_fault}
 use Rattle.yp_base.specs.Types.{are_distinct}
 use Rattle.yp_schema.specs.Stated.{texts_in}

@@ -2,7 +2,7 @@
 use Rattle.std.specs.Prelude.{ℕ, List, Bool, false, not, Option, Some, None, option_and_then, codes}
 use Rattle.std.specs.List.{slice_get}
 use Rattle.serde_json.specs.Data.{Data}
-use Rattle.yp_base.specs.Json.{member_of}
+use Rattle.yp_value.specs.Json.{member_of}
 use Rattle.yp_base.specs.Results.{or_fault}
 use Rattle.yp_journal.specs.declared.command.Command.{Command}
 use Rattle.yp_journal.specs.declared.command.Command.TheVariants.{Take}

@@ -1,12 +1,9 @@
 -- Words for the JSON of a script's lines (RFC 8259), each with its fault.
 use Rattle.std.specs.Prelude.{ℕ, ◌==◌, ◌&&◌, List, Bool, false, Option, Some, None, option_and_then, Ok, Err, if◌then◌else◌, nat_le}
-use Rattle.std.specs.Borrow.{Bor}
 use Rattle.serde_json.specs.Data.{unsigned, negative, Data, boolean, number, object, Members, no_members, member}
 use Rattle.serde_json.specs.Find.{as_str}
 use Rattle.serde_json.specs.Events.{members_len}
-use Rattle.serde_json.specs.View.{view}
-use Rattle.serde_json.specs.declared.value.Value.{Value}
-use Rattle.yp_base.specs.Json.{member_of}
+use Rattle.yp_value.specs.Json.{member_of}
 use Rattle.yp_base.specs.Types.{same_text}
 use Rattle.yp_command.specs.declared.fault.ScriptKind.TheVariants.{Member, Limit}
 use Rattle.yp_command.specs.Faults.{Said}
@@ -25,10 +22,6 @@ first_member (member name value more) = Some (name, value)
 abbrev pub sole_member : Data → Option (List ℕ × Data)
 sole_member (object (member name value no_members)) = Some (name, value)
 sole_member other = None
-
--- a member that was found, as a contract sees it
-abbrev pub seen_member : Bor (List ℕ) × Bor Value → List ℕ × Data
-seen_member found = (found.0.now, view found.1.now)
 
 -- the text that a member of this name is
 abbrev pub text_at : List ℕ → Data → Option (List ℕ)

@@ -16,9 +16,7 @@ use crate::receivers::Receivers;
 use crate::words::{is_text, lacking, text_in, text_of, whole};
 use serde_json::{Map, Value as Json};
 use std::alloc::Global;
-use yp_base::json::member;
 use yp_base::notice::{Kinds, Trigger};
-use yp_base::payload::Payload;
 use yp_base::txt::Txt;
 use yp_cause::cause::{Cause, Wrong};
 use yp_cause::excerpt::Excerpt;
@@ -26,6 +24,8 @@ use yp_journal::command::Command;
 use yp_terms::ask::{Ask, FilterAsk};
 use yp_time::instant::anchor_ticks;
 use yp_time::start::Start;
+use yp_value::json::member;
+use yp_value::payload::Payload;
 
 /// The largest number of 32 bits.
 const MOST: u64 = 4_294_967_295;

@@ -3,7 +3,6 @@
 ghost use Rattle.std.specs.Prelude.{◌≡◌, IfOk, option_and_then, option_map};
 ghost use Rattle.std.specs.Option.{ForSome};
 ghost use Rattle.serde_json.specs.View.{items_view, view};
-ghost use Rattle.yp_base.specs.Types.{are_distinct};
 ghost use Rattle.yp_schema.specs.Stated.{texts_in};
 ghost use Rattle.yp_time.specs.Ticks.{IsAnchor};
 ghost use Rattle.yp_command.specs.declared.fault.ScriptKind.TheVariants.{Member};
@@ -21,16 +20,15 @@ use crate::receivers::Receivers;
 use crate::words::{lacking, text_of};
 use serde_json::Value as Json;
 use std::alloc::Global;
-use std::collections::BTreeSet;
-use yp_base::json::member;
 use yp_base::leaf_type::Names;
 use yp_base::memory::NoMemory;
 use yp_base::notice::Trigger;
 use yp_base::series::Series;
-use yp_base::txt::Txt;
+use yp_base::txt::{Txt, are_distinct};
 use yp_journal::command::Command;
 use yp_terms::ask::{Amend, FilterAsk};
 use yp_time::start::Start;
+use yp_value::json::member;
 
 /// What `receivers` is.
 const ARE_NAMES: &str = "is an array of names";
@@ -154,19 +152,6 @@ fn read_texts(alloc: Global, items: &Vec<Json>) -> Result<Option<Names>, NoMemor
         }
     }
     Ok(Some(Series::from_vec(texts)))
-}
-
-/// Whether no text stands twice.
-fn are_distinct(alloc: Global, texts: &[Txt]) -> Result<bool, NoMemory>
-    ensures { IfOk result (λ distinct. distinct ≡ are_distinct texts.now) }
-{
-    let mut seen = BTreeSet::new(alloc);
-    for text in texts {
-        if !seen.insert(text.as_str())? {
-            return Ok(false);
-        }
-    }
-    Ok(true)
 }
 
 /// Whether these are one text or more, and none stands twice.

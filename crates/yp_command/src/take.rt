@@ -14,11 +14,11 @@ use crate::receivers::Receivers;
 use crate::words::{has_count, lacking_among, text_in, whole};
 use serde_json::Value as Json;
 use std::alloc::Global;
-use yp_base::json::member;
 use yp_cause::cause::{Cause, Wrong};
 use yp_cause::excerpt::Excerpt;
 use yp_cause::lines::other_member;
 use yp_journal::command::Command;
+use yp_value::json::member;
 
 /// The members of a take.
 const MEMBERS: [&str; 2] = ["receiver", "count"];

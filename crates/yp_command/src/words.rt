@@ -4,16 +4,17 @@ ghost use Rattle.serde_json.specs.Find.{as_str};
 ghost use Rattle.serde_json.specs.View.{view, members_view};
 ghost use Rattle.serde_json.specs.Events.{members_len};
 ghost use Rattle.yp_command.specs.declared.fault.ScriptKind.TheVariants.{Member};
-ghost use Rattle.yp_command.specs.Words.{seen_member, first_member, sole_member, has_count, text_at, says, is_text, whole_said, is_yes};
+ghost use Rattle.yp_value.specs.Json.{seen_member};
+ghost use Rattle.yp_command.specs.Words.{first_member, sole_member, has_count, text_at, says, is_text, whole_said, is_yes};
 
 use crate::fault::Flaw;
 use serde_json::{Map, Value as Json};
 use std::alloc::Global;
-use yp_base::json::member;
 use yp_base::memory::NoMemory;
 use yp_base::txt::Txt;
 use yp_cause::cause::Cause;
 use yp_cause::lines::other_member;
+use yp_value::json::member;
 
 /// How many members an object has.
 fn count(members: &Map<String, Json>) -> usize

@@ -15,6 +15,7 @@ use Rattle.yp_attempt.specs.Runs.{Reaches, Standing, advanced, advances, first_o
 use Rattle.yp_attempt.specs.Tracks.{Answer}
 use Rattle.yp_moment.specs.Entries.{moment_of, moments_of}
 use Rattle.yp_moment.specs.Windows.{recorded}
+use Rattle.yp_moment.specs.MomentLaws.{moments_count}
 use Rattle.yp_worker.specs.declared.offering.Sent.{Sent}
 use Rattle.yp_worker.specs.Workers.{HasFound, IsIdle, IsIdleWorkerOf}
 use Rattle.yp_world.specs.World.{Absorb, Absorbed, Setup, World, receivers_of, step}
@@ -25,7 +26,7 @@ use Rattle.yp_core.specs.declared.seat.Seat.{Seat}
 use Rattle.yp_core.specs.declared.world.World.{World as Core}
 use Rattle.yp_core.specs.Worlds.{HasStepped, IsSeatOf, IsWorldAt, StandFor}
 use Rattle.yp_core.proofs.Elements.{split_at, stand_for_set}
-use Rattle.yp_core.proofs.Moments.{OneMore, moment_follows, moment_there, moments_length, one_entry_more}
+use Rattle.yp_core.proofs.Moments.{OneMore, moment_follows, moment_there, one_entry_more}
 use Rattle.yp_core.proofs.Steps.{Keeps, Unchanged, absorbs, absorbs_at_end, absorbs_none, absorbs_while_offering}
 use Rattle.yp_core.proofs.Worlds.{Idle, Offers, has_stepped, holds_next, no_worker, nothing_done, seat_idle, seat_sends, seat_waits, there_is_none}
 
@@ -79,7 +80,7 @@ module _ (nodes : List SchemaNode) (start : ℕ) (receivers : List ReceiverInfo)
     absorbed_at_end unchanged idle none past =
         let at = is.seats number seat there in
         let here : seat.position ≡ at.0.position = at.2.position in
-        let count : length (moments_of nodes receivers entries) ≡ length entries = moments_length nodes (first_state receivers) entries in
+        let count : length (moments_of nodes receivers entries) ≡ length entries = moments_count nodes (first_state receivers) entries in
         let all : length world.journal ≡ length (moments_of nodes receivers entries) = ap (λ (ms : List Moment). length ms) is.journal in
         let last : slice_get world.journal at.0.position ≡ None = slice_get_past world.journal at.0.position (omega (arith, past, here, count, all)) in
         nothing_done nodes start receivers workers entries world (events.Absorb number) unchanged core

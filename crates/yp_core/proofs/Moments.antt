@@ -1,5 +1,5 @@
 -- The moments of the first entries of a journal, and of the one that comes next.
-use Rattle.std.proofs.Common.{◌≡◌, ℕ, zero, suc, ◌+◌, refl, ap, subst, ◌∙◌, List, [], ◌∷◌, ◌++◌, length, take, Some, arith}
+use Rattle.std.proofs.Common.{◌≡◌, ℕ, zero, suc, ◌+◌, refl, ap, subst, ◌∙◌, List, [], ◌∷◌, ◌++◌, take, Some, arith}
 use Rattle.std.specs.List.{slice_get}
 use Rattle.std.proofs.lemmas.Option.{same_Some, none-some}
 use Rattle.yp_schema.specs.declared.schema.SchemaNode.{SchemaNode}
@@ -15,10 +15,6 @@ use Rattle.yp_core.proofs.Steps.{follows_there}
 abbrev pub OneMore : Type 0
 OneMore = (nodes : List SchemaNode) (receivers : List ReceiverInfo) (entries : List Entry) (entry : Entry)
     → moments_of nodes receivers (entries ++ entry ∷ []) ≡ moments_of nodes receivers entries ++ moment_of nodes (state_of nodes (first_state receivers) entries) entry ∷ []
-
-pub moments_length : (nodes : List SchemaNode) (state : JournalState) (entries : List Entry) → length (moments_from nodes state entries) ≡ length entries
-moments_length nodes state [] = refl
-moments_length nodes state (entry ∷ entries) = ap (λ (n : ℕ). suc n) (moments_length nodes (next_state nodes state entry.command) entries)
 
 -- the moment of an entry
 pub moment_there : (nodes : List SchemaNode) (state : JournalState) (entries : List Entry) (k : ℕ) (entry : Entry) → slice_get entries k ≡ Some entry

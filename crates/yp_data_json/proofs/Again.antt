@@ -15,10 +15,10 @@ use Rattle.yp_base.specs.declared.atom.Atom.{Atom}
 use Rattle.yp_base.specs.declared.atom.Atom.TheVariants.{Bool as Truth, Int, Uint, Dec, Text}
 use Rattle.yp_base.specs.declared.leaf_type.LeafType.{LeafType}
 use Rattle.yp_base.specs.Types.{is_type}
-use Rattle.yp_base.specs.Texts.{atom_text}
-use Rattle.yp_base.specs.Json.{value_data, has_string_numbers}
+use Rattle.yp_value.specs.Texts.{atom_text}
+use Rattle.yp_value.specs.Json.{value_data, has_string_numbers}
 use Rattle.yp_base.specs.Rows.{put_row, value_at, AreInOrder}
-use Rattle.yp_base.specs.JsonLaws.{json_again}
+use Rattle.yp_value.specs.JsonLaws.{json_again}
 use Rattle.yp_schema.specs.Nodes.{node_at, child_of, is_key}
 use Rattle.yp_schema.specs.WellFormed.{IsSchema}
 use Rattle.yp_schema.specs.Datastore.{atom_fits, keys_fit, typed_fits}
@@ -31,7 +31,7 @@ use Rattle.serde_json.proofs.Views.{get_member-put, get_member-put_other}
 use Rattle.yp_data_json.specs.declared.fault.DataFault.{DataFault}
 use Rattle.yp_data_json.specs.declared.fault.DataFault.TheVariants.{UnknownElement}
 use Rattle.yp_schema.specs.Values.{typed_value, typed_atom}
-use Rattle.yp_schema.specs.SchemaLaws.{type_is}
+use Rattle.yp_schema.specs.SchemaLaws.{type_is, plain_fits}
 use Rattle.yp_base.specs.Results.{◌>>=◌}
 use Rattle.yp_data_json.specs.Reading.{valid, key_in, at_key, with_key, keys_found, fault_alone, keys_in, below, row_at, leaf_read, entered, value_read, leaf_list_read, for_child, members_read, node_read, entries_read, entry_read}
 use Rattle.yp_data_json.specs.Forest.{Forest, bare, branch}
@@ -66,10 +66,6 @@ value_again_at (Some ty) v typed h = ap valid (json_again ty v (typed ty refl) h
 
 pub value_again : (nodes : List SchemaNode) → IsSchema nodes → (n : ℕ) (v : Value) → n < length nodes → typed_fits (node_at n nodes).ty v ≡ true → valid (typed_value (node_at n nodes).ty (leaf_data (node_at n nodes).ty (Some v))) ≡ Ok v
 value_again nodes schema n v within h = value_again_at (node_at n nodes).ty v (λ ty e. type_is nodes n ty schema within e) h
-
-plain_fits : (o : Option LeafType) (a : Atom) → atom_fits o a ≡ true → typed_fits o (Plain a) ≡ true
-plain_fits None a h = h
-plain_fits (Some ty) a h = h
 
 pub atom_again : (nodes : List SchemaNode) → IsSchema nodes → (n : ℕ) (a : Atom) → n < length nodes → atom_fits (node_at n nodes).ty a ≡ true → valid (typed_atom (node_at n nodes).ty (key_data (node_at n nodes).ty a)) ≡ Ok a
 atom_again nodes schema n a within h =

@@ -1,7 +1,7 @@
 -- Forests of a schema in which each entry and presence container has its row.
 use Rattle.std.proofs.Common.{◌≡◌, ℕ, ◌<◌, List, [], ◌∷◌, length, Bool, true, false, true≢false, Option, Some, None, refl, sym, ap, subst, ◌∙◌, ◌||◌, not, nat_eq}
 use Rattle.std.specs.List.{AllByRecursion}
-use Rattle.std.proofs.lemmas.Bool.{and_parts, eq-eqb, ltb-true}
+use Rattle.std.proofs.lemmas.Bool.{and_parts, eq-eqb, ltb-true, or_parts}
 use Rattle.yp_base.specs.declared.atom.Atom.{Atom}
 use Rattle.yp_base.specs.declared.path.Seg.{Seg}
 use Rattle.yp_base.specs.declared.row.Value.{Value}
@@ -62,22 +62,14 @@ not_true : (b : Bool) → not b ≡ true → b ≡ false
 not_true true h = absurd (true≢false (sym h))
 not_true false h = refl
 
-or_left : (a b : Bool) → (a || b) ≡ false → a ≡ false
-or_left true b h = h
-or_left false b h = refl
-
-or_right : (a b : Bool) → (a || b) ≡ false → b ≡ false
-or_right true b h = absurd (true≢false h)
-or_right false b h = h
-
 names_differ : (nodes : List SchemaNode) → IsSchema nodes → (n k : ℕ) (ks : List ℕ) → is_key_leaf n nodes k ≡ true → are_key_leaves n nodes ks ≡ true → is_in k ks ≡ false
     → AllByRecursion (λ j. (node_at j nodes).member ≡ (node_at k nodes).member → ⊥) ks
 names_differ nodes schema n k [] leaf all apart = tt
 names_differ nodes schema n k (j ∷ ks) leaf all apart =
     let front = (and_parts _ _ all).0 in
     let here = (and_parts _ _ front).0 in (
-      (λ same. true≢false (sym (eq-eqb k j (one_child nodes n j k (leaf_found nodes schema n j here) (leaf_found nodes schema n k leaf) same)) ∙ or_left (nat_eq k j) (is_in k ks) apart)),
-      names_differ nodes schema n k ks leaf (and_parts _ _ all).1 (or_right (nat_eq k j) (is_in k ks) apart),
+      (λ same. true≢false (sym (eq-eqb k j (one_child nodes n j k (leaf_found nodes schema n j here) (leaf_found nodes schema n k leaf) same)) ∙ (or_parts (nat_eq k j) (is_in k ks) apart).0)),
+      names_differ nodes schema n k ks leaf (and_parts _ _ all).1 (or_parts (nat_eq k j) (is_in k ks) apart).1,
     )
 
 keys_stand_at : (nodes : List SchemaNode) → IsSchema nodes → (n : ℕ) (ks : List ℕ) → are_key_leaves n nodes ks ≡ true → AllByRecursion (λ k. is_in k (node_at n nodes).keys ≡ true) ks → KeysStand nodes n ks

@@ -1,8 +1,7 @@
 -- Keys put among the members of an entry.
-use Rattle.std.proofs.Common.{◌≡◌, ◌≢◌, ℕ, zero, suc, ◌+◌, ◌-◌, ◌<◌, ◌≤◌, List, [], ◌∷◌, ◌++◌, length, drop, take, Bool, true, false, true≢false, Option, Some, None, refl, sym, ap, subst, ◌∙◌, arith, add-one, append-nil, append_assoc, Ordering, Less, Equal, Greater, nat_cmp, not, ◌&&◌}
+use Rattle.std.proofs.Common.{◌≡◌, ◌≢◌, ℕ, zero, suc, ◌+◌, ◌-◌, ◌<◌, ◌≤◌, List, [], ◌∷◌, ◌++◌, length, drop, take, Bool, true, false, true≢false, Option, Some, None, refl, sym, ap, subst, ◌∙◌, arith, add-one, append-nil, append_assoc, Ordering, Less, Equal, Greater, nat_cmp, not}
 use Rattle.std.specs.Prelude.{nat_eq}
 use Rattle.std.specs.Cmp.Lexicographic.{slice_cmp}
-use Rattle.std.specs.Ordering.{ordering_reverse}
 use Rattle.std.specs.List.{AllByRecursion}
 use Rattle.std.proofs.lemmas.Bool.{and_parts, eqb-true, eq-eqb, ltb-true, or_left, or_right, or_parts}
 use Rattle.std.proofs.lemmas.Cmp.{nat_list_cmp_total, alike_right}
@@ -11,6 +10,7 @@ use Rattle.yp_base.specs.declared.atom.Atom.{Atom}
 use Rattle.yp_base.specs.declared.path.Seg.{Seg}
 use Rattle.yp_base.specs.declared.row.Row.{Row}
 use Rattle.yp_base.specs.Paths.{same_number}
+use Rattle.yp_base.specs.PathLaws.{less_text_turned}
 use Rattle.yp_schema.specs.declared.schema.SchemaNode.{SchemaNode}
 use Rattle.yp_schema.specs.declared.schema.Kind.{Kind}
 use Rattle.yp_schema.specs.declared.schema.Kind.TheVariants.{Container, Presence, List as Listing, Leaf, LeafList}
@@ -23,6 +23,7 @@ use Rattle.yp_data_json.specs.declared.entry_keys.Key.{Key}
 use Rattle.yp_data_json.specs.Writing.{key_data, with_keys}
 use Rattle.yp_data_json.specs.Runs.{GoesOn, IsRest, HasSegment, StandsBefore}
 use Rattle.yp_data_json.specs.EntryKeys.{key_name, key_json, among, followed_by, IsKeyBelow, AreAscending, IsPlaceOf}
+use Rattle.yp_data_json.specs.RunLaws.{before_put}
 use Rattle.yp_data_json.proofs.Parts.{all_front, all_back, all_mapped}
 use Rattle.yp_data_json.proofs.Below.{rest_down}
 use Rattle.yp_data_json.proofs.Members.{put_first}
@@ -31,26 +32,23 @@ use Rattle.yp_data_json.proofs.Firsts.{name_less}
 
 -- ---- two names put
 
-reversed : (a b : List ℕ) → slice_cmp nat_cmp a b ≡ Less → slice_cmp nat_cmp b a ≡ Greater
-reversed a b less = nat_list_cmp_total.antisymm b a ∙ ap ordering_reverse less
-
 swap_at : (o p : Ordering) (a b c : List ℕ) (x y e : Data) (ms : Members) → slice_cmp nat_cmp b c ≡ o → slice_cmp nat_cmp a c ≡ p → slice_cmp nat_cmp a b ≡ Less → put a x (put b y ms) ≡ put b y (put a x ms)
     → put a x (put b y (member c e ms)) ≡ put b y (put a x (member c e ms))
 swap_at Less p a b c x y e ms is too less later =
     let first = nat_list_cmp_total.trans a b c less is in
-    let back = reversed a b less in
+    let back = less_text_turned a b less in
     rw (is, first, less, back, is) refl
 swap_at Equal p a b c x y e ms is too less later =
     let first : slice_cmp nat_cmp a c ≡ Less = sym (alike_right nat_list_cmp_total b c a is) ∙ less in
-    let back = reversed a b less in
+    let back = less_text_turned a b less in
     rw (is, first, back, is) refl
-swap_at Greater Less a b c x y e ms is too less later = let back = reversed a b less in rw (is, too, back, is) refl
+swap_at Greater Less a b c x y e ms is too less later = let back = less_text_turned a b less in rw (is, too, back, is) refl
 swap_at Greater Equal a b c x y e ms is too less later = rw (is, too, is) refl
 swap_at Greater Greater a b c x y e ms is too less later = rw (is, too, is) (ap (member c e) later)
 
 -- it makes no difference which of two names is put first
 put_swap : (a b : List ℕ) (x y : Data) (ms : Members) → slice_cmp nat_cmp a b ≡ Less → put a x (put b y ms) ≡ put b y (put a x ms)
-put_swap a b x y no_members less = let back = reversed a b less in rw (less, back) refl
+put_swap a b x y no_members less = let back = less_text_turned a b less in rw (less, back) refl
 put_swap a b x y (member c e ms) less = swap_at (slice_cmp nat_cmp b c) (slice_cmp nat_cmp a c) a b c x y e ms refl refl less (put_swap a b x y ms less)
 
 -- a key put among earlier ones and others
@@ -69,15 +67,6 @@ among_put nodes (key ∷ keys) name d ms after = ap (put (key_name nodes key) (k
   where
     put_after : (name first : List ℕ) (d e : Data) (ms : Members) → slice_cmp nat_cmp name first ≡ Greater → put name d (member first e ms) ≡ member first e (put name d ms)
     put_after name first d e ms h = rw h refl
-
-before_put_at : (o : Ordering) (name other first : List ℕ) (d e : Data) (ms : Members) → slice_cmp nat_cmp other first ≡ o → slice_cmp nat_cmp name other ≡ Less → slice_cmp nat_cmp name first ≡ Less → StandsBefore name (put other d (member first e ms))
-before_put_at Less name other first d e ms is one two = rw is one
-before_put_at Equal name other first d e ms is one two = rw is two
-before_put_at Greater name other first d e ms is one two = rw is two
-
-before_put : (name other : List ℕ) (d : Data) (ms : Members) → slice_cmp nat_cmp name other ≡ Less → StandsBefore name ms → StandsBefore name (put other d ms)
-before_put name other d no_members less before = less
-before_put name other d (member first e ms) less before = before_put_at (slice_cmp nat_cmp other first) name other first d e ms refl less before
 
 before_among : (nodes : List SchemaNode) (name : List ℕ) (keys : List Key) (ms : Members) → AllByRecursion (λ key. slice_cmp nat_cmp name (key_name nodes key) ≡ Less) keys → StandsBefore name ms → StandsBefore name (among nodes keys ms)
 before_among nodes name [] ms less before = before
@@ -140,7 +129,7 @@ keys_after nodes schema parent depth seg row (key ∷ keys) rest here within chi
     let other : key.leaf ≢ seg.node = key_apart nodes schema parent depth seg row key rest here are.0 in
     let lower = after.0 in
     let less : seg.node < key.leaf = omega arith in
-    (reversed (node_at seg.node nodes).member (key_name nodes key) (name_less nodes schema parent seg.node key.leaf less are.0.within child are.0.child), keys_after nodes schema parent depth seg row keys rest here within child are.1 after.1)
+    (less_text_turned (node_at seg.node nodes).member (key_name nodes key) (name_less nodes schema parent seg.node key.leaf less are.0.within child are.0.child), keys_after nodes schema parent depth seg row keys rest here within child are.1 after.1)
 
 -- the keys before a row's node, the node's member, and the other keys among the members after it
 pub among_member : (nodes : List SchemaNode) → IsSchema nodes → (parent : Option ℕ) (depth : ℕ) (seg : Seg) (row : Row) (keys front rest : List Key) (d : Data) (ms : Members) → keys ≡ front ++ rest → IsRest nodes parent depth row → HasSegment depth seg row

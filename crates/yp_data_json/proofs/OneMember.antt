@@ -11,7 +11,7 @@ use Rattle.yp_base.specs.declared.path.Seg.{Seg}
 use Rattle.yp_base.specs.declared.row.Row.{Row}
 use Rattle.yp_base.specs.declared.row.Value.{Value}
 use Rattle.yp_base.specs.declared.row.Value.TheVariants.{Atom as Plain, Present}
-use Rattle.yp_base.specs.Json.{value_in}
+use Rattle.yp_value.specs.Json.{value_in}
 use Rattle.yp_base.specs.Rows.{put_row}
 use Rattle.yp_schema.specs.declared.schema.SchemaNode.{SchemaNode}
 use Rattle.yp_schema.specs.declared.schema.Kind.TheVariants.{Leaf}
@@ -23,10 +23,9 @@ use Rattle.yp_schema.specs.Values.{typed_value}
 use Rattle.yp_base.specs.Results.{◌>>=◌}
 use Rattle.yp_data_json.specs.Reading.{valid, row_at, below, leaf_read, in_plain, in_array, in_object, entries_read, leaf_list_read, members_read, node_read}
 use Rattle.yp_data_json.specs.AtPath.{leaf_row, by_kind, array_of_one, named_entry, named_value, named_read, rows_read}
-use Rattle.yp_data_json.proofs.Steps.{empty_keys}
 use Rattle.yp_data_json.proofs.Again.{path_is}
 use Rattle.yp_data_json.proofs.Places.{rows_last}
-use Rattle.yp_schema.specs.SchemaLaws.{last_is_segment}
+use Rattle.yp_schema.specs.SchemaLaws.{last_is_segment, empty_keys}
 
 -- ---- names
 

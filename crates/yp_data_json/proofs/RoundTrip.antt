@@ -34,11 +34,11 @@ use Rattle.yp_data_json.proofs.Places.{rows_last}
 use Rattle.yp_data_json.proofs.Laying.{StandsUnder, forest_rows}
 use Rattle.yp_data_json.proofs.Fits.{keys_stand}
 use Rattle.yp_data_json.proofs.Again.{value_again, atom_again, keys_again, skip_keys, leaf_node, path_is, keys_path, read_again}
-use Rattle.yp_schema.specs.SchemaLaws.{row_ends, end_kind, node_after_append, leaf_ends, last_node_append}
+use Rattle.yp_schema.specs.SchemaLaws.{row_ends, end_kind, node_after_append, leaf_ends, last_node_append, present_is, empty_keys}
 use Rattle.yp_data_json.proofs.Below.{rest_down}
-use Rattle.yp_data_json.proofs.Steps.{own_row_adds, empty_keys}
+use Rattle.yp_data_json.proofs.Steps.{own_row_adds}
 use Rattle.yp_data_json.proofs.Under.{OwnFirst, under_or_own, none_under, own_value, entries_under, entries_rest}
-use Rattle.yp_data_json.proofs.Whole.{EntriesBelow, whole_fits, present_is, member_is, one_is}
+use Rattle.yp_data_json.proofs.Whole.{EntriesBelow, whole_fits, member_is, one_is}
 use Rattle.yp_data_json.proofs.Wholes.{snoc}
 
 abbrev Reading : Type 0

@@ -1,10 +1,10 @@
 -- What each call of the writer adds.
-use Rattle.std.proofs.Common.{◌≡◌, ℕ, ◌+◌, ◌<◌, ◌≤◌, List, [], ◌∷◌, ◌++◌, length, drop, map, Bool, true, false, true≢false, Option, Some, None, cond, refl, sym, ap, subst, ◌∙◌, arith, append_assoc, append-nil, not, ◌&&◌}
+use Rattle.std.proofs.Common.{◌≡◌, ℕ, ◌+◌, ◌<◌, ◌≤◌, List, [], ◌∷◌, ◌++◌, length, drop, map, Bool, true, false, true≢false, Option, Some, None, cond, refl, sym, ap, subst, ◌∙◌, arith, not, ◌&&◌}
 use Rattle.std.specs.Prelude.{nat_eq}
 use Rattle.std.specs.Ordering.{eq_by_cmp}
 use Rattle.yp_base.specs.Order.{segment_cmp}
 use Rattle.std.specs.List.{AllByRecursion}
-use Rattle.std.proofs.lemmas.Bool.{eq-eqb, eqb-true, and_parts, ltb-true}
+use Rattle.std.proofs.lemmas.Bool.{eqb-true, and_parts}
 use Rattle.yp_base.specs.declared.path.Seg.{Seg}
 use Rattle.yp_base.specs.declared.atom.Atom.{Atom}
 use Rattle.yp_base.specs.declared.row.Value.{Value}
@@ -12,17 +12,17 @@ use Rattle.yp_base.specs.declared.row.Row.{Row}
 use Rattle.yp_schema.specs.declared.schema.SchemaNode.{SchemaNode}
 use Rattle.yp_schema.specs.declared.schema.Kind.{Kind}
 use Rattle.yp_schema.specs.declared.schema.Kind.TheVariants.{Container, Presence, List as Listing, Leaf, LeafList}
-use Rattle.yp_schema.specs.Nodes.{node_at, is_in, may_hold}
-use Rattle.yp_schema.specs.WellFormed.{IsSchema, is_empty, is_key_leaf, are_key_leaves, has_none, kind_stands}
-use Rattle.yp_schema.specs.Datastore.{goes_down, is_segment, keys_of_kind, goes_to_row, value_of_kind, typed_fits}
-use Rattle.serde_json.specs.Data.{Data, array, object, Members, no_members, member, put}
+use Rattle.yp_schema.specs.Nodes.{node_at, may_hold}
+use Rattle.yp_schema.specs.WellFormed.{IsSchema, is_empty, are_key_leaves, has_none, kind_stands}
+use Rattle.yp_schema.specs.Datastore.{goes_down, is_segment, keys_of_kind}
+use Rattle.serde_json.specs.Data.{Data, array, object, Members, member}
 use Rattle.serde_json.specs.View.{items_of}
 use Rattle.yp_data_json.specs.Forest.{Forest, bare, branch, own_of, in_front, laid, laid_all, forest_at}
 use Rattle.yp_data_json.specs.Writing.{leaf_data, item_data, Entry, Gathered, no_nodes, single, entries, entry_in_front, branch_in_front, members_of, gathered, members_in}
-use Rattle.yp_data_json.specs.Runs.{GoesOn, IsRest, AreBelow, longest, begins_with, goes_through, AllGoThrough, HasSegment, StartsApart, StandsBefore, all_in_front, has_items, AreOneMember, AreEntries}
+use Rattle.yp_data_json.specs.Runs.{IsRest, AreBelow, longest, begins_with, goes_through, AllGoThrough, HasSegment, StartsApart, StandsBefore, all_in_front, has_items, AreOneMember, AreEntries}
 use Rattle.yp_data_json.proofs.Branches.{StartsElse, own_at, one_branch, laid_append, rows_start}
 use Rattle.yp_data_json.proofs.Members.{other_first, run_is, entries_append, starts_else}
-use Rattle.yp_schema.specs.SchemaLaws.{row_ends, end_kind, first_segment, leaf_ends}
+use Rattle.yp_schema.specs.SchemaLaws.{first_segment, leaf_ends, empty_keys}
 use Rattle.yp_data_json.proofs.Below.{rest_down, further, segment_of, deep_enough}
 
 -- ---- the most segments
@@ -70,10 +70,6 @@ pub some_rows : (rows : List Row) (row : Row) (more : List Row) → rows ≡ row
 some_rows rows row more is = let e : length rows ≡ length (row ∷ more) = ap length is in omega arith
 
 -- ---- containers and leaves
-
-pub empty_keys : (keys : List Atom) → is_empty keys ≡ true → keys ≡ []
-empty_keys [] h = refl
-empty_keys (key ∷ keys) h = absurd (true≢false (sym h))
 
 abbrev pub plain_segment : ℕ → Seg
 plain_segment n = record { node = n; keys = [] }

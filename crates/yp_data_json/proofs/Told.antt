@@ -1,5 +1,5 @@
 -- Texts that are appended part by part.
-use Rattle.std.proofs.Common.{◌≡◌, ℕ, List, [], ◌∷◌, ◌++◌, Bool, true, false, refl, sym, ap, ◌∙◌, append_assoc, append-nil, map}
+use Rattle.std.proofs.Common.{◌≡◌, ℕ, List, [], ◌∷◌, ◌++◌, Bool, true, false, sym, ap, ◌∙◌, append_assoc, append-nil, map}
 use Rattle.std.specs.Prelude.{codes, Result, OnOk}
 use Rattle.std.proofs.lemmas.Result.{on_ok_weaker}
 use Rattle.json.specs.Print.{quoted}
@@ -7,15 +7,12 @@ use Rattle.serde_json.specs.Data.{Data, array, object, Items, no_items, item, Me
 use Rattle.serde_json.specs.View.{items_of}
 use Rattle.serde_json.specs.Written.{compact_text, comma_if, items_text, members_text}
 use Rattle.yp_json_text.specs.Strings.{name_text}
+use Rattle.yp_json_text.specs.Parts.{both}
 use Rattle.yp_data_json.specs.Writing.{Entry}
 
 -- what follows where a call returns a value
 pub where_ok : {T E P Q : Type 0} (r : Result T E) → OnOk r P → (P → Q) → OnOk r Q
 where_ok r h f = on_ok_weaker r f h
-
--- one part behind another
-pub both : (old a b mid new : List ℕ) → mid ≡ old ++ a → new ≡ mid ++ b → new ≡ old ++ (a ++ b)
-both old a b mid new first second = second ∙ ap (λ x. x ++ b) first ∙ append_assoc old a b
 
 regroup : (old comma quote value rest : List ℕ) → old ++ (comma ++ (quote ++ 58 ∷ (value ++ rest))) ≡ ((old ++ (comma ++ (quote ++ 58 ∷ []))) ++ value) ++ rest
 regroup old comma quote value rest = simp append_assoc

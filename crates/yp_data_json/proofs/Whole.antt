@@ -20,7 +20,7 @@ use Rattle.yp_schema.specs.declared.schema.Kind.{Kind}
 use Rattle.yp_schema.specs.declared.schema.Kind.TheVariants.{Container, Presence, List as Listing, Leaf, LeafList}
 use Rattle.yp_schema.specs.Nodes.{node_at, child_of, is_key, is_in, may_hold}
 use Rattle.yp_schema.specs.WellFormed.{IsSchema, is_parent_of, is_empty, is_key_leaf, are_key_leaves, kind_stands}
-use Rattle.yp_schema.specs.Datastore.{atom_fits, keys_fit, one_fits, typed_fits, keys_of_kind, goes_down, goes_to_row, is_present, is_member, value_of_kind, is_entry_kind, last_kind_is, ends_in_entry, has_row}
+use Rattle.yp_schema.specs.Datastore.{atom_fits, keys_fit, one_fits, typed_fits, keys_of_kind, goes_down, goes_to_row, is_member, value_of_kind, is_entry_kind, last_kind_is, ends_in_entry, has_row}
 use Rattle.yp_data_json.specs.Forest.{Forest, bare, branch, own_of, in_front, laid, forest_at}
 use Rattle.std.proofs.Math.Seq.{drop-append_seam}
 use Rattle.yp_base.specs.Order.{is_within}
@@ -29,8 +29,7 @@ use Rattle.yp_base.specs.PathLaws.{less_turned, within_itself, within_longer, nu
 use Rattle.yp_data_json.proofs.Laying.{StandsUnder}
 use Rattle.yp_data_json.proofs.Parts.{less_middle}
 use Rattle.yp_data_json.proofs.AtPlace.{same_front}
-use Rattle.yp_schema.specs.SchemaLaws.{segment_within, row_goes_down, row_ends, end_kind, end_open, first_parent, first_segment, child_holds, last_node_append}
-use Rattle.yp_data_json.proofs.Steps.{empty_keys}
+use Rattle.yp_schema.specs.SchemaLaws.{segment_within, row_goes_down, row_ends, end_kind, end_open, first_parent, first_segment, child_holds, last_node_append, empty_keys, present_is}
 use Rattle.yp_data_json.proofs.Fits.{BranchFits, Fits}
 use Rattle.yp_base.specs.RowLaws.{still_some}
 
@@ -105,12 +104,6 @@ may_none nodes Presence node seg kids never h = absurd (never refl)
 may_none nodes Listing node seg kids never h = absurd (never refl)
 may_none nodes Leaf node seg kids never h = absurd (none_some h.0 h.1)
 may_none nodes LeafList node seg kids never h = absurd (none_some Member h.1)
-
-pub present_is : (v : Value) → is_present v ≡ true → v ≡ Present
-present_is (Plain a) h = absurd (true≢false (sym h))
-present_is Member h = absurd (true≢false (sym h))
-present_is Empty h = absurd (true≢false (sym h))
-present_is Present h = refl
 
 pub member_is : (v : Value) → is_member v ≡ true → v ≡ Member
 member_is (Plain a) h = absurd (true≢false (sym h))

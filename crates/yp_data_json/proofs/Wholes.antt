@@ -26,13 +26,12 @@ use Rattle.yp_base.specs.Results.{◌>>=◌}
 use Rattle.yp_data_json.specs.Reading.{valid, keys_in, below, row_at, leaf_read, entered, in_object, in_array, in_plain, members_read, node_read, entries_read, leaf_list_read, datastore_read}
 use Rattle.yp_data_json.specs.AtPath.{are_keys, named_entry, named_value, array_of_one, by_kind, named_read, outer_read, has_no_members, object_read, rows_read}
 use Rattle.yp_base.specs.PathLaws.{within_itself}
-use Rattle.yp_data_json.proofs.Steps.{empty_keys}
 use Rattle.yp_data_json.proofs.Places.{rows_last}
 use Rattle.yp_data_json.proofs.PutRows.{put_there}
 use Rattle.yp_data_json.proofs.Growing.{Stand, Grown, grown_still, grown_on}
 use Rattle.yp_data_json.proofs.Readings.{bound, ok_rows, given}
 use Rattle.yp_data_json.proofs.ReadStands.{Spot, Here, Under, spot_on, put_spot, under_spot, entered_grown, entered_there, members_grown, node_grown}
-use Rattle.yp_schema.specs.SchemaLaws.{last_node_append}
+use Rattle.yp_schema.specs.SchemaLaws.{last_node_append, empty_keys}
 
 -- a path isn't at or below a longer one
 pub too_short : (front rest : List Seg) (seg : Seg) → is_within ((front ++ rest) ++ seg ∷ []) front ≡ true → ⊥

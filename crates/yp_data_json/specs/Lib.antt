@@ -4,5 +4,6 @@ pub mod Forest
 pub mod Holding
 pub mod ReadLaws
 pub mod Reading
+pub mod RunLaws
 pub mod Runs
 pub mod Writing

@@ -6,7 +6,7 @@ use Rattle.yp_base.specs.declared.path.Seg.{Seg}
 use Rattle.yp_base.specs.declared.row.Value.{Value}
 use Rattle.yp_base.specs.declared.row.Value.TheVariants.{Atom as Plain}
 use Rattle.yp_base.specs.declared.row.Row.{Row}
-use Rattle.yp_base.specs.Json.{value_data}
+use Rattle.yp_value.specs.Json.{value_data}
 use Rattle.yp_base.specs.Paths.{last_segment}
 use Rattle.yp_base.specs.Rows.{value_at}
 use Rattle.yp_schema.specs.declared.schema.SchemaNode.{SchemaNode}

@@ -19,11 +19,11 @@ use std::alloc::Global;
 use yp_base::atom::Keys;
 use yp_base::memory::{Duplicate, NoMemory};
 use yp_base::path::{Path, Seg};
-use yp_base::payload::Payload;
 use yp_base::row::{Row, Rows, Value};
 use yp_base::series::Series;
 use yp_schema::schema::{Kind, Schema};
 use yp_tree::gathering::Gathering;
+use yp_value::payload::Payload;
 
 /// Puts the rows of the list entry that a path names.
 fn read_named_entry(

@@ -13,8 +13,8 @@ use yp_base::atom::{Atom, Keys};
 use yp_base::memory::NoMemory;
 use yp_base::row::Value;
 use yp_base::series::Series;
-use yp_base::text::TextFault;
 use yp_schema::schema::Schema;
+use yp_value::text::TextFault;
 
 /// The value that JSON is read as at a node, to be kept, or the fault that it is none.
 pub fn value_of(alloc: Global, schema: &Schema, node: u32, json: &Json) -> Result<Value, DataError>

@@ -1,59 +1,19 @@
 -- Texts that are told apart by those seen so far.
-use Rattle.std.proofs.Common.{◌≡◌, ℕ, ◌+◌, ◌<◌, List, [], ◌∷◌, ◌++◌, length, take, drop, get_or, refl, sym, ap, ◌∙◌, Bool, true, false, true≢false, not, ◌&&◌, ◌||◌, Bor}
+use Rattle.std.proofs.Common.{◌≡◌, ℕ, ◌+◌, ◌<◌, List, [], ◌∷◌, ◌++◌, length, take, drop, get_or, refl, sym, ap, ◌∙◌, Bool, true, false, ◌||◌, Bor}
 use Rattle.std.specs.List.{list_any}
 use Rattle.std.specs.Ordering.{is_eq, nat_cmp, match_ordering}
 use Rattle.std.specs.BTreeSet.{insert_key}
 use Rattle.std.specs.declared.cmp.Ordering.TheVariants.{Less, Equal, Greater}
 use Rattle.std.proofs.lemmas.Cmp.{alike_right}
 use Rattle.std.specs.Cmp.Lexicographic.{slice_cmp, texts_ties, nat_list_cmp_total}
-use Rattle.std.proofs.lemmas.Bool.{and_parts, and_from, or_parts}
-use Rattle.std.proofs.Math.Bool.{and-false, or_self_left}
+use Rattle.std.proofs.Math.Bool.{or_self_left}
 use Rattle.std.proofs.lemmas.List.{take_more, take-append-drop}
-use Rattle.yp_base.specs.Types.{same_text, is_among, are_distinct}
+use Rattle.yp_base.specs.Types.{is_among, are_distinct}
 use Rattle.yp_decode.specs.declared.edits.EditBody.{EditBody as FoundEdit}
 use Rattle.yp_decode.specs.Bodies.{ids_of}
 use Rattle.yp_decode.specs.Readings.{seen_edits}
 use Rattle.yp_base.specs.PathLaws.{or_turned, texts_turned}
-
-among_more : (text key : List ℕ) (texts : List (List ℕ)) → is_among text (texts ++ key ∷ []) ≡ (same_text key text || is_among text texts)
-among_more text key [] = ap (λ b. b || false) (texts_turned text key)
-among_more text key (other ∷ texts) = ap (λ b. same_text text other || b) (among_more text key texts) ∙ or_turned (same_text text other) (same_text key text) (is_among text texts)
-
--- one more text, which isn't among distinct ones
-distinct_more : (key : List ℕ) (texts : List (List ℕ)) → are_distinct texts ≡ true → is_among key texts ≡ false → are_distinct (texts ++ key ∷ []) ≡ true
-distinct_more key [] distinct fresh = refl
-distinct_more key (text ∷ texts) distinct fresh =
-    let parts = and_parts (not (is_among text texts)) (are_distinct texts) distinct in
-    let apart = or_parts (same_text key text) (is_among key texts) fresh in
-    and_from (not (is_among text (texts ++ key ∷ []))) (are_distinct (texts ++ key ∷ []))
-    (ap not (among_more text key texts ∙ ap (λ b. b || is_among text texts) apart.0) ∙ parts.0)
-    (distinct_more key texts parts.1 apart.1)
-
--- one that is among them
-not_distinct : (key : List ℕ) (texts : List (List ℕ)) → is_among key texts ≡ true → are_distinct (texts ++ key ∷ []) ≡ false
-not_distinct key [] among = absurd (true≢false (sym among))
-not_distinct key (text ∷ texts) among =
-    elim (same_text key text) as (λ b. same_text key text ≡ b → (b || is_among key texts) ≡ true → are_distinct (text ∷ (texts ++ key ∷ [])) ≡ false) [
-      | true ↦ λ same h. ap (λ b. not b && are_distinct (texts ++ key ∷ [])) (among_more text key texts ∙ ap (λ b. b || is_among text texts) same)
-      | false ↦ λ same h. ap (λ b. not (is_among text (texts ++ key ∷ [])) && b) (not_distinct key texts h) ∙ and-false (not (is_among text (texts ++ key ∷ [])))
-    ] refl among
-
-among_stays : (text : List ℕ) (texts more : List (List ℕ)) → is_among text texts ≡ true → is_among text (texts ++ more) ≡ true
-among_stays text [] more among = absurd (true≢false (sym among))
-among_stays text (other ∷ texts) more among =
-    elim (same_text text other) as (λ b. (b || is_among text texts) ≡ true → (b || is_among text (texts ++ more)) ≡ true) [
-      | true ↦ λ h. refl
-      | false ↦ λ h. among_stays text texts more h
-    ] among
-
--- with more texts they are distinct no more than before
-never_again : (texts more : List (List ℕ)) → are_distinct texts ≡ false → are_distinct (texts ++ more) ≡ false
-never_again [] more not = absurd (true≢false not)
-never_again (text ∷ texts) more isnt =
-    elim (is_among text texts) as (λ b. is_among text texts ≡ b → (not b && are_distinct texts) ≡ false → are_distinct (text ∷ (texts ++ more)) ≡ false) [
-      | true ↦ λ among h. ap (λ b. not b && are_distinct (texts ++ more)) (among_stays text texts more among)
-      | false ↦ λ among h. ap (λ b. not (is_among text (texts ++ more)) && b) (never_again texts more h) ∙ and-false (not (is_among text (texts ++ more)))
-    ] refl isnt
+use Rattle.yp_base.specs.DistinctLaws.{among_more, distinct_more, not_distinct, never_again}
 
 -- ---- edits that were found
 
@@ -91,15 +51,6 @@ edit_seen edits i edit text was is here at grown so_far =
     ∙ (λ j. sym (texts_turned edit.id.now text ∙ texts_ties text edit.id.now) j || so_far j)
     ∙ sym (among_more text edit.id.now (found_ids (take i edits)))
     ∙ ap (is_among text) (sym (ids_more edits i edit here at))
-
--- whether it is new tells whether it was seen
-pub told_new : (new seen among : Bool) → new ≡ not seen → seen ≡ among → new ≡ true → among ≡ false
-told_new new true among told is h = absurd (true≢false (sym h ∙ told))
-told_new new false among told is h = sym is
-
-pub told_old : (new seen among : Bool) → new ≡ not seen → seen ≡ among → new ≡ false → among ≡ true
-told_old new true among told is h = sym is
-told_old new false among told is h = absurd (true≢false (sym told ∙ h))
 
 -- its id wasn't seen
 pub still_distinct : (edits : List FoundEdit) (i : ℕ) (edit : FoundEdit) → i < length edits → edit ≡ get_or edits i edit → is_among edit.id.now (found_ids (take i edits)) ≡ false → are_distinct (found_ids (take i edits)) ≡ true → are_distinct (found_ids (take (i + 1) edits)) ≡ true

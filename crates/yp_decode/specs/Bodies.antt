@@ -4,8 +4,8 @@ use Rattle.std.specs.Prelude.{ℕ, ◌-◌, ◌^◌, ◌==◌, ◌&&◌, List, [
 use Rattle.serde_json.specs.Data.{Data, Items, no_items, item, Members}
 use Rattle.serde_json.specs.Events.{members_len}
 use Rattle.serde_json.specs.Find.{get_member, as_number, as_u64, as_object, as_array}
-use Rattle.yp_base.specs.Json.{text_member, is_null_array}
-use Rattle.yp_base.specs.Texts.{below, number_in}
+use Rattle.yp_value.specs.Json.{text_member, is_null_array}
+use Rattle.yp_value.specs.Texts.{below, number_in}
 use Rattle.yp_base.specs.Types.{same_text, are_distinct}
 use Rattle.yp_decode.specs.declared.edits.Operation.{Operation}
 use Rattle.yp_decode.specs.declared.edits.Operation.TheVariants.{Create, Delete, Replace}

@@ -1,20 +1,14 @@
 -- The envelope of a notification in JSON (RFC 8040 section 6.4): its event time, and the name and the body of what it tells.
-use Rattle.std.specs.Prelude.{ℕ, ◌==◌, List, Option, Some, None, is_some, option_map, option_and_then, length, if◌then◌else◌, codes}
-use Rattle.std.specs.Str.Lossy.{utf8_valid_len}
+use Rattle.std.specs.Prelude.{ℕ, ◌==◌, List, Option, Some, None, is_some, option_map, option_and_then, if◌then◌else◌, codes}
 use Rattle.serde_json.specs.Data.{Data, object, Members, no_members, member}
 use Rattle.serde_json.specs.Events.{members_len}
 use Rattle.serde_json.specs.Find.{get_member, as_object}
-use Rattle.serde_json.specs.Read.{read as read_text}
-use Rattle.yp_base.specs.Json.{text_member}
+use Rattle.yp_value.specs.Json.{text_member}
 use Rattle.yp_base.specs.Types.{same_text}
 use Rattle.yp_time.specs.Instants.{event_in}
 use Rattle.yp_decode.specs.declared.envelope.StateChange.TheVariants.{Started, Modified, Suspended, Resumed, Terminated}
 use Rattle.yp_decode.specs.declared.envelope.NoticeKind.{NoticeKind}
 use Rattle.yp_decode.specs.declared.envelope.NoticeKind.TheVariants.{Full, Changes, State}
-
--- the JSON value that a text is, if it is UTF-8 and one JSON text (RFC 8259)
-abbrev pub json_of : List ℕ → Option Data
-json_of text = if utf8_valid_len text == length text then read_text text else None
 
 -- ---- members
 

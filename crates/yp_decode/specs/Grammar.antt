@@ -26,7 +26,8 @@ use Rattle.yp_decode.specs.declared.fault.StreamFault.{StreamFault}
 use Rattle.yp_decode.specs.declared.fault.StreamFault.TheVariants.{NotJson, Envelope as NoEnvelope, UnknownNotice, Member, Target, Data as BadData}
 use Rattle.yp_decode.specs.declared.fault.TargetFault.TheVariants.{Path as BadPath, KeyLeaf}
 use Rattle.yp_decode.specs.declared.line.Heard.{Heard}
-use Rattle.yp_decode.specs.Envelope.{Envelope, json_of, envelope_in, kind_named}
+use Rattle.yp_value.specs.Json.{json_of}
+use Rattle.yp_decode.specs.Envelope.{Envelope, envelope_in, kind_named}
 use Rattle.yp_decode.specs.Bodies.{EditBody, full_in, changes_in, state_in}
 
 -- ---- targets

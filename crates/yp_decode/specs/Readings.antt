@@ -1,5 +1,5 @@
 -- What readers of a line answer: what the definition gives, but where memory ran out.
-use Rattle.std.specs.Prelude.{◌≡◌, ℕ, List, map, Result, Ok, Err}
+use Rattle.std.specs.Prelude.{◌≡◌, List, map, Result, Ok, Err}
 use Rattle.std.specs.Borrow.{Bor}
 use Rattle.serde_json.specs.Data.{Data}
 use Rattle.serde_json.specs.View.{view}
@@ -41,9 +41,6 @@ Shows seen (Ok x) heard = heard ≡ Ok (seen x)
 Shows seen (Err fault) heard = Fails fault heard
 
 -- ---- what was found in JSON, as a contract sees it
-
-abbrev pub seen_member : Bor (List ℕ) × Bor Value → List ℕ × Data
-seen_member found = (found.0.now, view found.1.now)
 
 abbrev pub seen_envelope : FoundEnvelope → Envelope
 seen_envelope envelope = record { time = envelope.time.now; name = envelope.name.now; body = view envelope.body.now }

@@ -13,9 +13,9 @@ use crate::members::{count, member_in, only_in, text_in};
 use serde_json::{Map, Value as Json};
 use std::alloc::Global;
 use yp_base::atom::Atom;
-use yp_base::json::read_json;
 use yp_base::leaf_type::LeafType;
-use yp_base::text::{TextFault, read_text};
+use yp_value::json::read_json;
+use yp_value::text::{TextFault, read_text};
 
 /// The body of a full update: the number of its subscription, and the data of the datastore.
 #[derive(Clone, Copy)]

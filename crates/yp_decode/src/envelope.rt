@@ -1,7 +1,8 @@
 //! The envelope of a notification (RFC 8040 section 6.4), and what it tells by its name.
 ghost use Rattle.std.specs.Prelude.{◌≡◌, IfOk, option_map};
 ghost use Rattle.serde_json.specs.View.{view, members_view};
-ghost use Rattle.yp_decode.specs.Envelope.{json_of, event_time_in, envelope_of, envelope_in, kind_named};
+ghost use Rattle.yp_value.specs.Json.{json_of};
+ghost use Rattle.yp_decode.specs.Envelope.{event_time_in, envelope_of, envelope_in, kind_named};
 ghost use Rattle.yp_decode.specs.Readings.{seen_envelope};
 
 use crate::members::{count, only_in, other_member, text_in};

@@ -3,9 +3,8 @@ ghost use Rattle.std.specs.Prelude.{◌≡◌, option_map};
 ghost use Rattle.serde_json.specs.Events.{members_len};
 ghost use Rattle.serde_json.specs.Find.{get_member};
 ghost use Rattle.serde_json.specs.View.{view, members_view};
-ghost use Rattle.yp_base.specs.Json.{text_member};
+ghost use Rattle.yp_value.specs.Json.{text_member, seen_member};
 ghost use Rattle.yp_decode.specs.Envelope.{only_in, other_member};
-ghost use Rattle.yp_decode.specs.Readings.{seen_member};
 
 use serde_json::{Map, Value as Json};
 

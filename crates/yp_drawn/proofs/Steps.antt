@@ -11,7 +11,8 @@ use Rattle.yp_base.specs.Cuts.{onto_first}
 use Rattle.yp_base.specs.Results.{◌>>=◌, or_fault}
 use Rattle.yp_command.specs.declared.fault.ScriptKind.TheVariants.{TooLong, NotJson}
 use Rattle.yp_command.specs.Faults.{Said}
-use Rattle.yp_script.specs.Lines.{pieces_of, without_feed, is_blank, json_of, line_limit, byte_limit, is_in_script, json_in, lines_from}
+use Rattle.yp_value.specs.Json.{json_of}
+use Rattle.yp_script.specs.Lines.{pieces_of, without_feed, is_blank, line_limit, byte_limit, is_in_script, json_in, lines_from}
 use Rattle.yp_script.specs.Script.{Progress, line_taken, at_line, script_from}
 use Rattle.yp_drawn.proofs.Texts.{is_printed, is_plain_json, json_onto, text_onto, json_is_printed, printed_is_utf8, written_is_read}
 

@@ -1,9 +1,9 @@
 -- A patch leaves a datastore a datastore.
-use Rattle.std.proofs.Common.{◌≡◌, ℕ, ◌+◌, List, [], ◌∷◌, ◌++◌, refl, sym, ap, subst, ◌∙◌, cond, Bool, true, false, true≢false, not, ◌&&◌, ◌||◌, Option, Some, None, inl, inr, ⊎_elim}
+use Rattle.std.proofs.Common.{◌≡◌, ℕ, ◌+◌, List, [], ◌∷◌, ◌++◌, refl, sym, ap, subst, ◌∙◌, cond, Bool, true, false, true≢false, not, ◌||◌, Option, Some, None, inl, inr, ⊎_elim}
 use Rattle.std.specs.Prelude.{◌⊎◌, is_some, Result, Ok, Err, IfOk, nat_lt, length}
 use Rattle.std.specs.List.{list_all, AllByRecursion}
 use Rattle.std.specs.Ordering.{eq_by_cmp}
-use Rattle.std.proofs.lemmas.Bool.{and_parts, and_from, or_cases}
+use Rattle.std.proofs.lemmas.Bool.{and_parts, and_from, or_cases, and_right}
 use Rattle.std.proofs.lemmas.List.Folds.{list_all-map}
 use Rattle.yp_base.specs.declared.path.Seg.{Seg}
 use Rattle.yp_base.specs.declared.row.Value.{Value}
@@ -32,7 +32,7 @@ use Rattle.yp_changes.specs.CommitLaws.{puts_stay}
 use Rattle.yp_edit.proofs.Drafts.{there_first, there_of_puts}
 use Rattle.yp_edit.proofs.Ends.{may_stand}
 use Rattle.yp_base.specs.PathLaws.{within_longer}
-use Rattle.yp_base.specs.TextLaws.{read_fits}
+use Rattle.yp_value.specs.TextLaws.{read_fits}
 use Rattle.yp_path.specs.TargetLaws.{path_of_text}
 use Rattle.yp_data_json.specs.ReadLaws.{ReadsWhole}
 
@@ -52,14 +52,10 @@ front_of (s ∷ at) (t ∷ front) rest h =
     (λ above. inr (above.0, above.1, (λ i. (segments_decide s t).0 parts.0 i ∷ above.2 i)))
     (front_of at front rest parts.1)
 
-and_false : (a b : Bool) → b ≡ false → (a && b) ≡ false
-and_false true b h = h
-and_false false b h = refl
-
 -- a path isn't at or below one that goes on from it
 not_below : (front : List Seg) (seg : Seg) (more : List Seg) → is_within (front ++ seg ∷ more) front ≡ false
 not_below [] seg more = refl
-not_below (s ∷ front) seg more = and_false (eq_by_cmp segment_cmp s s) (is_within (front ++ seg ∷ more) front) (not_below front seg more)
+not_below (s ∷ front) seg more = and_right (eq_by_cmp segment_cmp s s) (is_within (front ++ seg ∷ more) front) (not_below front seg more)
 
 -- where all paths above a path pass a test, one that stands above it does
 passes_above : (t : List Seg → Bool) (front : List Seg) (seg : Seg) (more : List Seg) → list_all t (paths_above (front ++ seg ∷ more)) ≡ true → t front ≡ true

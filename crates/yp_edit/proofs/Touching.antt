@@ -16,8 +16,9 @@ use Rattle.yp_base.specs.Rows.{path_of, value_at, put_row, next_row, has_within,
 use Rattle.yp_base.specs.RowLaws.{all_past as rows_past, none_past, first_order, rest_order, value_at_put, value_at_without, without_keeps_order}
 use Rattle.yp_tree.specs.Listed.{row_of, without_row}
 use Rattle.yp_edit.specs.Bases.{Touched, IsBase, IsSwept, KeepsValues, left, Touches, StaysGone, TouchesWithin}
-use Rattle.yp_changes.specs.Among.{is_listed, is_covered}
+use Rattle.yp_changes.specs.Among.{is_listed}
 use Rattle.yp_base.specs.PathLaws.{are_one, tie_turned, ties_itself, within_itself, within_not_after, IsBefore}
+use Rattle.yp_base.specs.Paths.{is_covered}
 use Rattle.yp_tree.specs.Alike.{same_rows}
 use Rattle.yp_edit.proofs.Taking.{one_taken, still_none}
 use Rattle.yp_edit.proofs.Walking.{before_picked}

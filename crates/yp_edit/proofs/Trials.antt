@@ -1,40 +1,17 @@
 -- Rows without those at or below a path that is gone.
-use Rattle.std.proofs.Common.{◌≡◌, ℕ, ◌≤◌, suc, List, [], ◌∷◌, length, refl, sym, ap, ◌∙◌, cond, Bool, true, false, true≢false, not, ◌&&◌, ◌||◌, Option, Some, None, arith, nat_lt}
+use Rattle.std.proofs.Common.{◌≡◌, ℕ, ◌≤◌, suc, List, [], ◌∷◌, length, refl, sym, ap, ◌∙◌, cond, Bool, true, false, true≢false, not, ◌||◌, Option, Some, None, arith, nat_lt}
 use Rattle.std.specs.Prelude.{is_some}
-use Rattle.std.specs.Ordering.{is_eq, eq_by_cmp}
-use Rattle.std.proofs.lemmas.Bool.{and_parts, and_from}
-use Rattle.std.proofs.lemmas.Cmp.{tied_itself}
-use Rattle.std.proofs.lemmas.Map.Views.{tells_apart}
 use Rattle.yp_base.specs.declared.path.Seg.{Seg}
 use Rattle.yp_base.specs.declared.row.Row.{Row}
-use Rattle.yp_base.specs.Order.{segment_cmp, is_within}
-use Rattle.yp_base.specs.OrderLaws.{segments_total}
+use Rattle.yp_base.specs.Order.{is_within}
 use Rattle.yp_base.specs.Rows.{value_at, put_row, put_rows, has_within, rows_without, AreInOrder}
-use Rattle.yp_base.specs.Exact.{segments_exact}
-use Rattle.yp_base.specs.PathLaws.{within_through}
+use Rattle.yp_base.specs.PathLaws.{within_through, within_one}
 use Rattle.yp_base.specs.RowLaws.{value_at_without, picked-puts}
-use Rattle.yp_changes.specs.Among.{is_covered}
+use Rattle.yp_base.specs.Paths.{is_covered}
 use Rattle.yp_edit.specs.Drafts.{covers, remaining}
 use Rattle.yp_edit.proofs.Taking.{all_left}
 
 -- ---- paths
-
-one_segment : (a b : Seg) → eq_by_cmp segment_cmp a b ≡ true → a ≡ b
-one_segment a b h = tells_apart segments_exact a b h
-
--- of two paths that a third is at or below one is at or below the other
-one_above : (a b c : List Seg) → is_within a c ≡ true → is_within b c ≡ true → is_within a b ≡ false → is_within b a ≡ true
-one_above [] b c h k not = absurd (true≢false not)
-one_above (x ∷ a) [] c h k not = refl
-one_above (x ∷ a) (y ∷ b) [] h k not = absurd (true≢false (sym h))
-one_above (x ∷ a) (y ∷ b) (z ∷ c) h k not =
-    let first = and_parts (eq_by_cmp segment_cmp x z) (is_within a c) h in
-    let second = and_parts (eq_by_cmp segment_cmp y z) (is_within b c) k in
-    let same : x ≡ y = one_segment x z first.0 ∙ sym (one_segment y z second.0) in
-    let tied : eq_by_cmp segment_cmp y y ≡ true = ap is_eq (tied_itself segments_total y) in
-    let here : eq_by_cmp segment_cmp x y ≡ true = ap (λ (s : Seg). eq_by_cmp segment_cmp s y) same ∙ tied in
-    let back : eq_by_cmp segment_cmp y x ≡ true = ap (λ (s : Seg). eq_by_cmp segment_cmp y s) same ∙ tied in
-    and_from (eq_by_cmp segment_cmp y x) (is_within b a) back (one_above a b c first.1 second.1 (sym (ap (λ t. t && is_within a b) here) ∙ not))
 
 -- what isn't at or below a path isn't at or below one below it
 not_below : (above target path : List Seg) → is_within above target ≡ true → is_within above path ≡ false → is_within target path ≡ false
@@ -73,7 +50,7 @@ none_between gone target (row ∷ rows) one other =
     outside : is_within gone row.path ≡ true → is_within target row.path ≡ false
     outside h =
         elim (is_within target row.path) as (λ b. is_within target row.path ≡ b → b ≡ false) [
-          | true ↦ λ k. absurd (true≢false (sym (one_above gone target row.path h k one) ∙ other))
+          | true ↦ λ k. absurd (true≢false (sym (within_one gone target row.path h k one) ∙ other))
           | false ↦ λ k. refl
         ] refl
 

@@ -2,7 +2,8 @@
 ghost use Rattle.std.specs.Prelude.{◌≡◌, ◌<◌, ◌^◌, [], Some, None, true, false, length, map, slice_get, is_some, option_map, option_copied, IfOk, OnOk, OnErr};
 ghost use Rattle.yp_base.specs.Rows.{path_of, value_at, next_row, has_within, rows_within, AreInOrder};
 ghost use Rattle.yp_tree.specs.Listed.{row_of};
-ghost use Rattle.yp_changes.specs.Among.{is_listed, is_covered};
+ghost use Rattle.yp_base.specs.Paths.{is_covered};
+ghost use Rattle.yp_changes.specs.Among.{is_listed};
 ghost use Rattle.yp_edit.specs.Bases.{untouched, Touches, Loses, TouchesWithin, StaysGone, AreTouched};
 
 use std::alloc::Global;

@@ -15,11 +15,11 @@ use std::alloc::Global;
 use std::sync::ledger::Ledger;
 use yp_base::memory::{Duplicate, NoMemory};
 use yp_base::path::{Path, Seg};
-use yp_base::payload::Payload;
 use yp_base::row::Rows;
 use yp_base::steps::Steps;
 use yp_patch::patch::{Edit, EditOp};
 use yp_schema::schema::{Kind, Schema};
+use yp_value::payload::Payload;
 
 /// The most rows that a datastore has.
 const MOST_ROWS: usize = 20000;

@@ -9,7 +9,6 @@ use crate::fault::Tag;
 use crate::halt::{Halt, Refusal, refused};
 use std::alloc::Global;
 use yp_base::path::Path;
-use yp_base::payload::Payload;
 use yp_base::row::Rows;
 use yp_base::txt::Txt;
 use yp_data_json::at_path::read_payload;
@@ -17,6 +16,7 @@ use yp_data_json::fault::DataFault;
 use yp_path::fault::PathFault;
 use yp_path::target::{read_target, write_target};
 use yp_schema::schema::Schema;
+use yp_value::payload::Payload;
 
 /// The node that a path ends in.
 pub fn end_of(path: &Path) -> Option<u32>

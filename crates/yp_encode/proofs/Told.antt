@@ -15,11 +15,8 @@ use Rattle.yp_data_json.specs.Writing.{rows_json}
 use Rattle.yp_time.specs.Instants.{event_text}
 use Rattle.yp_encode.specs.Lines.{operation_word, carries_value, value_member, edit_data, edits_from, mark, patch_data, id_member, reason_member, name_of, body_of, line_of}
 use Rattle.yp_encode.specs.Texts.{head_text, opening_text, full_text, changes_text}
+use Rattle.yp_json_text.specs.Parts.{both}
 use Rattle.yp_encode.proofs.Edits.{left_at}
-
--- one part behind another
-both : (old a b mid new : List ℕ) → mid ≡ old ++ a → new ≡ mid ++ b → new ≡ old ++ (a ++ b)
-both old a b mid new first second = second ∙ ap (λ x. x ++ b) first ∙ append_assoc old a b
 
 abbrev put_in : List ℕ → List ℕ → List ℕ
 put_in old x = old ++ x

@@ -1,7 +1,7 @@
 -- What follows of the machine of a feed.
 use Rattle.std.proofs.Common.{◌≡◌, ℕ, ◌<◌, ◌+◌, refl, sym, ap, ◌∙◌, Bool, true, false, true≢false, not, ◌&&◌, ◌||◌, Option, None, arith}
 use Rattle.std.specs.Prelude.{if◌then◌else◌, nat_lt, ◌↔◌, min}
-use Rattle.std.proofs.lemmas.Bool.{and_parts, ltb-true}
+use Rattle.std.proofs.lemmas.Bool.{and_parts, ltb-true, and_right, or_right}
 use Rattle.yp_feed.specs.declared.item.Item.{Item}
 use Rattle.yp_feed.specs.declared.item.Item.TheVariants.{Started, Modified, Incomplete, Suspended, Resumed, Sync, Terminated, Changes, Periodic}
 use Rattle.yp_feed.specs.Machine.{FeedState, is_on_change, is_at, due_item, first_of, freezes, moves, offer_of, owes, is_empty_record, refused, taken}
@@ -16,14 +16,6 @@ pub record IsUnread (f : FeedState) (stamp roots edits other_roots other_edits :
 abbrev pub SuspendsAtEight : FeedState → Item → ℕ → Type 0
 SuspendsAtEight f item stamp = ((refused f item stamp).suspended ≡ true) ↔ (min 8 (f.tries + 1) ≡ 8)
 
-or_true : (a b : Bool) → b ≡ true → (a || b) ≡ true
-or_true true b e = refl
-or_true false b e = e
-
-and_false : (a b : Bool) → b ≡ false → (a && b) ≡ false
-and_false true b e = e
-and_false false b e = refl
-
 owed_first : (a b i d r s t : Bool) (one two : Option Item) → (s || t) ≡ true → first_of a b i d r s t one ≡ first_of a b i d r s t two
 owed_first true b i d r s t one two e = refl
 owed_first false true i d r s t one two e = refl
@@ -37,13 +29,13 @@ owed_first false false false false false false false one two e = absurd (true≢
 not_frozen : (f : FeedState) (roots : ℕ) → (f.owed.sync || f.owed.terminated) ≡ true → freezes f roots ≡ false
 not_frozen f roots e =
     let owed : (f.owed.incomplete || (f.owed.suspended || (f.owed.resumed || (f.owed.sync || f.owed.terminated)))) ≡ true =
-    or_true f.owed.incomplete _ (or_true f.owed.suspended _ (or_true f.owed.resumed _ e)) in
-    and_false (is_on_change f.trigger) _ (and_false (nat_lt 0 f.tries) _ (and_false (nat_lt 256 roots) _ (ap not owed)))
+    or_right f.owed.incomplete _ (or_right f.owed.suspended _ (or_right f.owed.resumed _ e)) in
+    and_right (is_on_change f.trigger) _ (and_right (nat_lt 0 f.tries) _ (and_right (nat_lt 256 roots) _ (ap not owed)))
 
 not_moved : (f : FeedState) (roots edits stamp : ℕ) → (f.owed.sync || f.owed.terminated) ≡ true → moves f roots edits stamp ≡ false
 not_moved f roots edits stamp e =
-    let owed : owes f.owed ≡ true = or_true f.owed.started _ (or_true f.owed.modified _ (or_true f.owed.incomplete _ (or_true f.owed.suspended _ (or_true f.owed.resumed _ e)))) in
-    and_false (not (is_at f.last_full stamp)) _ (ap (λ (b : Bool). not b && is_empty_record f.trigger f.last_record roots edits stamp) owed)
+    let owed : owes f.owed ≡ true = or_right f.owed.started _ (or_right f.owed.modified _ (or_right f.owed.incomplete _ (or_right f.owed.suspended _ (or_right f.owed.resumed _ e)))) in
+    and_right (not (is_at f.last_full stamp)) _ (ap (λ (b : Bool). not b && is_empty_record f.trigger f.last_record roots edits stamp) owed)
 
 -- where all that is selected or the end is owed, the numbers are not read
 pub unread : (f : FeedState) (stamp roots edits other_roots other_edits : ℕ) → (f.owed.sync || f.owed.terminated) ≡ true → IsUnread f stamp roots edits other_roots other_edits
@@ -81,3 +73,15 @@ taken_again f item n stamp = (refl, λ e. by_item item f.suspended e)
     by_item Terminated b e = e
     by_item Changes b e = e
     by_item Periodic b e = e
+
+-- a feed that owes nothing offers what else there is
+pub nothing_owed : (started modified incomplete suspended resumed sync terminated : Bool) (other : Option Item) → (started || (modified || (incomplete || (suspended || (resumed || (sync || terminated)))))) ≡ false
+    → first_of started modified incomplete suspended resumed sync terminated other ≡ other
+nothing_owed true modified incomplete suspended resumed sync terminated other e = absurd (true≢false e)
+nothing_owed false true incomplete suspended resumed sync terminated other e = absurd (true≢false e)
+nothing_owed false false true suspended resumed sync terminated other e = absurd (true≢false e)
+nothing_owed false false false true resumed sync terminated other e = absurd (true≢false e)
+nothing_owed false false false false true sync terminated other e = absurd (true≢false e)
+nothing_owed false false false false false true terminated other e = absurd (true≢false e)
+nothing_owed false false false false false false true other e = absurd (true≢false e)
+nothing_owed false false false false false false false other e = refl

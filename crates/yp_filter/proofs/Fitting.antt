@@ -7,8 +7,8 @@ use Rattle.yp_base.specs.declared.atom.Atom.{Atom}
 use Rattle.yp_base.specs.declared.leaf_type.LeafType.{LeafType}
 use Rattle.yp_base.specs.declared.row.Value.{Value}
 use Rattle.yp_base.specs.declared.row.Value.TheVariants.{Atom as Plain, Member, Empty, Present}
-use Rattle.yp_base.specs.Json.{value_in, is_one_null}
-use Rattle.yp_base.specs.JsonLaws.{json_fits}
+use Rattle.yp_value.specs.Json.{value_in, is_one_null}
+use Rattle.yp_value.specs.JsonLaws.{json_fits}
 use Rattle.yp_base.specs.Paths.{same_number}
 use Rattle.yp_base.specs.Results.{◌>>=◌, or_fault}
 use Rattle.yp_schema.specs.declared.schema.SchemaNode.{SchemaNode}

@@ -4,7 +4,7 @@ use Rattle.serde_json.specs.Data.{Data, null, boolean, number, string, array, ob
 use Rattle.yp_base.specs.declared.leaf_type.LeafType.{LeafType}
 use Rattle.yp_base.specs.declared.atom.Atom.{Atom}
 use Rattle.yp_base.specs.declared.row.Value.TheVariants.{Atom as Plain}
-use Rattle.yp_base.specs.Json.{is_one_null}
+use Rattle.yp_value.specs.Json.{is_one_null}
 use Rattle.yp_base.specs.Results.{◌>>=◌, or_fault}
 use Rattle.yp_schema.specs.declared.schema.Kind.{Kind}
 use Rattle.yp_schema.specs.declared.schema.SchemaNode.{SchemaNode}

@@ -6,7 +6,7 @@ ghost use Rattle.yp_schema.specs.Nodes.{node_at};
 ghost use Rattle.yp_filter.specs.Filters.{compare};
 ghost use Rattle.yp_filter.specs.declared.fault.FilterFault.TheVariants.{Value as BadValue};
 ghost use Rattle.serde_json.specs.View.{view, items_view, members_view};
-ghost use Rattle.yp_base.specs.Json.{is_one_null};
+ghost use Rattle.yp_value.specs.Json.{is_one_null};
 ghost use Rattle.yp_filter.specs.Reading.{Gives, Adds, selection, containment, atom_asked, content_match, of_object, some_items, set_in, member_in, items_in, item_in, place_below};
 ghost use Rattle.yp_filter.specs.View.{node_view, nodes_of};
 
@@ -17,8 +17,8 @@ use serde_json::{Map, Value as Json};
 use std::alloc::Global;
 use yp_base::atom::Atom;
 use yp_base::row::Value;
-use yp_base::text::TextFault;
 use yp_schema::schema::{Kind, Schema};
+use yp_value::text::TextFault;
 
 /// The selection node of a name.
 #[tactic(auto, using(crate::specs::ViewLaws::node_select, crate::specs::ViewLaws::node_unknown))]

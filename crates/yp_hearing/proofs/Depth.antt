@@ -17,12 +17,12 @@ use Rattle.yp_base.specs.declared.path.Seg.{Seg}
 use Rattle.yp_base.specs.declared.row.Row.{Row}
 use Rattle.yp_base.specs.declared.row.Value.{Value}
 use Rattle.yp_base.specs.declared.row.Value.TheVariants.{Atom as Plain, Member, Empty, Present}
-use Rattle.yp_base.specs.Json.{has_string_numbers, atom_data, value_data}
+use Rattle.yp_value.specs.Json.{has_string_numbers, atom_data, value_data}
 use Rattle.yp_base.specs.Order.{segment_cmp}
 use Rattle.yp_base.specs.PathLaws.{numbers_same}
 use Rattle.yp_base.specs.Paths.{same_number, last_segment}
 use Rattle.yp_base.specs.Rows.{value_at}
-use Rattle.yp_base.specs.Texts.{atom_text}
+use Rattle.yp_value.specs.Texts.{atom_text}
 use Rattle.yp_schema.specs.declared.schema.SchemaNode.{SchemaNode}
 use Rattle.yp_schema.specs.declared.schema.Kind.{Kind}
 use Rattle.yp_schema.specs.declared.schema.Kind.TheVariants.{Container, Presence, List as Listing, Leaf, LeafList}

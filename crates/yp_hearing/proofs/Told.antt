@@ -36,7 +36,8 @@ use Rattle.yp_moment.specs.Entries.{moments_of, selected_by}
 use Rattle.yp_moment.specs.Followed.{CanBeFollowed}
 use Rattle.yp_moment.specs.Notices.{state_notice, notice_by}
 use Rattle.yp_moment.specs.Windows.{recorded}
-use Rattle.yp_promise.proofs.Bodies.{EntriesKeepDatastores, wanted}
+use Rattle.yp_moment.specs.MomentLaws.{wanted}
+use Rattle.yp_promise.proofs.Bodies.{EntriesKeepDatastores}
 use Rattle.yp_promise.proofs.Entering.{count_moments}
 use Rattle.yp_promise.proofs.Own.{AttemptsTell, own_attempt}
 use Rattle.yp_world.specs.TakenLaws.{all_there, all_taken, number_is, one_there}

@@ -1,14 +1,11 @@
 -- Texts that are appended part by part.
-use Rattle.std.proofs.Common.{◌≡◌, ℕ, List, ◌++◌, true, sym, ap, ◌∙◌, append_assoc}
+use Rattle.std.proofs.Common.{◌≡◌, ℕ, List, ◌++◌, true, sym, ap, ◌∙◌}
 use Rattle.std.specs.Prelude.{codes}
 use Rattle.std.specs.List.{list_all}
 use Rattle.json.specs.Print.{quoted}
 use Rattle.yp_json_text.specs.Strings.{stands_for_itself}
+use Rattle.yp_json_text.specs.Parts.{both}
 use Rattle.yp_json_text.proofs.Plain.{quoted_plain}
-
--- one part behind another
-both : (old a b mid new : List ℕ) → mid ≡ old ++ a → new ≡ mid ++ b → new ≡ old ++ (a ++ b)
-both old a b mid new first second = second ∙ ap (λ x. x ++ b) first ∙ append_assoc old a b
 
 pub plain_told : (value bytes old s1 s2 new : List ℕ) → list_all stands_for_itself bytes ≡ true → bytes ≡ value → s1 ≡ old ++ codes "\"" → s2 ≡ s1 ++ value → new ≡ s2 ++ codes "\"" → new ≡ old ++ quoted value
 plain_told value bytes old s1 s2 new plain is first second third =

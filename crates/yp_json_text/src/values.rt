@@ -1,7 +1,7 @@
 //! Values of a schema's types (RFC 7951 section 6).
 ghost use Rattle.std.specs.Prelude.{◌≡◌, ◌++◌, OnOk, string_bytes};
 ghost use Rattle.serde_json.specs.Written.{compact_text};
-ghost use Rattle.yp_base.specs.Json.{has_string_numbers as numbers_are_strings, atom_data, value_data};
+ghost use Rattle.yp_value.specs.Json.{has_string_numbers as numbers_are_strings, atom_data, value_data};
 
 use crate::strings::push_string;
 use std::alloc::Global;
@@ -9,7 +9,7 @@ use yp_base::atom::Atom;
 use yp_base::leaf_type::LeafType;
 use yp_base::memory::NoMemory;
 use yp_base::row::Value;
-use yp_base::text::write_text;
+use yp_value::text::write_text;
 
 /// Whether numbers of the type are written as strings.
 fn has_string_numbers(ty: &LeafType) -> bool

@@ -9,11 +9,12 @@ use Rattle.yp_schema.specs.declared.schema.SchemaNode.{SchemaNode}
 use Rattle.yp_journal.specs.declared.receiver.ReceiverInfo.{ReceiverInfo}
 use Rattle.yp_feed.specs.declared.item.Item.{Item}
 use Rattle.yp_queue.specs.declared.packet.Packet.{Packet}
-use Rattle.yp_attempt.specs.Attempts.{Notification, if_taken, notification_of, taken_of}
+use Rattle.yp_attempt.specs.Attempts.{Notification, notification_of, taken_of}
 use Rattle.yp_attempt.specs.Content.{Content}
 use Rattle.yp_attempt.specs.ListLaws.{filter_fail, filter_pass}
 use Rattle.yp_attempt.specs.Tracks.{Answer, Took, Full, Attempt, Track, attempt}
 use Rattle.yp_attempt.specs.Runs.{Found}
+use Rattle.yp_attempt.specs.AttemptLaws.{taken_append}
 use Rattle.yp_serial.specs.Posts.{Post, answer_by, after_offer, after_take}
 use Rattle.yp_serial.specs.Serial.{Served, found_answer, served_settled}
 use Rattle.yp_slot.specs.declared.settling.Settled.TheVariants as settled
@@ -27,14 +28,6 @@ use Rattle.yp_live.specs.Desks.{DeskState, desk_answer, desk_at, desk_offered, d
 use Rattle.yp_live.proofs.Taking.{drop_most, hears_received, notice_in, received_more, take_most}
 
 -- ---- what was accepted
-
-pub accepted_more : (xs ys : List Attempt) → taken_of (xs ++ ys) ≡ taken_of xs ++ taken_of ys
-accepted_more [] ys = refl
-accepted_more (x ∷ xs) ys = by x.answer (accepted_more xs ys)
-  where
-    by : (answer : Answer) → taken_of (xs ++ ys) ≡ taken_of xs ++ taken_of ys → if_taken answer (notification_of x) (taken_of (xs ++ ys)) ≡ if_taken answer (notification_of x) (taken_of xs) ++ taken_of ys
-    by Took later = ap (λ (ns : List Notification). notification_of x ∷ ns) later
-    by Full later = later
 
 module _ (nodes : List SchemaNode) (start : ℕ) where
   abbrev packet_in : Notification → Packet
@@ -72,7 +65,7 @@ module _ (nodes : List SchemaNode) (start : ℕ) where
     full_offer : (automatic : Bool) (post : Post) → here automatic (offered ++ made Full ∷ []) (taken_of (offered ++ made Full ∷ [])) post.taken
         ≡ desk_offered_by false (packet_in given) (notice_in given) n (here automatic offered (taken_of offered) post.taken)
     full_offer automatic post =
-        let same : taken_of (offered ++ made Full ∷ []) ≡ taken_of offered = accepted_more offered (made Full ∷ []) ∙ append-nil (taken_of offered) in
+        let same : taken_of (offered ++ made Full ∷ []) ≡ taken_of offered = taken_append offered (made Full ∷ []) ∙ append-nil (taken_of offered) in
         λ i. record (here automatic offered (same i) post.taken) { log = log_more Full i }
 
     -- it has room, and the packet stands there
@@ -81,7 +74,7 @@ module _ (nodes : List SchemaNode) (start : ℕ) where
     held_offer post parts =
         let xs : List Notification = taken_of offered in
         let few : post.taken ≤ length xs = omega (arith, parts) in
-        let all : taken_of (offered ++ made Took ∷ []) ≡ xs ++ given ∷ [] = accepted_more offered (made Took ∷ []) in
+        let all : taken_of (offered ++ made Took ∷ []) ≡ xs ++ given ∷ [] = taken_append offered (made Took ∷ []) in
         let got : take post.taken (taken_of (offered ++ made Took ∷ [])) ≡ take post.taken xs = ap (take post.taken) all ∙ take-append-le post.taken xs (given ∷ []) few in
         let kept : drop post.taken (taken_of (offered ++ made Took ∷ [])) ≡ drop post.taken xs ++ given ∷ [] = ap (drop post.taken) all ∙ drop-append-le post.taken xs (given ∷ []) few in
         λ i. record {
@@ -100,7 +93,7 @@ module _ (nodes : List SchemaNode) (start : ℕ) where
     taken_offer post parts none =
         let xs : List Notification = taken_of offered in
         let few : length xs ≤ post.taken = omega (arith, parts, none) in
-        let all : taken_of (offered ++ made Took ∷ []) ≡ xs ++ given ∷ [] = accepted_more offered (made Took ∷ []) in
+        let all : taken_of (offered ++ made Took ∷ []) ≡ xs ++ given ∷ [] = taken_append offered (made Took ∷ []) in
         let count : length (xs ++ given ∷ []) ≤ post.taken + 1 = omega (arith, few, length-append xs (given ∷ [])) in
         let before : drop post.taken xs ≡ [] = drop_all post.taken xs few in
         let got : take (post.taken + 1) (taken_of (offered ++ made Took ∷ [])) ≡ take post.taken xs ++ given ∷ [] =

@@ -1,11 +1,8 @@
 -- Runs of the receivers of a journal: each track is for one of them, and the position is the number of entries.
-use Rattle.std.proofs.Common.{◌≡◌, ℕ, zero, suc, ◌+◌, ◌<◌, ◌%◌, ◌==◌, Bool, true, false, not, List, [], ◌∷◌, ◌++◌, length, map, Some, refl, sym, ap, subst, arith, length-append}
+use Rattle.std.proofs.Common.{◌≡◌, ℕ, zero, suc, ◌+◌, ◌<◌, ◌%◌, ◌==◌, Bool, true, false, not, List, [], ◌∷◌, ◌++◌, length, map, Some, refl, sym, subst, arith, length-append}
 use Rattle.std.specs.Prelude.{if◌then◌else◌, nat_lt}
 use Rattle.std.specs.List.{AllByRecursion, filter, slice_get}
-use Rattle.yp_schema.specs.declared.schema.SchemaNode.{SchemaNode}
-use Rattle.yp_journal.specs.declared.entry.Entry.{Entry}
 use Rattle.yp_journal.specs.declared.receiver.ReceiverInfo.{ReceiverInfo}
-use Rattle.yp_journal.specs.History.{JournalState, next_state}
 use Rattle.yp_attempt.specs.Content.{Content}
 use Rattle.yp_attempt.specs.ListLaws.{all_append, all_before, all_filter, all_map, all_rest}
 use Rattle.yp_attempt.specs.Moments.{Moment, Act, Quiet, Starts, Controls, Drops, after_moment, is_kept_by, new_track}
@@ -13,7 +10,6 @@ use Rattle.yp_attempt.specs.Runs.{Found, IsFirst, Reaches, Run, advances, first_
 use Rattle.yp_attempt.specs.TrackLaws.{answer_same, moment_same}
 use Rattle.yp_attempt.specs.Tracks.{Answer, Track, after_answer, rebased}
 use Rattle.yp_attempt.specs.Workers.{numbers_of}
-use Rattle.yp_moment.specs.Entries.{moments_from}
 
 -- what is found is the first offer
 abbrev pub FindsFirst : Type 0
@@ -93,7 +89,3 @@ position_is c receivers _ _ _ (advances past answers run m r may idle) =
     let count : length (past ++ m ∷ []) ≡ length past + 1 = length-append past (m ∷ []) in
     omega (arith, before, count)
 position_is c receivers _ _ _ (settles past answers run found answer r offers) = position_is c receivers past answers run r
-
-pub moments_count : (nodes : List SchemaNode) (state : JournalState) (entries : List Entry) → length (moments_from nodes state entries) ≡ length entries
-moments_count nodes state [] = refl
-moments_count nodes state (entry ∷ entries) = ap (λ (n : ℕ). suc n) (moments_count nodes (next_state nodes state entry.command) entries)

@@ -10,6 +10,7 @@ use Rattle.yp_attempt.specs.Runs.{Found, Reaches, Run as AttemptRun, waits}
 use Rattle.yp_attempt.specs.Tracks.{Answer, Attempt, attempt}
 use Rattle.yp_moment.specs.Entries.{moments_of}
 use Rattle.yp_moment.specs.Windows.{recorded}
+use Rattle.yp_moment.specs.MomentLaws.{moments_count}
 use Rattle.yp_slot.specs.declared.settling.Settled.{Settled}
 use Rattle.yp_slot.specs.Steps.{answer_of}
 use Rattle.yp_serial.specs.Serial.{Served, found_answer, served_settled}
@@ -23,7 +24,7 @@ use Rattle.yp_promise.specs.Shown.{offered_to}
 use Rattle.yp_live.specs.Desks.{DeskState, desk_answer, desk_at, desk_offered, desks_at}
 use Rattle.yp_live.specs.Runs.{GoesOn, GoesOnIf, IsOnItsWay, IsOnSomeWay, IsThrough, desks_took, offers_left}
 use Rattle.yp_live.proofs.Desks.{desk_there, one_desk, other_desk, own_answer, own_desk, taking_desk}
-use Rattle.yp_live.proofs.Reached.{FindsFirst, found_for, moments_count, numbers_below, position_is, receiver_there}
+use Rattle.yp_live.proofs.Reached.{FindsFirst, found_for, numbers_below, position_is, receiver_there}
 
 -- ---- what laws say
 

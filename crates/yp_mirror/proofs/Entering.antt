@@ -5,6 +5,7 @@ use Rattle.std.proofs.lemmas.Bool.{true≢false, and_right, or_left, or_right}
 use Rattle.yp_base.specs.declared.row.Row.{Row}
 use Rattle.yp_base.specs.declared.notice.Trigger.{Trigger}
 use Rattle.yp_base.specs.declared.notice.Trigger.TheVariants.{Periodic as Every, OnChange}
+use Rattle.yp_base.specs.RowLaws.{last_more}
 use Rattle.yp_feed.specs.declared.item.Control.{Control}
 use Rattle.yp_feed.specs.declared.item.Control.TheVariants.{Modify, Resync, Rules, End}
 use Rattle.yp_feed.specs.Machine.{resyncs, is_mirrored, is_on_change, amended, restarted, with_terms, ending}
@@ -15,7 +16,7 @@ use Rattle.yp_attempt.specs.TrackLaws.{act_same}
 use Rattle.yp_mirror.specs.Heard.{Told, told_nothing}
 use Rattle.yp_mirror.specs.Stories.{Story, Steady, Leads, TellsEntry, is_control_of}
 use Rattle.yp_mirror.specs.Links.{FrozenFits, Linked}
-use Rattle.yp_mirror.proofs.Facts.{clash, eight_no, none_between, at_most_later, last_more, moved_current, moved_first, moved_window, wanted_more, moved_base, no_full}
+use Rattle.yp_mirror.proofs.Facts.{clash, eight_no, none_between, at_most_later, moved_current, moved_first, moved_window, wanted_more, moved_base, no_full}
 use Rattle.yp_mirror.proofs.Links.{mirrored_resyncs, resyncing_if, no_frozen, ends_none}
 use Rattle.yp_mirror.proofs.Refusing.{tries_freezing}
 

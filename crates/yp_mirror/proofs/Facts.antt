@@ -47,10 +47,6 @@ here n = (omega arith, omega arith)
 
 -- ---- windows whose base may move
 
-pub last_more : (first : List Row) (later : List (List Row)) (x : List Row) → last_of first (later ++ x ∷ []) ≡ x
-last_more first [] x = refl
-last_more first (y ∷ later) x = last_more y later x
-
 wanted_later : (story : Story) (sub base n : ℕ) (rows : List Row) → IsWantedBetween story sub base n rows → IsWantedBetween story sub base (n + 1) rows
 wanted_later story sub base n rows wanted = (wanted.0, wanted.1, omega (arith, wanted.2), wanted.3)
 

@@ -13,7 +13,7 @@ use Rattle.yp_feed.specs.declared.item.Item.TheVariants.{Started, Modified, Inco
 use Rattle.yp_feed.specs.declared.owed.Owed.{Owed}
 use Rattle.yp_feed.specs.Machine.{FeedState, after_freeze, controlled, counted, due_item, first_of, first_owed, freezes, frozen, is_at, is_on_change, refused, restarted, suspended, suspends, taken, without}
 use Rattle.yp_attempt.specs.Content.{Content}
-use Rattle.yp_attempt.specs.ListLaws.{all_append, all_before, all_rest, all_map, all_weaker, all_filter, filter_passes}
+use Rattle.yp_attempt.specs.ListLaws.{all_append, all_before, all_rest, all_map, all_weaker, all_filter, filter_passes, unblocked}
 use Rattle.yp_attempt.specs.Moments.{Moment, Act, Quiet, Starts, Controls, Drops, after_act, after_moment, after_rules, is_kept_by, new_track, with_control, with_selection}
 use Rattle.yp_attempt.specs.Runs.{Run, Found, IsFirst, Reaches, advances, opened, run_advanced, run_settled, settles, with_started}
 use Rattle.yp_attempt.specs.TrackLaws.{answer_same, moment_same}
@@ -22,7 +22,6 @@ use Rattle.yp_mirror.specs.Heard.{is_update}
 use Rattle.yp_mirror.specs.Living.{IsOfLiving, ended_after, ended_by, ended_with, has_after, has_by, has_ended, has_receiver}
 use Rattle.yp_mirror.proofs.Facts.{clash}
 use Rattle.yp_mirror.proofs.Lists.{number_is}
-use Rattle.yp_mirror.proofs.Offering.{unblocked}
 use Rattle.yp_mirror.proofs.Running.{FirstIsFound, put_all}
 
 -- ---- one entry more

@@ -7,6 +7,7 @@ use Rattle.yp_base.specs.declared.notice.Trigger.TheVariants.{Periodic as Every,
 use Rattle.yp_feed.specs.declared.item.Item.{Item}
 use Rattle.yp_feed.specs.declared.item.Item.TheVariants.{Started, Modified, Incomplete, Suspended, Resumed, Sync, Terminated, Changes, Periodic}
 use Rattle.yp_feed.specs.Machine.{FeedState, is_on_change, is_at, due_item, first_of, first_owed, offer_of}
+use Rattle.yp_attempt.specs.ListLaws.{unblocked}
 
 -- which flags are set and which are not
 abbrev pub Flags : Bool → Bool → Bool → Bool → Bool → Trigger → Item → Type 0
@@ -47,10 +48,6 @@ first_flags false false false false false false false trigger other item f e = f
 -- of a feed
 abbrev pub Offered : FeedState → Item → Type 0
 Offered f item = Flags f.owed.incomplete f.owed.suspended f.owed.resumed f.owed.sync f.owed.terminated f.trigger item
-
-pub unblocked : {X : Type 0} → (b : Bool) (x : Option X) (y : X) → (if b then None else x) ≡ Some y → (b ≡ false) × (x ≡ Some y)
-unblocked true x y e = absurd (none-some y e)
-unblocked false x y e = (refl, e)
 
 -- its last full answer was at another stamp
 pub offered : (f : FeedState) (roots edits stamp : ℕ) (item : Item) → offer_of f roots edits stamp ≡ Some item → (is_at f.last_full stamp ≡ false) × Offered f item

@@ -1,7 +1,7 @@
 -- No id is given twice: a subscription that an entry starts has one that was given to none before, and what was given stays so.
-use Rattle.std.proofs.Common.{◌≡◌, ℕ, ◌<◌, ◌≤◌, refl, ap, ◌∙◌, Bool, true, false, not, ◌&&◌, List, [], ◌∷◌, Option, Some, None, Ok, nat_lt, arith}
+use Rattle.std.proofs.Common.{◌≡◌, ℕ, ◌<◌, ◌≤◌, refl, ap, ◌∙◌, Bool, true, false, not, ◌&&◌, List, [], Option, Some, None, Ok, nat_lt, arith}
 use Rattle.std.specs.Prelude.{if◌then◌else◌, ◌==◌}
-use Rattle.std.specs.List.{list_any, AllByRecursion}
+use Rattle.std.specs.List.{list_any}
 use Rattle.std.proofs.lemmas.Bool.{and_right, le-ltb, lt-ltb, ltb-true, not-false, or_parts}
 use Rattle.yp_schema.specs.declared.schema.SchemaNode.{SchemaNode}
 use Rattle.yp_nacm.specs.declared.policy.Policy.{Policy}
@@ -10,9 +10,10 @@ use Rattle.yp_terms.specs.declared.ask.Ask.{Ask}
 use Rattle.yp_terms.specs.declared.refused.Refused.{Refused}
 use Rattle.yp_terms.specs.Amends.{amended_terms}
 use Rattle.yp_registry.specs.Amending.{modified_by, modify_reasons, reconfigured, reconfigure_reasons, with_change}
-use Rattle.yp_registry.specs.Calls.{deleted_by, delete_reasons, done_unless, killed_by, kill_reasons, left_unless, unconfigured, unconfigure_reasons, with_end}
+use Rattle.yp_registry.specs.Calls.{deleted_by, delete_reasons, killed_by, kill_reasons, left_unless, unconfigured, unconfigure_reasons, with_end}
 use Rattle.yp_registry.specs.Configuring.{configure_answer, configure_reasons, configured_terms, is_configurable, is_id_taken, newly_configured, with_configured}
-use Rattle.yp_terms.specs.Refusals.{Reason, first_refusal}
+use Rattle.yp_terms.specs.Refusals.{first_refusal}
+use Rattle.yp_terms.specs.RefusalLaws.{none_holds, nothing_refused}
 use Rattle.yp_registry.specs.Registry.{Subscriptions, establish_answer, established, next_id}
 use Rattle.yp_journal.specs.declared.command.Command.{Command}
 use Rattle.yp_journal.specs.declared.command.Command.TheVariants.{Tick, Edit, Rules, Establish, Modify, Delete, Kill, Resync, Configure, Reconfigure, Unconfigure, Take}
@@ -113,19 +114,6 @@ configured_given id registry low = ap (λ (low : Bool). if low then is_id_taken 
 pub next_free : (registry : Subscriptions) → was_given (next_id registry.given) registry ≡ false
 next_free registry = dynamic_given (next_id registry.given) registry (not_low registry.given) ∙ le-ltb (next_id registry.given) (next_id registry.given) (omega arith)
 
--- where no reason speaks against a call, none holds
-passed : (holds : Bool) (refusal : Refused) (rest : Option Refused) → (if holds then Some refusal else rest) ≡ None → (holds ≡ false) × (rest ≡ None)
-passed true refusal rest none = cc
-passed false refusal rest none = (refl, none)
-
-none_holds : (reasons : List Reason) → first_refusal reasons ≡ None → AllByRecursion (λ (reason : Reason). reason.0 ≡ false) reasons
-none_holds [] none = tt
-none_holds (reason ∷ reasons) none = let rest = passed reason.0 reason.1 (first_refusal reasons) none in (rest.0, none_holds reasons rest.1)
-
-not_refused : (refusal : Option Refused) → done_unless refusal ≡ Ok tt → refusal ≡ None
-not_refused None done = refl
-not_refused (Some refusal) done = cc
-
 module _ (laws : GivenLaws) (nodes : List SchemaNode) (policy : Policy) (registry : Subscriptions) where
   pub established_new : (by : ℕ) (ask : Ask) (now id : ℕ) → establish_answer nodes policy registry by ask now ≡ Ok id → IsNew registry (established nodes policy registry by ask now) id
   established_new by ask now id ok =
@@ -137,7 +125,7 @@ module _ (laws : GivenLaws) (nodes : List SchemaNode) (policy : Policy) (registr
 
   pub configured_new : (id : ℕ) (receivers : List (List ℕ)) (ask : Ask) (now : ℕ) → configure_answer nodes registry id receivers ask ≡ Ok tt → IsNew registry (newly_configured nodes registry id receivers ask now) id
   configured_new id receivers ask now ok =
-      let none = none_holds (configure_reasons nodes registry id receivers ask) (not_refused (first_refusal (configure_reasons nodes registry id receivers ask)) ok) in
+      let none = none_holds (configure_reasons nodes registry id receivers ask) (nothing_refused (first_refusal (configure_reasons nodes registry id receivers ask)) ok) in
       let parts = or_parts (not (is_configurable id)) (is_id_taken id registry) none.1.1.1.1.0 in
       let low : is_configurable id ≡ true = not-false (is_configurable id) parts.0 in
       let after : Subscriptions = newly_configured nodes registry id receivers ask now in

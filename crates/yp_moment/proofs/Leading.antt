@@ -25,8 +25,8 @@ use Rattle.yp_attempt.specs.ListLaws.{all_weaker}
 use Rattle.yp_mirror.specs.Stories.{Story, IsWantedBetween, Leads, story_of}
 use Rattle.yp_moment.specs.Entries.{selected_by, selected_at, moments_of}
 use Rattle.yp_moment.specs.Windows.{recorded}
+use Rattle.yp_moment.specs.MomentLaws.{wanted}
 use Rattle.yp_moment.proofs.Recording.{none_excluded}
-use Rattle.yp_moment.proofs.Telling.{wanted}
 
 -- ---- datastores
 

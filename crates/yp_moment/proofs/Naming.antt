@@ -29,7 +29,8 @@ use Rattle.yp_mirror.specs.Stories.{Story, Steady, IsWantedBetween, story_of}
 use Rattle.yp_moment.specs.Concealed.{NamesReadable}
 use Rattle.yp_moment.specs.Entries.{selected_by, selected_at, moments_of}
 use Rattle.yp_moment.specs.Windows.{recorded}
-use Rattle.yp_moment.proofs.Telling.{wanted, steady_rules}
+use Rattle.yp_moment.specs.MomentLaws.{wanted}
+use Rattle.yp_moment.proofs.Telling.{steady_rules}
 
 -- what a subscription selects may be read
 module _ (nodes : List SchemaNode) (state : JournalState) (receiver : ℕ) where

@@ -1,15 +1,14 @@
--- What a legal journal tells a receiver of a subscription: what is selected, and which entries change what is asked for or the rules.
+-- What a legal journal tells a receiver of a subscription: which entries change what is asked for or the rules.
 use Rattle.std.proofs.Common.{◌≡◌, ℕ, zero, suc, ◌+◌, ◌≤◌, refl, sym, ap, subst, ◌∙◌, Bool, false, not, ◌||◌, List, [], ◌∷◌, ◌++◌, length, take, arith}
 use Rattle.std.proofs.lemmas.Bool.{or_parts}
-use Rattle.yp_base.specs.declared.row.Row.{Row}
 use Rattle.yp_schema.specs.declared.schema.SchemaNode.{SchemaNode}
 use Rattle.yp_nacm.specs.Same.{are_same_rules}
 use Rattle.yp_journal.specs.declared.entry.Entry.{Entry}
 use Rattle.yp_journal.specs.declared.receiver.ReceiverInfo.{ReceiverInfo}
 use Rattle.yp_journal.specs.History.{JournalState, first_state, next_state, state_of, state_at, rules_at}
 use Rattle.yp_attempt.specs.Moments.{Moment}
-use Rattle.yp_mirror.specs.Stories.{is_control_of, want_after, changes_after, story_of}
-use Rattle.yp_moment.specs.Entries.{selected_at, moment_of, moments_from, moments_of}
+use Rattle.yp_mirror.specs.Stories.{is_control_of, changes_after, story_of}
+use Rattle.yp_moment.specs.Entries.{moment_of, moments_from, moments_of}
 
 -- the moments of entries after others come after the moments of these
 pub moments_split : (nodes : List SchemaNode) (state : JournalState) (before after : List Entry) → moments_from nodes state (before ++ after) ≡ moments_from nodes state before ++ moments_from nodes (state_of nodes state before) after
@@ -19,20 +18,6 @@ moments_split nodes state (first ∷ before) after = ap (λ (moments : List Mome
 pub one_more : (nodes : List SchemaNode) (receivers : List ReceiverInfo) (entries : List Entry) (entry : Entry)
     → moments_of nodes receivers (entries ++ entry ∷ []) ≡ moments_of nodes receivers entries ++ moment_of nodes (state_of nodes (first_state receivers) entries) entry ∷ []
 one_more nodes receivers entries entry = moments_split nodes (first_state receivers) entries (entry ∷ [])
-
--- ---- what is selected
-
-selected_after : (nodes : List SchemaNode) (state : JournalState) (entries : List Entry) (receiver id n : ℕ) (rows : List Row) → rows ≡ selected_at nodes state id receiver
-    → want_after receiver id rows (take n (moments_from nodes state entries)) ≡ selected_at nodes (state_of nodes state (take n entries)) id receiver
-selected_after nodes state entries receiver id zero rows is = is
-selected_after nodes state [] receiver id (suc n) rows is = is
-selected_after nodes state (entry ∷ entries) receiver id (suc n) rows is =
-    let next : JournalState = next_state nodes state entry.command in
-    selected_after nodes next entries receiver id n (selected_at nodes next id receiver) refl
-
--- at each position what the subscription selects there; past the last entry, what it selects after that
-pub wanted : (nodes : List SchemaNode) (receivers : List ReceiverInfo) (entries : List Entry) (receiver id n : ℕ) → (story_of (moments_of nodes receivers entries) receiver).want id n ≡ selected_at nodes (state_at nodes receivers entries n) id receiver
-wanted nodes receivers entries receiver id n = selected_after nodes (first_state receivers) entries receiver id n [] refl
 
 -- ---- which entries change what a subscription asks for, or the rules
 

@@ -6,3 +6,4 @@ pub mod Concealed
 pub mod Visible
 pub mod Notices
 pub mod Living
+pub mod MomentLaws

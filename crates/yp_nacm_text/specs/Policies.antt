@@ -3,7 +3,7 @@ use Rattle.std.specs.Prelude.{ℕ, List, [], Bool, Option, Some, option_and_then
 use Rattle.std.specs.List.{list_any}
 use Rattle.serde_json.specs.Data.{Data, Items, no_items, Members}
 use Rattle.serde_json.specs.Find.{get_member, as_array}
-use Rattle.yp_base.specs.Json.{text_member}
+use Rattle.yp_value.specs.Json.{text_member}
 use Rattle.yp_base.specs.Results.{◌>>=◌, or_fault}
 use Rattle.yp_base.specs.Types.{same_text}
 use Rattle.yp_schema.specs.declared.schema.SchemaNode.{SchemaNode}

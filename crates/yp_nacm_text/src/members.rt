@@ -2,7 +2,7 @@
 ghost use Rattle.std.specs.Prelude.{◌≡◌, IfOk, option_map, option_and_then};
 ghost use Rattle.serde_json.specs.View.{view, items_view, members_view};
 ghost use Rattle.serde_json.specs.Find.{get_member, as_array};
-ghost use Rattle.yp_base.specs.Json.{text_member};
+ghost use Rattle.yp_value.specs.Json.{text_member};
 ghost use Rattle.yp_base.specs.Types.{is_among};
 ghost use Rattle.yp_schema.specs.Stated.{texts_in};
 ghost use Rattle.yp_nacm_text.specs.Members.{names_of, has_only, members_as, switch, permits_by, default_word, texts_of, items_of};

@@ -1,7 +1,7 @@
 //! Rules.
 ghost use Rattle.std.specs.Prelude.{◌≡◌, IfOk, option_map, option_and_then, option_copied, codes};
 ghost use Rattle.serde_json.specs.View.{view, members_view};
-ghost use Rattle.yp_base.specs.Json.{text_member};
+ghost use Rattle.yp_value.specs.Json.{text_member};
 ghost use Rattle.yp_base.specs.Types.{is_among};
 ghost use Rattle.yp_nacm_text.specs.Faults.{Reads};
 ghost use Rattle.yp_nacm_text.specs.Members.{permits_by};

@@ -3,7 +3,7 @@ use Rattle.std.specs.Prelude.{◌≡◌, ℕ, ◌+◌, ◌==◌, ◌&&◌, ◌||
 use Rattle.serde_json.specs.Data.{Data, null, boolean, number, string, array, object, Items, no_items, item, Members}
 use Rattle.serde_json.specs.Find.{get_member, as_str, as_object, as_array}
 use Rattle.serde_json.specs.Events.{members_len}
-use Rattle.yp_base.specs.Json.{text_member}
+use Rattle.yp_value.specs.Json.{text_member}
 use Rattle.yp_base.specs.Types.{same_text, are_distinct}
 use Rattle.yp_patch.specs.declared.fault.PatchFault.{PatchFault}
 use Rattle.yp_patch.specs.declared.fault.PatchFault.TheVariants.{Shape, Memory}

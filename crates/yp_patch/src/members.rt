@@ -3,7 +3,7 @@ ghost use Rattle.std.specs.Prelude.{◌≡◌, option_map};
 ghost use Rattle.serde_json.specs.View.{view, members_view};
 ghost use Rattle.serde_json.specs.Find.{get_member};
 ghost use Rattle.serde_json.specs.Events.{members_len};
-ghost use Rattle.yp_base.specs.Json.{text_member};
+ghost use Rattle.yp_value.specs.Json.{text_member};
 ghost use Rattle.yp_patch.specs.Shapes.{ReadsAs, some_text, one_if, sole};
 
 use crate::fault::PatchError;

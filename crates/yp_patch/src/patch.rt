@@ -2,9 +2,9 @@
 
 use std::alloc::Global;
 use yp_base::memory::{Duplicate, NoMemory};
-use yp_base::payload::Payload;
 use yp_base::series::Series;
 use yp_base::txt::Txt;
+use yp_value::payload::Payload;
 
 /// What an edit does (RFC 8072 section 2.5).
 #[derive(Debug, Drop, Clone, Copy, PartialEq, Eq)]

@@ -16,9 +16,9 @@ use serde_json::{Map, Value as Json};
 use std::alloc::Global;
 use std::collections::BTreeSet;
 use yp_base::memory::NoMemory;
-use yp_base::payload::Payload;
 use yp_base::series::Series;
 use yp_base::txt::Txt;
+use yp_value::payload::Payload;
 
 /// The most edits whose ids are compared without a set of them.
 const FEW_EDITS: usize = 8;

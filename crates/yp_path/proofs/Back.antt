@@ -10,8 +10,8 @@ use Rattle.yp_base.specs.PathLaws.{numbers_same}
 use Rattle.yp_base.specs.declared.atom.Atom.{Atom}
 use Rattle.yp_base.specs.declared.leaf_type.LeafType.{LeafType}
 use Rattle.yp_base.specs.declared.path.Seg.{Seg}
-use Rattle.yp_base.specs.Texts.{atom_text}
-use Rattle.yp_base.specs.TextLaws.{text_again}
+use Rattle.yp_value.specs.Texts.{atom_text}
+use Rattle.yp_value.specs.TextLaws.{text_again}
 use Rattle.yp_schema.specs.declared.schema.SchemaNode.{SchemaNode}
 use Rattle.yp_schema.specs.declared.schema.Kind.{Kind}
 use Rattle.yp_schema.specs.declared.schema.Kind.TheVariants.{Container, Presence, List as Listing, Leaf, LeafList}

@@ -1,10 +1,10 @@
 use Rattle.std.proofs.Common.{◌≡◌, ℕ, zero, suc, ◌<◌, List, [], ◌∷◌, length, get_or, true, false, refl, sym, ap, subst, ◌∙◌, Option, Some, None, arith}
 use Rattle.std.proofs.lemmas.Bool.{and_parts}
-use Rattle.yp_base.specs.Writable.{fits_writable}
+use Rattle.yp_value.specs.Writable.{fits_writable}
 use Rattle.yp_base.specs.declared.atom.Atom.{Atom}
 use Rattle.yp_base.specs.declared.leaf_type.LeafType.{LeafType}
 use Rattle.yp_base.specs.declared.path.Seg.{Seg}
-use Rattle.yp_base.specs.Texts.{is_writable}
+use Rattle.yp_value.specs.Texts.{is_writable}
 use Rattle.yp_schema.specs.declared.schema.SchemaNode.{SchemaNode}
 use Rattle.yp_schema.specs.declared.schema.Kind.{Kind}
 use Rattle.yp_schema.specs.declared.schema.Kind.TheVariants.{Container, Presence, List as Listing, Leaf, LeafList}

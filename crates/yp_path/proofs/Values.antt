@@ -71,7 +71,3 @@ module _ (nodes : List SchemaNode) (asked : List ℕ) (i : ℕ) (rest : List ℕ
         sym (read_more (values_read nodes (drop (i + 1) asked) (cut 44 more)) v done)
         ∙ ap (λ v. option_map (λ more. done ++ more) (option_and_then (λ v. option_map (λ (vs : List Atom). v ∷ vs) (values_read nodes (drop (i + 1) asked) (cut 44 more))) v)) some
         ∙ here (text ∷ cut 44 more) split
-
-pub same_answer : {X E : Type 0} (r : Result X E) (x y : X) → x ≡ y → IfOk r (λ v. v ≡ x) → IfOk r (λ v. v ≡ y)
-same_answer (Ok v) x y e is = is ∙ e
-same_answer (Err w) x y e is = tt

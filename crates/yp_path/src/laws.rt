@@ -11,7 +11,7 @@ ghost use Rattle.yp_path.specs.RulePaths.{rule_path_in, rule_parts_in};
 ghost use Rattle.yp_path.specs.TargetGrammar.{TargetPart, IsTargetText};
 ghost use Rattle.yp_path.specs.Targets.{target_in, target_parts_in, target_text, has_texts};
 
-use yp_base::text::read_text_fits;
+use yp_value::text::read_text_fits;
 
 /// The text of a path of a schema is read again as this path.
 #[tactic(auto, using(crate::proofs::Back::target_again))]

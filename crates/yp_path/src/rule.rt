@@ -17,9 +17,9 @@ use std::alloc::Global;
 use yp_base::atom::Atom;
 use yp_base::memory::NoMemory;
 use yp_base::series::Series;
-use yp_base::text::read_text_fits;
 use yp_schema::rule_path::{RuleKeys, RulePath, RuleSeg};
 use yp_schema::schema::{Kind, Schema};
+use yp_value::text::read_text_fits;
 
 fn is_among(node: u32, nodes: &[u32]) -> bool
     ensures { result ≡ is_in node nodes.now }

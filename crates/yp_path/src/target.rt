@@ -1,6 +1,6 @@
 //! Targets: reading and writing.
 ghost use Rattle.std.specs.Prelude.{◌≡◌, ◌<◌, ◌++◌, ◌∷◌, [], length, All, IfOk, OnOk, IfSome, None, Ok, true, option_map, string_bytes};
-ghost use Rattle.yp_base.specs.Texts.{is_writable};
+ghost use Rattle.yp_value.specs.Texts.{is_writable};
 ghost use Rattle.yp_base.specs.Cuts.{cut};
 ghost use Rattle.yp_schema.specs.Datastore.{is_path_of};
 ghost use Rattle.yp_schema.specs.Nodes.{node_at};
@@ -17,9 +17,9 @@ use yp_base::atom::{Atom, Keys};
 use yp_base::memory::NoMemory;
 use yp_base::path::{Path, Seg};
 use yp_base::series::Series;
-use yp_base::text::{TextFault, read_text, read_text_fits, write_text};
 use yp_base::txt::Txt;
 use yp_schema::schema::{Kind, Schema};
+use yp_value::text::{TextFault, read_text, read_text_fits, write_text};
 
 /// The value of a key's text, by the type of a node.
 #[tactic(auto, using(yp_schema::specs::SchemaLaws::type_is))]

@@ -1,5 +1,5 @@
 -- What is said to receivers of a journal: rows of datastores, in order.
-use Rattle.std.proofs.Common.{◌≡◌, ℕ, zero, suc, Bool, true, false, not, List, [], ◌∷◌, map, take, Option, Some, None, refl, sym, subst, ◌∙◌}
+use Rattle.std.proofs.Common.{◌≡◌, ℕ, Bool, true, false, not, List, [], ◌∷◌, map, take, Option, Some, None, sym, subst, ◌∙◌}
 use Rattle.std.specs.Prelude.{if◌then◌else◌}
 use Rattle.std.specs.List.{AllByRecursion}
 use Rattle.yp_base.specs.declared.notice.Change.{Change}
@@ -18,29 +18,18 @@ use Rattle.yp_changes.specs.Records.{change_at, is_excluded, touched_paths, wind
 use Rattle.yp_select.specs.KeptLaws.{kept_datastore}
 use Rattle.yp_journal.specs.declared.entry.Entry.{Entry}
 use Rattle.yp_journal.specs.declared.receiver.ReceiverInfo.{ReceiverInfo}
-use Rattle.yp_journal.specs.History.{JournalState, first_state, next_state, rules_at, may_read, state_of, state_at}
+use Rattle.yp_journal.specs.History.{JournalState, first_state, rules_at, may_read, state_of, state_at}
 use Rattle.yp_journal.specs.JournalLaws.{opening_datastore}
 use Rattle.yp_attempt.specs.ListLaws.{all_filter, all_map, all_weaker}
 use Rattle.yp_attempt.specs.Tracks.{Body, All, Edits, Marked, Notice}
 use Rattle.yp_mirror.specs.Following.{IsBodyOf, TellsWindow}
-use Rattle.yp_mirror.specs.Stories.{Story, IsWantedBetween, story_of, want_after}
-use Rattle.yp_moment.specs.Entries.{moments_from, moments_of, selected_at, selected_by}
+use Rattle.yp_mirror.specs.Stories.{Story, IsWantedBetween, story_of}
+use Rattle.yp_moment.specs.Entries.{moments_of, selected_at, selected_by}
 use Rattle.yp_moment.specs.Windows.{recorded}
+use Rattle.yp_moment.specs.MomentLaws.{wanted}
 use Rattle.yp_promise.proofs.Holding.{SaysInOrder}
 
 -- ---- what is selected
-
-selected_after : (nodes : List SchemaNode) (state : JournalState) (entries : List Entry) (receiver id n : ℕ) (rows : List Row) → rows ≡ selected_at nodes state id receiver
-    → want_after receiver id rows (take n (moments_from nodes state entries)) ≡ selected_at nodes (state_of nodes state (take n entries)) id receiver
-selected_after nodes state entries receiver id zero rows is = is
-selected_after nodes state [] receiver id (suc n) rows is = is
-selected_after nodes state (entry ∷ entries) receiver id (suc n) rows is =
-    let next : JournalState = next_state nodes state entry.command in
-    selected_after nodes next entries receiver id n (selected_at nodes next id receiver) refl
-
--- a journal tells at each position what a subscription selects there; past the last entry, what it selects after that
-pub wanted : (nodes : List SchemaNode) (receivers : List ReceiverInfo) (entries : List Entry) (receiver id n : ℕ) → (story_of (moments_of nodes receivers entries) receiver).want id n ≡ selected_at nodes (state_at nodes receivers entries n) id receiver
-wanted nodes receivers entries receiver id n = selected_after nodes (first_state receivers) entries receiver id n [] refl
 
 -- what is selected of a datastore is a datastore
 selected_by_is : (nodes : List SchemaNode) (state : JournalState) (receiver : ℕ) → IsDatastore nodes state.rows → (terms : Option Terms) → IsDatastore nodes (selected_by nodes state receiver terms)

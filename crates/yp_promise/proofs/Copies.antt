@@ -20,12 +20,13 @@ use Rattle.yp_mirror.specs.Links.{IsAttemptOf, IsRunOf}
 use Rattle.yp_mirror.specs.Stories.{Story, story_of}
 use Rattle.yp_moment.specs.Entries.{moments_of, selected_at}
 use Rattle.yp_moment.specs.Windows.{recorded}
+use Rattle.yp_moment.specs.MomentLaws.{wanted}
 use Rattle.yp_world.specs.Headline.{NeverFalls, is_update_of}
 use Rattle.yp_world.specs.TakenLaws.{IsTakenAt, one_there, sub_parts, taken_at}
 use Rattle.yp_promise.specs.Promise.{BeginsFull, Gives, Mirrors}
 use Rattle.yp_receiver.specs.Held.{held_of}
 use Rattle.yp_promise.specs.Received.{received}
-use Rattle.yp_promise.proofs.Bodies.{SaysRows, rows_in_order, wanted}
+use Rattle.yp_promise.proofs.Bodies.{SaysRows, rows_in_order}
 use Rattle.yp_promise.proofs.Holding.{SaysInOrder, agree_on, held_received, none_told, received_last, received_of, update_sets}
 use Rattle.yp_promise.proofs.Own.{own_attempt}
 

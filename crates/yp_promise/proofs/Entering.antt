@@ -4,15 +4,16 @@ use Rattle.std.specs.List.{slice_get}
 use Rattle.yp_schema.specs.declared.schema.SchemaNode.{SchemaNode}
 use Rattle.yp_journal.specs.declared.entry.Entry.{Entry}
 use Rattle.yp_journal.specs.declared.receiver.ReceiverInfo.{ReceiverInfo}
-use Rattle.yp_journal.specs.History.{JournalState, first_state, next_state, state_of}
+use Rattle.yp_journal.specs.History.{first_state, state_of}
 use Rattle.yp_attempt.specs.Content.{Content}
 use Rattle.yp_attempt.specs.Moments.{Moment}
 use Rattle.yp_attempt.specs.Runs.{Found, run_advanced, waits}
 use Rattle.yp_serial.specs.Posts.{Queueing, after_take}
 use Rattle.yp_serial.specs.Serial.{Served, Taking, first_served, served_advanced, served_settled, while_offered, offers_on, all_offered, serial, serial_run}
 use Rattle.yp_serial.specs.Weights.{weights}
-use Rattle.yp_moment.specs.Entries.{moment_of, moments_from, moments_of}
+use Rattle.yp_moment.specs.Entries.{moment_of, moments_of}
 use Rattle.yp_moment.specs.Windows.{recorded}
+use Rattle.yp_moment.specs.MomentLaws.{moments_count}
 use Rattle.yp_promise.specs.Serving.{all_numbers, queueing_of, run_entered, run_of, taken_by, taken_in, taking_of}
 
 -- ---- positions
@@ -41,15 +42,8 @@ serial_position c receivers q takes served (m ∷ moments) =
     let rest : (serial c receivers q takes next moments).run.standing.position ≡ next.run.standing.position + length moments = serial_position c receivers q takes next moments in
     omega (arith, one, rest)
 
--- a journal has as many moments as entries
-count_from : (nodes : List SchemaNode) (state : JournalState) (entries : List Entry) → length (moments_from nodes state entries) ≡ length entries
-count_from nodes state [] = refl
-count_from nodes state (entry ∷ entries) =
-    let rest : length (moments_from nodes (next_state nodes state entry.command) entries) ≡ length entries = count_from nodes (next_state nodes state entry.command) entries in
-    omega (arith, rest)
-
 pub count_moments : (nodes : List SchemaNode) (receivers : List ReceiverInfo) (entries : List Entry) → length (moments_of nodes receivers entries) ≡ length entries
-count_moments nodes receivers entries = count_from nodes (first_state receivers) entries
+count_moments nodes receivers entries = moments_count nodes (first_state receivers) entries
 
 pub run_position : (nodes : List SchemaNode) (receivers : List ReceiverInfo) (entries : List Entry) → (run_of nodes receivers entries).run.standing.position ≡ length entries
 run_position nodes receivers entries =

@@ -23,10 +23,10 @@ use Rattle.yp_mirror.specs.Stories.{Story, story_of}
 use Rattle.yp_moment.specs.Concealed.{NamesReadable}
 use Rattle.yp_moment.specs.Entries.{moments_of}
 use Rattle.yp_moment.specs.Windows.{recorded}
+use Rattle.yp_moment.specs.MomentLaws.{wanted}
 use Rattle.yp_world.specs.Headline.{LeavesOutAfterFull, SuspendsAfterEight}
 use Rattle.yp_world.specs.TakenLaws.{all_there, number_is}
 use Rattle.yp_promise.specs.Promise.{FreezeOnlyAfterFull, IsConcealed, IsFullAtRisingStamps, IsMadeWhereOffered, Resynchronises, SuspendOnlyAtEighth, run_by}
-use Rattle.yp_promise.proofs.Bodies.{wanted}
 use Rattle.yp_promise.proofs.Copies.{GoesByAsk}
 use Rattle.yp_promise.proofs.Own.{own_attempt}
 

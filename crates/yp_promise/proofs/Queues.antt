@@ -12,6 +12,7 @@ use Rattle.yp_attempt.specs.Content.{Content}
 use Rattle.yp_attempt.specs.Moments.{Moment}
 use Rattle.yp_attempt.specs.Runs.{Found, waits}
 use Rattle.yp_attempt.specs.Tracks.{Answer, Took, Full, Attempt, attempt}
+use Rattle.yp_attempt.specs.AttemptLaws.{taken_append}
 use Rattle.yp_moment.specs.Entries.{moment_of, moments_of}
 use Rattle.yp_moment.specs.Windows.{recorded}
 use Rattle.yp_serial.specs.Posts.{Post, Queueing, answer_by, after_offer, after_take}
@@ -21,14 +22,6 @@ use Rattle.yp_promise.specs.Posts.{HasPost, HavePosts}
 use Rattle.yp_promise.specs.Serving.{all_numbers, queueing_of, run_entered, run_of, taken_by, taking_of}
 
 -- ---- what was accepted
-
-taken_append : (xs ys : List Attempt) → taken_of (xs ++ ys) ≡ taken_of xs ++ taken_of ys
-taken_append [] ys = refl
-taken_append (x ∷ xs) ys = by x.answer (taken_append xs ys)
-  where
-    by : (answer : Answer) → taken_of (xs ++ ys) ≡ taken_of xs ++ taken_of ys → if_taken answer (notification_of x) (taken_of (xs ++ ys)) ≡ if_taken answer (notification_of x) (taken_of xs) ++ taken_of ys
-    by Took later = ap (λ (ns : List Notification). notification_of x ∷ ns) later
-    by Full later = later
 
 -- what the queue of a receiver accepted of one attempt more
 abbrev one_accepted : Bool → Attempt → List Notification

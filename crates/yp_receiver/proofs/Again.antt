@@ -13,9 +13,9 @@ use Rattle.yp_base.specs.declared.notice.Notice.TheVariants as notices
 use Rattle.yp_base.specs.declared.path.Seg.{Seg}
 use Rattle.yp_base.specs.declared.row.Row.{Row}
 use Rattle.yp_base.specs.PathLaws.{texts_same, texts_itself}
-use Rattle.yp_base.specs.ReadAgain.{number_again}
+use Rattle.yp_value.specs.ReadAgain.{number_again}
 use Rattle.yp_base.specs.Results.{◌>>=◌, or_fault}
-use Rattle.yp_base.specs.Texts.{below}
+use Rattle.yp_value.specs.Texts.{below}
 use Rattle.yp_base.specs.Types.{same_text, is_among, are_distinct}
 use Rattle.yp_schema.specs.declared.schema.SchemaNode.{SchemaNode}
 use Rattle.yp_schema.specs.Datastore.{AreWhole, is_path_of, ends_in_key}

@@ -1,11 +1,11 @@
 -- The bodies of notices are readable JSON.
 use Rattle.std.proofs.Common.{◌≡◌, ℕ, ◌+◌, ◌/◌, ◌%◌, ◌<◌, ◌≤◌, ◌^◌, ◌==◌, ◌&&◌, ◌||◌, List, [], ◌∷◌, ◌++◌, length, Bool, true, false, cond, All, IsUtf8, nat_le, nat_lt, codes, decimal, refl, arith}
 use Rattle.std.specs.List.{AllByRecursion}
-use Rattle.std.proofs.lemmas.Bool.{and_parts, and_from, eqb-true, leb-true, lt-ltb}
+use Rattle.std.proofs.lemmas.Bool.{and_parts, and_from, leb-true, lt-ltb}
 use Rattle.std.proofs.lemmas.Fmt.{IsAscii-decimal}
 use Rattle.std.proofs.lemmas.List.Elements.{All-head, All-tail}
 use Rattle.std.proofs.lemmas.Str.{IsUtf8-append, IsUtf8-nil, IsUtf8-from_ascii}
-use Rattle.json.proofs.Printed.Utf8.{are_ascii, IsUtf8-are_ascii}
+use Rattle.json.proofs.Printed.Utf8.{IsUtf8-are_ascii}
 use Rattle.serde_json.specs.Data.{Data, Members, object}
 use Rattle.yp_base.specs.declared.atom.Atom.{Atom}
 use Rattle.yp_base.specs.declared.notice.Change.{Change}
@@ -15,8 +15,8 @@ use Rattle.yp_base.specs.declared.notice.Notice.{Notice}
 use Rattle.yp_base.specs.declared.notice.Notice.TheVariants as notices
 use Rattle.yp_base.specs.declared.path.Seg.{Seg}
 use Rattle.yp_base.specs.declared.row.Row.{Row}
-use Rattle.yp_base.specs.TextLaws.{or_else}
-use Rattle.yp_base.specs.Texts.{atom_text}
+use Rattle.yp_value.specs.TextLaws.{or_else}
+use Rattle.yp_value.specs.Texts.{atom_text}
 use Rattle.yp_schema.specs.declared.schema.SchemaNode.{SchemaNode}
 use Rattle.yp_schema.specs.Nodes.{node_at}
 use Rattle.yp_schema.specs.WellFormed.{IsSchema}
@@ -28,18 +28,12 @@ use Rattle.yp_data_json.specs.Writing.{rows_json}
 use Rattle.yp_encode.specs.Lines.{operation_word, carries_value, value_member, edit_data, edits_from, mark, patch_data, body_of}
 use Rattle.yp_receiver.specs.Hearable.{HasWholeRows, IsHearableChange, AreHearable, IsHearable, HasTexts}
 use Rattle.yp_receiver.specs.Readable.{HaveTexts, IsReadable, ItemsAreReadable, MembersAreReadable}
-use Rattle.yp_receiver.proofs.Rows.{name_utf8, rows_readable}
-
-abbrev ascii : (text : List ℕ) → are_ascii text ≡ true → IsUtf8 text
-ascii text is = IsUtf8-are_ascii text is
+use Rattle.yp_receiver.proofs.Rows.{name_utf8, rows_readable, is_small}
 
 -- ---- targets are ASCII
 
 within : (low high b : ℕ) → high < 128 → (nat_le low b && nat_le b high) ≡ true → b < 128
 within low high b small h = let top = leb-true b high (and_parts (nat_le low b) (nat_le b high) h).1 in omega arith
-
-is_at : (b n : ℕ) → n < 128 → (b == n) ≡ true → b < 128
-is_at b n small h = let same : b ≡ n = eqb-true b n h in omega arith
 
 plain_small : (b : ℕ) → is_plain b ≡ true → b < 128
 plain_small b h =
@@ -53,10 +47,10 @@ plain_small b h =
     (λ n. or_else (b < 128) (lower || upper) digit
     (λ o. or_else (b < 128) lower upper (within 97 122 b (omega arith)) (within 65 90 b (omega arith)) o)
     (within 48 57 b (omega arith)) n)
-    (is_at b 45 (omega arith)) m)
-    (is_at b 46 (omega arith)) l)
-    (is_at b 95 (omega arith)) k)
-    (is_at b 126 (omega arith)) h
+    (is_small b 45 (omega arith)) m)
+    (is_small b 46 (omega arith)) l)
+    (is_small b 95 (omega arith)) k)
+    (is_small b 126 (omega arith)) h
 
 digit_small : (t : Bool) (n : ℕ) → n < 16 → cond t (48 + n) (55 + n) < 128
 digit_small true n h = omega arith
@@ -85,11 +79,11 @@ keys_utf8 mark (key ∷ keys) low =
     next_utf8 mark (escaped (atom_text key) ++ keys_text 44 keys) low (IsUtf8-append (escaped (atom_text key)) (keys_text 44 keys) (escaped_utf8 (atom_text key)) (keys_utf8 44 keys (omega arith)))
 
 word_utf8 : (kind : ChangeKind) → IsUtf8 (operation_word kind)
-word_utf8 Create = ascii (codes "create") refl
-word_utf8 Delete = ascii (codes "delete") refl
-word_utf8 Insert = ascii (codes "insert") refl
-word_utf8 Move = ascii (codes "move") refl
-word_utf8 Replace = ascii (codes "replace") refl
+word_utf8 Create = IsUtf8-are_ascii (codes "create") refl
+word_utf8 Delete = IsUtf8-are_ascii (codes "delete") refl
+word_utf8 Insert = IsUtf8-are_ascii (codes "insert") refl
+word_utf8 Move = IsUtf8-are_ascii (codes "move") refl
+word_utf8 Replace = IsUtf8-are_ascii (codes "replace") refl
 
 number_utf8 : (n : ℕ) → n < 2 ^ 64 → IsUtf8 (decimal n)
 number_utf8 n low = IsUtf8-from_ascii (decimal n) (IsAscii-decimal n low)
@@ -107,7 +101,7 @@ module _ (nodes : List SchemaNode) (schema : IsSchema nodes) where
   -- ---- change updates
 
   value_readable : (carries : Bool) (target : List Seg) (rows : List Row) → HasWholeRows nodes carries target rows → has_texts target ≡ true → HaveTexts rows → MembersAreReadable (value_member carries (rows_json nodes target rows))
-  value_readable true target rows whole keys texts = (ascii (codes "value") refl, (tt, (rows_readable nodes schema target rows whole.writable keys texts, tt)))
+  value_readable true target rows whole keys texts = (IsUtf8-are_ascii (codes "value") refl, (tt, (rows_readable nodes schema target rows whole.writable keys texts, tt)))
   value_readable false target rows whole keys texts = tt
 
   abbrev TargetStands : Members → Type 0
@@ -119,19 +113,19 @@ module _ (nodes : List SchemaNode) (schema : IsSchema nodes) where
 
   edit_readable : (n : ℕ) (change : Change) → n < 2 ^ 64 → IsHearableChange nodes change → HaveTexts change.rows → IsReadable (edit_data nodes n change)
   edit_readable n change low h texts = (
-    ascii (codes "edit-id") refl,
+    IsUtf8-are_ascii (codes "edit-id") refl,
     (
       refl,
       (
         number_utf8 n low,
         (
-          ascii (codes "operation") refl,
+          IsUtf8-are_ascii (codes "operation") refl,
           (
             refl,
             (
               word_utf8 change.kind,
               (
-                ascii (codes "target") refl,
+                IsUtf8-are_ascii (codes "target") refl,
                 (
                   target_stands (carries_value change.kind) (rows_json nodes change.target change.rows),
                   (
@@ -154,17 +148,17 @@ module _ (nodes : List SchemaNode) (schema : IsSchema nodes) where
   patch_readable : (patch_id : ℕ) (changes : List Change) → AreHearable nodes patch_id changes → AllByRecursion (λ (change : Change). HaveTexts change.rows) changes → IsReadable (patch_data nodes patch_id changes)
   patch_readable patch_id changes h texts =
       let few = h.few in (
-        ascii (codes "yang-patch") refl,
+        IsUtf8-are_ascii (codes "yang-patch") refl,
         (
           tt,
           (
             (
-              ascii (codes "edit") refl,
+              IsUtf8-are_ascii (codes "edit") refl,
               (
                 refl,
                 (
                   edits_readable 1 changes (omega arith) h.each texts,
-                  (ascii (codes "patch-id") refl, (tt, (number_utf8 patch_id h.patch, tt))),
+                  (IsUtf8-are_ascii (codes "patch-id") refl, (tt, (number_utf8 patch_id h.patch, tt))),
                 ),
               ),
             ),
@@ -174,7 +168,7 @@ module _ (nodes : List SchemaNode) (schema : IsSchema nodes) where
       )
 
   mark_readable : (incomplete : Bool) → MembersAreReadable (mark incomplete)
-  mark_readable true = (ascii (codes "incomplete-update") refl, (tt, ((tt, tt), tt)))
+  mark_readable true = (IsUtf8-are_ascii (codes "incomplete-update") refl, (tt, ((tt, tt), tt)))
   mark_readable false = tt
 
   mark_stands : (incomplete : Bool) → StandsBefore (codes "id") (mark incomplete)
@@ -187,16 +181,16 @@ module _ (nodes : List SchemaNode) (schema : IsSchema nodes) where
   pub body_readable : (notice : Notice) → IsHearable nodes notice → HasTexts notice → IsReadable (object (body_of nodes notice))
   body_readable (notices.Full id rows) h texts =
       let low = h.id in
-      (ascii (codes "datastore-contents") refl, (refl, (rows_readable nodes schema [] rows h.body.writable refl texts, (ascii (codes "id") refl, (tt, (omega arith, tt))))))
+      (IsUtf8-are_ascii (codes "datastore-contents") refl, (refl, (rows_readable nodes schema [] rows h.body.writable refl texts, (IsUtf8-are_ascii (codes "id") refl, (tt, (omega arith, tt))))))
   body_readable (notices.Changes id patch_id changes incomplete) h texts =
       let low = h.id in
-      (ascii (codes "datastore-changes") refl, (refl, (patch_readable patch_id changes h.body texts, (ascii (codes "id") refl, (mark_stands incomplete, (omega arith, mark_readable incomplete))))))
-  body_readable (notices.Started id) h texts = let low = h.id in (ascii (codes "id") refl, (tt, (omega arith, tt)))
-  body_readable (notices.Modified id) h texts = let low = h.id in (ascii (codes "id") refl, (tt, (omega arith, tt)))
+      (IsUtf8-are_ascii (codes "datastore-changes") refl, (refl, (patch_readable patch_id changes h.body texts, (IsUtf8-are_ascii (codes "id") refl, (mark_stands incomplete, (omega arith, mark_readable incomplete))))))
+  body_readable (notices.Started id) h texts = let low = h.id in (IsUtf8-are_ascii (codes "id") refl, (tt, (omega arith, tt)))
+  body_readable (notices.Modified id) h texts = let low = h.id in (IsUtf8-are_ascii (codes "id") refl, (tt, (omega arith, tt)))
   body_readable (notices.Suspended id) h texts =
       let low = h.id in
-      (ascii (codes "id") refl, (refl, (omega arith, (ascii (codes "reason") refl, (tt, (ascii (codes "ietf-subscribed-notifications:unsupportable-volume") refl, tt))))))
-  body_readable (notices.Resumed id) h texts = let low = h.id in (ascii (codes "id") refl, (tt, (omega arith, tt)))
+      (IsUtf8-are_ascii (codes "id") refl, (refl, (omega arith, (IsUtf8-are_ascii (codes "reason") refl, (tt, (IsUtf8-are_ascii (codes "ietf-subscribed-notifications:unsupportable-volume") refl, tt))))))
+  body_readable (notices.Resumed id) h texts = let low = h.id in (IsUtf8-are_ascii (codes "id") refl, (tt, (omega arith, tt)))
   body_readable (notices.Terminated id) h texts =
       let low = h.id in
-      (ascii (codes "id") refl, (refl, (omega arith, (ascii (codes "reason") refl, (tt, (ascii (codes "ietf-subscribed-notifications:no-such-subscription") refl, tt))))))
+      (IsUtf8-are_ascii (codes "id") refl, (refl, (omega arith, (IsUtf8-are_ascii (codes "reason") refl, (tt, (IsUtf8-are_ascii (codes "ietf-subscribed-notifications:no-such-subscription") refl, tt))))))

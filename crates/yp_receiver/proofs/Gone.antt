@@ -10,11 +10,12 @@ use Rattle.yp_base.specs.declared.path.Seg.{Seg}
 use Rattle.yp_base.specs.declared.row.Row.{Row}
 use Rattle.yp_base.specs.declared.row.Value.{Value}
 use Rattle.yp_base.specs.Order.{path_cmp, is_within}
-use Rattle.yp_base.specs.PathLaws.{are_one, tie_turned, within_through}
+use Rattle.yp_base.specs.PathLaws.{are_one, tie_turned, covered_below}
 use Rattle.yp_base.specs.Rows.{path_of, value_at, rows_within, AreInOrder}
 use Rattle.yp_base.specs.RowLaws.{AllPast, first_order, rest_order, picked, some_keep_order}
+use Rattle.yp_base.specs.Paths.{is_covered}
 use Rattle.yp_tree.specs.Listed.{without_row}
-use Rattle.yp_receiver.specs.Gone.{is_below_one, is_swept, is_lost, lost_paths, without_paths}
+use Rattle.yp_receiver.specs.Gone.{is_below_one, is_lost, lost_paths, without_paths}
 
 -- the value at a path, of rows that are picked by their paths
 value_at_picked : (p : List Seg → Bool) (path : List Seg) (rows : List Row) → value_at path (picked p rows) ≡ cond (p path) (value_at path rows) None
@@ -107,15 +108,11 @@ lost_within path target news rows =
 
 -- what is at or below the target that was swept last is at or below one of the targets
 abbrev pub AreSwept : List (Bor (List Seg)) → Option (List Seg) → Type 0
-AreSwept targets swept = (path : List Seg) → is_swept swept path ≡ true → is_below_one targets path ≡ true
+AreSwept targets swept = (path : List Seg) → is_covered swept path ≡ true → is_below_one targets path ≡ true
 
 -- these are the paths of the rows at or below a target that have no new one
 abbrev pub AreLost : List (Bor (List Seg)) → List Row → List Row → List (List Seg) → Type 0
 AreLost targets news rows gone = (path : List Seg) → list_any (is_at (path_cmp path)) gone ≡ (is_below_one targets path && is_lost news rows path)
-
-swept_below : (swept : Option (List Seg)) (target path : List Seg) → is_swept swept target ≡ true → is_within target path ≡ true → is_swept swept path ≡ true
-swept_below None target path h within = h
-swept_below (Some above) target path h within = within_through above target path h within
 
 -- what is true where the other is, is so with the other
 or_same : (one two : Bool) → (two ≡ true → one ≡ true) → one ≡ (one || two)
@@ -143,9 +140,9 @@ module _ (targets : List (Bor (List Seg))) (i : ℕ) (target : Bor (List Seg)) (
       ∙ ap (λ b. b && lost) (sym (below_more path))
 
   -- a target at or below the one that was swept last brings nothing
-  module _ (swept : Option (List Seg)) (below : is_swept swept target.now ≡ true) (are : AreSwept (take i targets) swept) where
+  module _ (swept : Option (List Seg)) (below : is_covered swept target.now ≡ true) (are : AreSwept (take i targets) swept) where
     nothing_more : (path : List Seg) → is_below_one (take i targets) path ≡ is_below_one (take (i + 1) targets) path
-    nothing_more path = or_same (is_below_one (take i targets) path) (is_within target.now path) (λ within. are path (swept_below swept target.now path below within)) ∙ sym (below_more path)
+    nothing_more path = or_same (is_below_one (take i targets) path) (is_within target.now path) (λ within. are path (covered_below swept target.now path below within)) ∙ sym (below_more path)
 
     pub swept_same : AreSwept (take (i + 1) targets) swept
     swept_same path h = sym (nothing_more path) ∙ are path h

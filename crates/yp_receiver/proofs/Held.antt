@@ -11,8 +11,6 @@ use Rattle.std.proofs.lemmas.Cmp.{nat_cmp_total}
 use Rattle.std.proofs.lemmas.Map.{NonePasses}
 use Rattle.std.proofs.lemmas.Map.Entries.{none_below_head}
 use Rattle.std.proofs.lemmas.Map.Keys.{sorted_tail}
-use Rattle.yp_base.specs.declared.row.Row.{Row}
-use Rattle.yp_base.specs.Rows.{rows_within}
 
 pub when_ok : {X E : Type 0} {A C : Type 0} (r : Result X E) → OnOk r A → (A → C) → OnOk r C
 when_ok (Ok x) a f = f a
@@ -40,8 +38,3 @@ module _ {X : Type 0} where
   set_there id old rows [] sorted found = let wrong : None ≡ Some old = found in cc
   set_there id old rows (e ∷ es) sorted found =
       found_at (nat_cmp id e.0) id old rows e es refl sorted found (set_there id old rows es (sorted_tail nat_cmp e.0 (keys_of es) sorted))
-
--- all rows are at or below the top
-pub all_within : (rows : List Row) → rows_within [] rows ≡ rows
-all_within [] = refl
-all_within (row ∷ rows) = ap (λ (more : List Row). row ∷ more) (all_within rows)

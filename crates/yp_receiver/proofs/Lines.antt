@@ -47,16 +47,16 @@ byte_utf8 byte h = IsUtf8-are_ascii (byte ∷ []) (and_from (nat_lt byte 128) tr
 
 place_utf8 : (t : Bool) (place : ℕ) (form : List ℕ) (byte : ℕ) (text rest : List ℕ) → fits_place place byte ≡ t → are_ascii (place ∷ form) ≡ true
     → cond t (after_form form text) None ≡ Some rest → (are_ascii form ≡ true → after_form form text ≡ Some rest → IsUtf8 text) → IsUtf8 (byte ∷ text)
-place_utf8 true place form byte text rest fits ascii is further =
-    let parts = and_parts (nat_lt place 128) (are_ascii form) ascii in
+place_utf8 true place form byte text rest fits IsUtf8-are_ascii is further =
+    let parts = and_parts (nat_lt place 128) (are_ascii form) IsUtf8-are_ascii in
     IsUtf8-append (byte ∷ []) text (byte_utf8 byte (place_small (place == 100) place byte fits (ltb-true place 128 parts.0))) (further parts.1 is)
-place_utf8 false place form byte text rest fits ascii is further = let wrong : None ≡ Some rest = is in cc
+place_utf8 false place form byte text rest fits IsUtf8-are_ascii is further = let wrong : None ≡ Some rest = is in cc
 
 -- a text that begins with an ASCII form, whose rest is UTF-8
 form_utf8 : (form text rest : List ℕ) → are_ascii form ≡ true → after_form form text ≡ Some rest → IsUtf8 (drop (length form) text) → IsUtf8 text
-form_utf8 [] text rest ascii is u = u
-form_utf8 (place ∷ form) [] rest ascii is u = let wrong : None ≡ Some rest = is in cc
-form_utf8 (place ∷ form) (byte ∷ text) rest ascii is u = place_utf8 (fits_place place byte) place form byte text rest refl ascii is (λ fine found. form_utf8 form text rest fine found u)
+form_utf8 [] text rest IsUtf8-are_ascii is u = u
+form_utf8 (place ∷ form) [] rest IsUtf8-are_ascii is u = let wrong : None ≡ Some rest = is in cc
+form_utf8 (place ∷ form) (byte ∷ text) rest IsUtf8-are_ascii is u = place_utf8 (fits_place place byte) place form byte text rest refl IsUtf8-are_ascii is (λ fine found. form_utf8 form text rest fine found u)
 
 some_after : (o : Option (List ℕ)) (g : List ℕ → Option ℤ) → is_some (option_and_then g o) ≡ true → (rest : List ℕ) × (o ≡ Some rest)
 some_after None g h = absurd (true≢false (sym h))
@@ -99,16 +99,13 @@ name_later (Terminated id) = refl
 
 -- ---- lines
 
-abbrev ascii : (text : List ℕ) → are_ascii text ≡ true → IsUtf8 text
-ascii text is = IsUtf8-are_ascii text is
-
 envelope_readable : (time : List ℕ) (notice : Notice) (body : Data) → IsUtf8 time → IsReadable body → IsReadable (enveloped time (name_of notice) body)
 envelope_readable time notice body timed readable = (
-  ascii (codes "ietf-restconf:notification") refl,
+  IsUtf8-are_ascii (codes "ietf-restconf:notification") refl,
   (
     tt,
     (
-      (ascii (codes "eventTime") refl, (name_later notice, (timed, (name_utf8 notice, (tt, (readable, tt)))))),
+      (IsUtf8-are_ascii (codes "eventTime") refl, (name_later notice, (timed, (name_utf8 notice, (tt, (readable, tt)))))),
       tt,
     ),
   ),

@@ -17,9 +17,9 @@ use Rattle.yp_base.specs.declared.leaf_type.LeafType.{LeafType}
 use Rattle.yp_base.specs.declared.leaf_type.LeafType.TheVariants.{Bool as TruthType, Int as IntType, Uint as UintType, Dec as DecType, Text as TextType, Names, Empty as EmptyType}
 use Rattle.yp_base.specs.declared.row.Value.{Value}
 use Rattle.yp_base.specs.declared.row.Value.TheVariants.{Atom as Plain, Member, Empty, Present}
-use Rattle.yp_base.specs.Json.{atom_data, value_data, value_fits, has_string_numbers}
-use Rattle.yp_base.specs.TextLaws.{each_width, or_else}
-use Rattle.yp_base.specs.Texts.{atom_text, fits, is_between}
+use Rattle.yp_value.specs.Json.{atom_data, value_data, value_fits, has_string_numbers}
+use Rattle.yp_value.specs.TextLaws.{or_else, widths_fit}
+use Rattle.yp_value.specs.Texts.{atom_text, fits, is_between}
 use Rattle.yp_base.specs.Types.{is_type, is_width}
 use Rattle.yp_base.specs.declared.path.Seg.{Seg}
 use Rattle.yp_base.specs.declared.row.Row.{Row}
@@ -34,13 +34,14 @@ use Rattle.yp_schema.specs.declared.schema.SchemaNode.{SchemaNode}
 use Rattle.yp_schema.specs.declared.schema.Kind.{Kind}
 use Rattle.yp_schema.specs.declared.schema.Kind.TheVariants.{Container, Presence, List as Listing, Leaf, LeafList}
 use Rattle.yp_schema.specs.Nodes.{node_at, qualified_name}
-use Rattle.yp_schema.specs.WellFormed.{IsSchema, is_letter, begins_name, goes_on_name, go_on_name, is_identifier, is_at_home, is_empty}
+use Rattle.yp_schema.specs.WellFormed.{IsSchema, is_letter, begins_name, goes_on_name, go_on_name, is_identifier, is_at_home}
 use Rattle.yp_schema.specs.Datastore.{atom_fits, typed_fits, keys_fit, one_fits, is_segment, keys_of_kind, value_of_kind, may_end, goes_to_row, goes_down, is_path_of, is_place, ends_in_key, IsRowOf, AreWritable}
-use Rattle.yp_schema.specs.SchemaLaws.{type_is, keys_within, segment_within, node_after, end_segment, end_kind, row_ends, path_down, last_is_segment}
+use Rattle.yp_schema.specs.SchemaLaws.{type_is, keys_within, segment_within, node_after, end_segment, end_kind, row_ends, path_down, last_is_segment, plain_fits, empty_keys}
 use Rattle.yp_path.specs.Targets.{are_texts, has_texts}
 use Rattle.yp_data_json.specs.Runs.{StandsBefore, has_items, GoesOn}
 use Rattle.yp_data_json.specs.Forest.{Forest, bare, branch, own_of, laid, forest_at}
 use Rattle.yp_data_json.specs.Writing.{leaf_data, key_data, one_key_data, with_keys, item_data, Entry, Gathered, no_nodes, single, entries, entry_in_front, branch_in_front, members_of, gathered, members_in, place_data, rows_json}
+use Rattle.yp_data_json.specs.RunLaws.{before_put}
 use Rattle.yp_receiver.specs.Readable.{has_value_text, HaveTexts, IsWhole, IsReadable, MembersAreReadable}
 
 -- ---- values
@@ -54,12 +55,9 @@ not_too_low k n h low = omega arith
 below_width : (k n : ℕ) → n ≤ k → k < 2 ^ 64 → n < 2 ^ 64
 below_width k n h low = omega arith
 
-widths : (bits : ℕ) → is_width bits ≡ true → (2 ^ (bits - 1) ≤ 2 ^ 63) × (2 ^ bits - 1 < 2 ^ 64)
-widths = each_width (λ bits. (2 ^ (bits - 1) ≤ 2 ^ 63) × (2 ^ bits - 1 < 2 ^ 64)) (omega arith, omega arith) (omega arith, omega arith) (omega arith, omega arith) (omega arith, omega arith)
-
 int_whole : (bits : ℕ) (z : ℤ) → is_width bits ≡ true → is_between (2 ^ (bits - 1)) (2 ^ (bits - 1) - 1) z ≡ true → IsWhole (of_integer z)
-int_whole bits (pos n) width h = low_enough (2 ^ (bits - 1)) n (leb-true n (2 ^ (bits - 1) - 1) h) (widths bits width).0
-int_whole bits (negsuc n) width h = not_too_low (2 ^ (bits - 1)) n (leb-true (suc n) (2 ^ (bits - 1)) h) (widths bits width).0
+int_whole bits (pos n) width h = low_enough (2 ^ (bits - 1)) n (leb-true n (2 ^ (bits - 1) - 1) h) (widths_fit bits width).0
+int_whole bits (negsuc n) width h = not_too_low (2 ^ (bits - 1)) n (leb-true (suc n) (2 ^ (bits - 1)) h) (widths_fit bits width).0
 
 either : (t : Bool) (one two : Data) → IsReadable one → IsReadable two → IsReadable (cond t one two)
 either true one two h k = h
@@ -77,7 +75,7 @@ int_readable EmptyType z t h = absurd (true≢false (sym h))
 uint_readable : (ty : LeafType) (n : ℕ) → is_type ty ≡ true → fits ty (Uint n) ≡ true → n < 2 ^ 64
 uint_readable TruthType n t h = absurd (true≢false (sym h))
 uint_readable (IntType bits) n t h = absurd (true≢false (sym h))
-uint_readable (UintType bits) n t h = below_width (2 ^ bits - 1) n (leb-true n (2 ^ bits - 1) h) (widths bits t).1
+uint_readable (UintType bits) n t h = below_width (2 ^ bits - 1) n (leb-true n (2 ^ bits - 1) h) (widths_fit bits t).1
 uint_readable (DecType places) n t h = absurd (true≢false (sym h))
 uint_readable TextType n t h = absurd (true≢false (sym h))
 uint_readable (Names names) n t h = absurd (true≢false (sym h))
@@ -96,23 +94,13 @@ atom_readable ty (Text text) t h u = IsUtf8-from_is_utf8 text u
 after_turned : (name other : List ℕ) → slice_cmp nat_cmp name other ≡ Greater → slice_cmp nat_cmp other name ≡ Less
 after_turned name other h = nat_list_cmp_total.antisymm other name ∙ ap ordering_reverse h
 
--- what stands before a name and before others stands before all of them
-still_before : (first name : List ℕ) (d : Data) (ms : Members) → slice_cmp nat_cmp first name ≡ Less → StandsBefore first ms → StandsBefore first (put name d ms)
-still_before first name d no_members less h = less
-still_before first name d (member other e ms) less h =
-    elim (slice_cmp nat_cmp name other) as (λ o. StandsBefore first (match_ordering o (member name d (member other e ms)) (member other d ms) (member other e (put name d ms)))) [
-      | Less ↦ less
-      | Equal ↦ h
-      | Greater ↦ h
-    ]
-
 put_readable : (name : List ℕ) (d : Data) (ms : Members) → IsUtf8 name → IsReadable d → MembersAreReadable ms → MembersAreReadable (put name d ms)
 put_readable name d no_members u one h = (u, (tt, (one, tt)))
 put_readable name d (member other e ms) u one h =
     elim (slice_cmp nat_cmp name other) as (λ o. slice_cmp nat_cmp name other ≡ o → MembersAreReadable (match_ordering o (member name d (member other e ms)) (member other d ms) (member other e (put name d ms)))) [
       | Less ↦ λ is. (u, (is, (one, h)))
       | Equal ↦ λ is. (h.0, (h.1.0, (one, h.1.1.1)))
-      | Greater ↦ λ is. (h.0, (still_before other name d ms (after_turned name other is) h.1.0, (h.1.1.0, put_readable name d ms u one h.1.1.1)))
+      | Greater ↦ λ is. (h.0, (before_put other name d ms (after_turned name other is) h.1.0, (h.1.1.0, put_readable name d ms u one h.1.1.1)))
     ] refl
 
 -- ---- names are ASCII
@@ -123,7 +111,7 @@ letter_small b h =
     (λ e. let top = leb-true b 122 (and_parts (nat_le 97 b) (nat_le b 122) e).1 in omega arith)
     (λ e. let top = leb-true b 90 (and_parts (nat_le 65 b) (nat_le b 90) e).1 in omega arith) h
 
-is_small : (b n : ℕ) → n < 128 → (b == n) ≡ true → b < 128
+pub is_small : (b n : ℕ) → n < 128 → (b == n) ≡ true → b < 128
 is_small b n low h = let same : b ≡ n = eqb-true b n h in omega arith
 
 begins_small : (b : ℕ) → begins_name b ≡ true → b < 128
@@ -171,12 +159,8 @@ leaf_readable : (o : Option LeafType) (value : Value) → HasType o → typed_fi
 leaf_readable None value typed h u = tt
 leaf_readable (Some ty) value typed h u = value_readable ty value (typed ty refl) h u
 
-key_fits : (o : Option LeafType) (key : Atom) → atom_fits o key ≡ true → typed_fits o (Plain key) ≡ true
-key_fits None key h = h
-key_fits (Some ty) key h = h
-
 key_readable : (o : Option LeafType) (key : Atom) → HasType o → atom_fits o key ≡ true → is_utf8 (atom_text key) ≡ true → IsReadable (key_data o key)
-key_readable o key typed h u = leaf_readable o (Plain key) typed (key_fits o key h) u
+key_readable o key typed h u = leaf_readable o (Plain key) typed (plain_fits o key h) u
 
 one_key_readable : (o : Option LeafType) (keys : List Atom) → HasType o → one_fits o keys ≡ true → are_texts keys ≡ true → IsReadable (one_key_data o keys)
 one_key_readable o [] typed h u = tt
@@ -202,16 +186,12 @@ record Under (nodes : List SchemaNode) (at : List Seg) (row : Row) : Type 0 wher
 segment_keys : (nodes : List SchemaNode) (seg : Seg) → is_segment nodes seg ≡ true → keys_of_kind (node_at seg.node nodes).kind nodes (node_at seg.node nodes) seg.keys ≡ true
 segment_keys nodes seg is = (and_parts (nat_lt seg.node (length nodes)) (keys_of_kind (node_at seg.node nodes).kind nodes (node_at seg.node nodes) seg.keys) is).1
 
-empty_is : (keys : List Atom) → is_empty keys ≡ true → keys ≡ []
-empty_is [] h = refl
-empty_is (key ∷ keys) h = absurd (true≢false (sym h))
-
 -- a node without entries asks for no keys
 no_keys : (nodes : List SchemaNode) (k : Kind) (node : SchemaNode) (keys : List Atom) → has_items k ≡ false → keys_of_kind k nodes node keys ≡ true → keys ≡ []
-no_keys nodes Container node keys alone h = empty_is keys h
-no_keys nodes Presence node keys alone h = empty_is keys h
+no_keys nodes Container node keys alone h = empty_keys keys h
+no_keys nodes Presence node keys alone h = empty_keys keys h
 no_keys nodes Listing node keys alone h = absurd (true≢false alone)
-no_keys nodes Leaf node keys alone h = empty_is keys h
+no_keys nodes Leaf node keys alone h = empty_keys keys h
 no_keys nodes LeafList node keys alone h = absurd (true≢false alone)
 
 same_itself : (o : Option ℕ) → same_number o o ≡ true

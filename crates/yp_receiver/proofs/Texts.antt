@@ -1,6 +1,6 @@
 -- What is written of readable JSON is read again.
 use Rattle.std.proofs.Common.{◌≡◌, ℕ, ◌≤◌, pos, negsuc, List, [], ◌∷◌, ◌++◌, max, suc, Bool, true, false, cond, Option, Some, None, option_map, option_and_then, Less, Greater, nat_cmp, IsUtf8, refl, sym, ap, ap₂, ◌∙◌, append-nil, eq-eqb}
-use Rattle.std.specs.Ordering.{ordering_reverse, match_ordering}
+use Rattle.std.specs.Ordering.{match_ordering}
 use Rattle.std.specs.Cmp.Lexicographic.{slice_cmp, nat_list_cmp_total}
 use Rattle.std.proofs.lemmas.Fmt.{IsAscii-decimal, IsAscii-signed}
 use Rattle.std.proofs.lemmas.Str.{IsUtf8-append, IsUtf8-nil, IsUtf8-from_ascii, utf8_valid_len-IsUtf8}
@@ -19,8 +19,9 @@ use Rattle.serde_json.specs.Written.{number_text, outline, items_outline, member
 use Rattle.serde_json.proofs.Numbers.{number_of-decimal, number_of-negative}
 use Rattle.serde_json.proofs.Texts.{print-outline}
 use Rattle.yp_data_json.specs.Runs.{StandsBefore}
-use Rattle.yp_decode.specs.Envelope.{json_of}
+use Rattle.yp_value.specs.Json.{json_of}
 use Rattle.yp_receiver.specs.Readable.{IsWhole, IsReadable, ItemsAreReadable, MembersAreReadable}
+use Rattle.yp_base.specs.PathLaws.{less_text_turned}
 
 -- ---- numbers
 
@@ -76,9 +77,6 @@ before_more : (name : List ℕ) (found : Members) (other : List ℕ) (d : Data) 
 before_more name no_members other d h past = (past, tt)
 before_more name (member first e found) other d h past = (h.0, before_more name found other d h.1 past)
 
-turned : (name other : List ℕ) → slice_cmp nat_cmp name other ≡ Less → slice_cmp nat_cmp other name ≡ Greater
-turned name other h = nat_list_cmp_total.antisymm other name ∙ ap ordering_reverse h
-
 -- a name before another that stands before members
 lower : (name other : List ℕ) (ms : Members) → slice_cmp nat_cmp name other ≡ Less → StandsBefore other ms → StandsBefore name ms
 lower name other no_members h stands = tt
@@ -87,7 +85,7 @@ lower name other (member third d ms) h stands = nat_list_cmp_total.trans name ot
 past_more : (found : Members) (name : List ℕ) (d : Data) (ms : Members) → AllPast found ms → StandsBefore name ms → MembersAreReadable ms → AllPast (joined found (member name d no_members)) ms
 past_more found name d no_members past stands h = tt
 past_more found name d (member other e ms) past stands h =
-    (before_more other found name d past.0 (turned name other stands), past_more found name d ms past.1 (lower name other ms stands h.1.0) h.1.1.1)
+    (before_more other found name d past.0 (less_text_turned name other stands), past_more found name d ms past.1 (lower name other ms stands h.1.0) h.1.1.1)
 
 none_past : (ms : Members) → AllPast no_members ms
 none_past no_members = tt

@@ -1,5 +1,5 @@
 -- Rows that the edits of a change update take away.
-use Rattle.std.specs.Prelude.{◌≡◌, List, [], ◌∷◌, map, filter, Bool, false, ◌&&◌, not, Option, Some, None, is_some}
+use Rattle.std.specs.Prelude.{◌≡◌, List, [], ◌∷◌, map, filter, Bool, ◌&&◌, not, is_some}
 use Rattle.std.specs.Borrow.{Bor}
 use Rattle.std.specs.BTreeMap.{is_at}
 use Rattle.std.specs.List.{list_any}
@@ -17,11 +17,6 @@ is_targeted changes path = list_any (λ change. is_within change.target path) ch
 -- whether a path is at or below one of these
 abbrev pub is_below_one : List (Bor (List Seg)) → List Seg → Bool
 is_below_one targets path = list_any (λ target. is_within target.now path) targets
-
--- whether it is at or below one, where there is one
-abbrev pub is_swept : Option (List Seg) → List Seg → Bool
-is_swept None path = false
-is_swept (Some above) path = is_within above path
 
 -- whether a path has a row, and no new one
 abbrev pub is_lost : List Row → List Row → List Seg → Bool

@@ -6,7 +6,7 @@ use Rattle.serde_json.specs.Data.{Num, unsigned, negative, float, Data, null, bo
 use Rattle.yp_base.specs.declared.row.Row.{Row}
 use Rattle.yp_base.specs.declared.row.Value.{Value}
 use Rattle.yp_base.specs.declared.row.Value.TheVariants.{Atom as Plain, Member, Empty, Present}
-use Rattle.yp_base.specs.Texts.{atom_text}
+use Rattle.yp_value.specs.Texts.{atom_text}
 use Rattle.yp_path.specs.Targets.{has_texts}
 use Rattle.yp_data_json.specs.Runs.{StandsBefore}
 

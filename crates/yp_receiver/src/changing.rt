@@ -1,8 +1,8 @@
 //! Change updates, of which a tree takes all edits or none.
-ghost use Rattle.std.specs.Prelude.{◌≡◌, ◌++◌, ◌<◌, [], List, option_copied, OnOk, OnErr, IfOk};
+ghost use Rattle.std.specs.Prelude.{◌≡◌, ◌++◌, ◌<◌, [], List, OnOk, OnErr, IfOk};
 ghost use Rattle.yp_base.specs.declared.path.Seg.{Seg};
 ghost use Rattle.yp_base.specs.Rows.{AreInOrder, put_rows, rows_within, rows_without, changed_by};
-ghost use Rattle.yp_receiver.specs.Gone.{AreGone, is_below_one, is_swept, is_targeted, lost_paths, without_paths};
+ghost use Rattle.yp_receiver.specs.Gone.{AreGone, is_below_one, is_targeted, lost_paths, without_paths};
 
 use crate::finder::Finder;
 use std::alloc::Global;
@@ -10,7 +10,7 @@ use std::marker::Brand;
 use std::sync::ledger::{Blank, Ledger};
 use yp_base::memory::{Duplicate, NoMemory};
 use yp_base::notice::Change;
-use yp_base::path::{Path, is_prefix};
+use yp_base::path::{Path, is_covered};
 use yp_base::row::{Row, Rows};
 use yp_base::steps::Steps;
 use yp_tree::rising::Rising;
@@ -59,16 +59,6 @@ fn targets_of<'a>(alloc: Global, changes: &'a [Change]) -> Result<Vec<&'a Path>,
     }
     targets.sort()?;
     Ok(targets)
-}
-
-/// Whether a path is at or below another, where there is one.
-fn is_swept(above: Option<&Path>, path: &Path) -> bool
-    ensures { result ≡ is_swept (option_copied above.entry) path.now }
-{
-    match above {
-        Some(above) => is_prefix(above, path),
-        None => false,
-    }
 }
 
 /// The rows of a tree, and the rows that edits put over them.
@@ -123,7 +113,7 @@ impl<'a> Layers<'a> {
         let mut gone = Vec::new(alloc);
         let mut swept = None;
         for target in targets.as_slice() {
-            if !is_swept(swept, target) {
+            if !is_covered(swept, target) {
                 self.add_lost(alloc, target, &mut gone, steps)?;
                 swept = Some(*target);
             }

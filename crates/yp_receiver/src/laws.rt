@@ -15,7 +15,7 @@ ghost use Rattle.yp_data_json.specs.Writing.{rows_json};
 ghost use Rattle.yp_time.specs.Instants.{event_text, IsStart};
 ghost use Rattle.yp_time.specs.Ticks.{tick_limit};
 ghost use Rattle.yp_encode.specs.Lines.{notification_data, line_of};
-ghost use Rattle.yp_decode.specs.Envelope.{json_of};
+ghost use Rattle.yp_value.specs.Json.{json_of};
 ghost use Rattle.yp_decode.specs.Grammar.{heard_in, line_heard};
 ghost use Rattle.yp_receiver.specs.Hearable.{subscription_of, tells_state, IsHearable, HasReadableText, IsTold};
 ghost use Rattle.yp_receiver.specs.Held.{lines_heard, notices_heard};

@@ -1,6 +1,6 @@
 -- What an establishment that no reason speaks against leaves.
-use Rattle.std.proofs.Common.{◌≡◌, ℕ, ◌+◌, ◌<◌, ◌≤◌, ◌∷◌, [], List, ◌++◌, length, Bool, true, false, Option, Some, None, Ok, Err, refl, arith, sym, ap}
-use Rattle.std.specs.Prelude.{nat_lt, if◌then◌else◌, Result, unwrap_or}
+use Rattle.std.proofs.Common.{◌≡◌, ℕ, ◌+◌, ◌<◌, ◌≤◌, ◌∷◌, [], List, ◌++◌, length, true, false, Option, Some, None, Ok, Err, refl, arith, sym, ap}
+use Rattle.std.specs.Prelude.{nat_lt, Result, unwrap_or}
 use Rattle.std.specs.List.{AllByRecursion}
 use Rattle.std.proofs.lemmas.Bool.{or_parts, ltb-false}
 use Rattle.std.proofs.lemmas.Int.{ints}
@@ -17,7 +17,8 @@ use Rattle.yp_terms.specs.declared.refused.Refused.{Refused}
 use Rattle.yp_terms.specs.declared.refused.Refused.TheVariants.{AccessDenied, EncodingUnsupported, DatastoreNotSubscribable, FilterUnsupported, PeriodUnsupported, NoSuchSubscription, OnChangeSyncUnsupported, InvalidTrigger, InvalidId, InvalidReceiver, InsufficientResources, Memory}
 use Rattle.yp_terms.specs.declared.ask.FilterAsk.{FilterAsk}
 use Rattle.yp_terms.specs.Terms.{Terms, AreTermsOf, HasAnchor, IsFollowed, if_read, is_too_short, with_anchor, asked_for}
-use Rattle.yp_terms.specs.Refusals.{Reason, first_refusal, or_refused, Fails}
+use Rattle.yp_terms.specs.Refusals.{first_refusal, or_refused, Fails}
+use Rattle.yp_terms.specs.RefusalLaws.{none_holds}
 use Rattle.yp_registry.specs.Registry.{Subscriptions, reasons_against, lacks_room, no_subscriptions, most_feeds, last_id, next_id, feeds, terms_for, with_terms, established, after_refusal, establish_answer, IsRegistryOf}
 use Rattle.yp_registry.proofs.Feeds.{feeds_pushed}
 
@@ -42,21 +43,7 @@ fails_alike refusal x y InvalidReceiver h = same_refusal refusal x y InvalidRece
 fails_alike refusal x y InsufficientResources h = same_refusal refusal x y InsufficientResources h
 fails_alike refusal x y Memory h = tt
 
--- what is given is not refused
-pub not_refused : {X : Type 0} (refusal : Option Refused) (x y : X) → or_refused refusal x ≡ Ok y → (refusal ≡ None) × (x ≡ y)
-not_refused None x y h = (refl, cc)
-not_refused (Some refusal) x y h = cc
-
 -- ---- reasons
-
-passed : (holds : Bool) (refusal : Refused) (rest : Option Refused) → (if holds then Some refusal else rest) ≡ None → (holds ≡ false) × (rest ≡ None)
-passed true refusal rest h = cc
-passed false refusal rest h = (refl, h)
-
--- where nothing is refused, no reason holds
-pub none_holds : (reasons : List Reason) → first_refusal reasons ≡ None → AllByRecursion (λ (reason : Reason). reason.0 ≡ false) reasons
-none_holds [] h = tt
-none_holds (reason ∷ reasons) h = let rest = passed reason.0 reason.1 (first_refusal reasons) h in (rest.0, none_holds reasons rest.1)
 
 -- so no period is too short, and there is room
 pub fitting : (nodes : List SchemaNode) (policy : Policy) (registry : Subscriptions) (by : ℕ) (ask : Ask) → first_refusal (reasons_against nodes policy registry by ask) ≡ None

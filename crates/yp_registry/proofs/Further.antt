@@ -15,10 +15,11 @@ use Rattle.yp_terms.specs.Refusals.{first_refusal, or_refused}
 use Rattle.yp_registry.specs.Registry.{Subscriptions, IsRegistryOf, live_at}
 use Rattle.yp_registry.specs.Calls.{delete_answer, delete_reasons, done_unless, if_meant, kill_answer, kill_reasons, lacks_sync, left_unless, resync_answer, resync_reasons, unconfigure_answer, unconfigure_reasons, with_end}
 use Rattle.yp_terms.specs.Amends.{given_filter, is_given_short, HasGivenAnchor, is_other_kind, with_given, amended_terms}
+use Rattle.yp_terms.specs.RefusalLaws.{none_holds, not_refused, nothing_refused}
 use Rattle.yp_registry.specs.Amending.{modified_by, modify_answer, modify_reasons, reconfigure_answer, reconfigure_reasons, reconfigured, with_change}
 use Rattle.yp_registry.specs.Configuring.{configure_answer, configure_reasons, configured_terms, exceeds_feeds, is_configurable, is_id_taken, newly_configured, numbers_named, with_configured}
 use Rattle.yp_registry.specs.Ids.{HasRisingIds}
-use Rattle.yp_registry.proofs.Establishing.{AskedFiltersFit, none_holds, not_refused}
+use Rattle.yp_registry.proofs.Establishing.{AskedFiltersFit}
 use Rattle.yp_registry.proofs.Finding.{none_of}
 use Rattle.yp_registry.proofs.Keeping.{amended_kept, change_rises, configured_kept, configured_rises, end_kept, end_rises, none_has, taken_now, taken_stays}
 
@@ -39,9 +40,6 @@ done_leaves (Some refusal) before after h = cc
 done_leaves None before after h = refl
 
 -- ---- where nothing is refused
-
-done_none : (refusal : Option Refused) → done_unless refusal ≡ Ok tt → refusal ≡ None
-done_none refusal done = (not_refused refusal tt tt done).0
 
 -- of what is there and is meant, what isn't lacking holds
 meant_and : (is_meant : Terms → Bool) (lacks : Option Terms → Bool) (found : Option Terms) → is_none (if_meant is_meant found) ≡ false → lacks (if_meant is_meant found) ≡ false
@@ -64,35 +62,35 @@ meant is_meant found there =
 pub modified_is : (nodes : List SchemaNode) (policy : Policy) (registry : Subscriptions) (by id : ℕ) (amend : Amend) → modify_answer nodes policy registry by id amend ≡ Ok tt
     → IsSomeAnd (live_at id registry.live) (λ (terms : Terms). (is_established_by by terms ≡ true) × (is_other_kind amend.trigger (Some terms) ≡ false))
 modified_is nodes policy registry by id amend done =
-    let none = none_holds (modify_reasons nodes policy registry by id amend) (done_none (first_refusal (modify_reasons nodes policy registry by id amend)) done) in
+    let none = none_holds (modify_reasons nodes policy registry by id amend) (nothing_refused (first_refusal (modify_reasons nodes policy registry by id amend)) done) in
     meant_and (is_established_by by) (is_other_kind amend.trigger) (live_at id registry.live) none.1.1.1.0 none.1.1.1.1.0
 
 pub reconfigured_is : (nodes : List SchemaNode) (registry : Subscriptions) (id : ℕ) (amend : Amend) → reconfigure_answer nodes registry id amend ≡ Ok tt
     → IsSomeAnd (live_at id registry.live) (λ (terms : Terms). (terms.configured ≡ true) × (is_other_kind amend.trigger (Some terms) ≡ false))
 reconfigured_is nodes registry id amend done =
-    let none = none_holds (reconfigure_reasons nodes registry id amend) (done_none (first_refusal (reconfigure_reasons nodes registry id amend)) done) in
+    let none = none_holds (reconfigure_reasons nodes registry id amend) (nothing_refused (first_refusal (reconfigure_reasons nodes registry id amend)) done) in
     meant_and (λ (terms : Terms). terms.configured) (is_other_kind amend.trigger) (live_at id registry.live) none.1.1.0 none.1.1.1.0
 
 pub deleted_is : (policy : Policy) (registry : Subscriptions) (by id : ℕ) → delete_answer policy registry by id ≡ Ok tt → IsSomeAnd (live_at id registry.live) (λ (terms : Terms). is_established_by by terms ≡ true)
 deleted_is policy registry by id done =
-    let none = none_holds (delete_reasons policy registry by id) (done_none (first_refusal (delete_reasons policy registry by id)) done) in
+    let none = none_holds (delete_reasons policy registry by id) (nothing_refused (first_refusal (delete_reasons policy registry by id)) done) in
     meant (is_established_by by) (live_at id registry.live) none.1.0
 
 pub killed_is : (policy : Policy) (registry : Subscriptions) (by id : ℕ) → kill_answer policy registry by id ≡ Ok tt → IsSomeAnd (live_at id registry.live) (λ (terms : Terms). not terms.configured ≡ true)
 killed_is policy registry by id done =
-    let none = none_holds (kill_reasons policy registry by id) (done_none (first_refusal (kill_reasons policy registry by id)) done) in
+    let none = none_holds (kill_reasons policy registry by id) (nothing_refused (first_refusal (kill_reasons policy registry by id)) done) in
     meant (λ (terms : Terms). not terms.configured) (live_at id registry.live) none.1.0
 
 pub resynced_is : (policy : Policy) (registry : Subscriptions) (by id : ℕ) → resync_answer policy registry by id ≡ Ok tt
     → IsSomeAnd (live_at id registry.live) (λ (terms : Terms). (is_established_by by terms ≡ true) × (has_sync terms.trigger ≡ true))
 resynced_is policy registry by id done =
-    let none = none_holds (resync_reasons policy registry by id) (done_none (first_refusal (resync_reasons policy registry by id)) done) in
+    let none = none_holds (resync_reasons policy registry by id) (nothing_refused (first_refusal (resync_reasons policy registry by id)) done) in
     weaker (λ (terms : Terms). (is_established_by by terms ≡ true) × (lacks_sync (Some terms) ≡ false)) (λ (terms : Terms). (is_established_by by terms ≡ true) × (has_sync terms.trigger ≡ true)) (live_at id registry.live)
     (λ terms both. (both.0, not-false (has_sync terms.trigger) both.1)) (meant_and (is_established_by by) lacks_sync (live_at id registry.live) none.1.0 none.1.1.0)
 
 pub unconfigured_is : (registry : Subscriptions) (id : ℕ) → unconfigure_answer registry id ≡ Ok tt → IsSomeAnd (live_at id registry.live) (λ (terms : Terms). terms.configured ≡ true)
 unconfigured_is registry id done =
-    let none = none_holds (unconfigure_reasons registry id) (done_none (first_refusal (unconfigure_reasons registry id)) done) in
+    let none = none_holds (unconfigure_reasons registry id) (nothing_refused (first_refusal (unconfigure_reasons registry id)) done) in
     meant (λ (terms : Terms). terms.configured) (live_at id registry.live) none.0
 
 modify_long : (nodes : List SchemaNode) (policy : Policy) (registry : Subscriptions) (by id : ℕ) (amend : Amend) → first_refusal (modify_reasons nodes policy registry by id amend) ≡ None → is_given_short amend.trigger ≡ false
@@ -151,7 +149,7 @@ configured_keeps_rising nodes registry id receivers ask now is =
 
 module _ (nodes : List SchemaNode) (registry : Subscriptions) (id : ℕ) (receivers : List (List ℕ)) (ask : Ask) where
   done_free : configure_answer nodes registry id receivers ask ≡ Ok tt → first_refusal (configure_reasons nodes registry id receivers ask) ≡ None
-  done_free done = (not_refused (first_refusal (configure_reasons nodes registry id receivers ask)) tt tt done).0
+  done_free done = nothing_refused (first_refusal (configure_reasons nodes registry id receivers ask)) done
 
   pub taken_then : (now : ℕ) → configure_answer nodes registry id receivers ask ≡ Ok tt → is_id_taken id (newly_configured nodes registry id receivers ask now) ≡ true
   taken_then now done =

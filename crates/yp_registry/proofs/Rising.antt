@@ -12,10 +12,11 @@ use Rattle.yp_terms.specs.declared.ask.Ask.{Ask}
 use Rattle.yp_terms.specs.declared.refused.Refused.{Refused}
 use Rattle.yp_terms.specs.Terms.{Terms}
 use Rattle.yp_terms.specs.Refusals.{first_refusal, or_refused}
+use Rattle.yp_terms.specs.RefusalLaws.{not_refused}
 use Rattle.yp_registry.specs.Registry.{Subscriptions, no_subscriptions, live_at, next_id, reasons_against, terms_for, with_terms, after_refusal, established, establish_answer}
 use Rattle.yp_registry.specs.Configuring.{is_configurable, is_id_taken}
 use Rattle.yp_registry.specs.Ids.{HasRisingIds}
-use Rattle.yp_registry.proofs.Establishing.{not_refused, given_state}
+use Rattle.yp_registry.proofs.Establishing.{given_state}
 
 -- ---- ids
 

@@ -28,7 +28,8 @@ use Rattle.yp_decode.specs.declared.envelope.StateChange.TheVariants.{Started, M
 use Rattle.yp_decode.specs.declared.fault.StreamFault.TheVariants as faults
 use Rattle.yp_decode.specs.declared.fault.TargetFault.TheVariants.{KeyLeaf}
 use Rattle.yp_decode.specs.Bodies.{EditBody, full_in, changes_in, state_in}
-use Rattle.yp_decode.specs.Envelope.{Envelope, json_of, envelope_in, kind_named}
+use Rattle.yp_value.specs.Json.{json_of}
+use Rattle.yp_decode.specs.Envelope.{Envelope, envelope_in, kind_named}
 use Rattle.yp_decode.specs.Grammar.{of_target, unkeyed, place_in, PlacedEdit, edits_placed, of_data, rows_in, heard_change, edit_heard, edits_heard, full_heard, changes_heard, state_notice, body_heard, notice_heard, heard_in, line_heard}
 
 -- rows of the schema

@@ -7,8 +7,8 @@ ghost use Rattle.yp_schema.specs.declared.schema.SchemaNode.{SchemaNode};
 ghost use Rattle.yp_schema.specs.Datastore.{AreWritable};
 ghost use Rattle.yp_receiver.specs.Held.{lines_heard};
 
-use yp_base::text::read_text_fits;
 use yp_data_json::holding::what_is_read_is_whole;
+use yp_value::text::read_text_fits;
 
 /// What a receiver holds after whichever lines can be written at the top: rows of the schema, in order.
 pub fn what_is_held_can_be_written()

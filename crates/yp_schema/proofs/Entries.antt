@@ -10,6 +10,7 @@ use Rattle.std.proofs.lemmas.List.Sorted.{IsPermutation-refl, IsPermutation-tran
 use Rattle.yp_schema.specs.declared.listing.Listed.{Listed}
 use Rattle.yp_schema.specs.Names.{Names, names_cmp}
 use Rattle.yp_schema.specs.Rounds.{Nodes, listed_at}
+use Rattle.yp_base.specs.Elements.{get_map}
 use Rattle.yp_schema.proofs.Rising.{Above, Rising, names_exact, same_path, turned_back, above_all, listed_get, get_listed}
 
 -- ---- what is among them
@@ -19,13 +20,6 @@ get_contains xs n x h = (n, slice_get_within xs n x h, get_or_from_slice_get xs 
 
 contains_get : {X : Type 0} (xs : List X) (x : X) → Contains xs x → (n : ℕ) × (slice_get xs n ≡ Some x)
 contains_get xs x c = (c.0, slice_get-get_or xs c.0 x c.1 ∙ ap Some c.2)
-
-get_map : {X Y : Type 0} (f : X → Y) (xs : List X) (n : ℕ) (y : Y) → slice_get (map f xs) n ≡ Some y → (x : X) × (slice_get xs n ≡ Some x) × (f x ≡ y)
-get_map {X} {Y} f xs n y h = got (slice_get xs n) refl (sym (slice_get-map f xs n) ∙ h)
-  where
-    got : (o : Option X) → slice_get xs n ≡ o → option_map f o ≡ Some y → (x : X) × (slice_get xs n ≡ Some x) × (f x ≡ y)
-    got None is k = cc
-    got (Some x) is k = (x, is, (cc))
 
 pub contains_map : {X Y : Type 0} (f : X → Y) (xs : List X) (x : X) → Contains xs x → Contains (map f xs) (f x)
 contains_map f xs x c = let at = contains_get xs x c in get_contains (map f xs) at.0 (f x) (slice_get-map f xs at.0 ∙ ap (option_map f) at.1)

@@ -3,7 +3,6 @@ pub mod ByteOrder
 pub mod After
 pub mod Compiling
 pub mod Cuts
-pub mod Distinct
 pub mod Ends
 pub mod Entries
 pub mod Flags

@@ -18,7 +18,7 @@ use Rattle.yp_base.specs.Cuts.{cut}
 use Rattle.yp_schema.specs.Names.{Names, front, last, rooted, names_in, around_colon}
 use Rattle.yp_schema.specs.WellFormed.{is_name, is_empty, has_none}
 use Rattle.yp_schema.specs.Enumerations.{in_byte_order}
-use Rattle.yp_base.specs.Json.{text_member}
+use Rattle.yp_value.specs.Json.{text_member}
 use Rattle.yp_schema.specs.Stated.{with_shape, has_only, flag_member, tested, are_key_names, texts_member, container_in, container_kind, list_in, enumeration_in, typed_in, leaf_in, of_kind, body_in, body, type_in, integer_in, decimal_at, places_in, form_of, form_in, stated_in, stated, node_in}
 use Rattle.yp_schema.specs.SchemaLaws.{colon_found}
 

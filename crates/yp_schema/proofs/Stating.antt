@@ -7,7 +7,7 @@ use Rattle.yp_base.specs.Types.{same_text}
 use Rattle.yp_schema.specs.declared.stated.Stated.{Stated}
 use Rattle.yp_schema.specs.Names.{Names, front, last, names_in}
 use Rattle.yp_schema.specs.Rounds.{own_module}
-use Rattle.yp_base.specs.Json.{text_member}
+use Rattle.yp_value.specs.Json.{text_member}
 use Rattle.yp_schema.specs.Stated.{body_in, form_in, stated, stated_in, node_in}
 use Rattle.yp_schema.specs.Compiled.{carried_by, module_below, module_along, module_of, carries, HasModule}
 use Rattle.yp_schema.proofs.Sound.{Has, has_at, has_then, has_map, IsSound, node_sound}

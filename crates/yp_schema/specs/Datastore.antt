@@ -9,8 +9,8 @@ use Rattle.yp_base.specs.declared.row.Value.TheVariants.{Atom as Plain, Member, 
 use Rattle.yp_base.specs.declared.row.Row.{Row}
 use Rattle.yp_base.specs.Order.{is_within}
 use Rattle.yp_base.specs.Rows.{AreInOrder, value_at}
-use Rattle.yp_base.specs.Texts.{fits}
-use Rattle.yp_base.specs.Json.{value_fits}
+use Rattle.yp_value.specs.Texts.{fits}
+use Rattle.yp_value.specs.Json.{value_fits}
 use Rattle.yp_schema.specs.declared.schema.SchemaNode.{SchemaNode}
 use Rattle.yp_schema.specs.declared.schema.Kind.{Kind}
 use Rattle.yp_schema.specs.declared.schema.Kind.TheVariants.{Container, Presence, List as Listing, Leaf, LeafList}

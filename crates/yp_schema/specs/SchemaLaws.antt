@@ -3,10 +3,12 @@ use Rattle.std.proofs.Common.{◌≡◌, ℕ, ◌<◌, List, [], ◌∷◌, ◌+
 use Rattle.std.specs.Prelude.{not, All, ◌==◌}
 use Rattle.std.proofs.lemmas.Bool.{and_parts, and_from, eqb-true, ltb-true}
 use Rattle.std.proofs.lemmas.List.Elements.{All-nil, All-cons, All-weaker}
+use Rattle.yp_base.specs.declared.atom.Atom.{Atom}
 use Rattle.yp_base.specs.declared.leaf_type.LeafType.{LeafType}
 use Rattle.yp_base.specs.declared.path.Seg.{Seg}
 use Rattle.yp_base.specs.declared.row.Row.{Row}
 use Rattle.yp_base.specs.declared.row.Value.{Value}
+use Rattle.yp_base.specs.declared.row.Value.TheVariants.{Atom as Plain, Member, Empty, Present}
 use Rattle.yp_base.specs.Types.{is_type}
 use Rattle.yp_schema.specs.declared.schema.SchemaNode.{SchemaNode}
 use Rattle.yp_schema.specs.declared.schema.Kind.{Kind}
@@ -15,7 +17,7 @@ use Rattle.yp_base.specs.Paths.{same_number}
 use Rattle.yp_schema.specs.Nodes.{node_at, may_hold}
 use Rattle.yp_schema.specs.WellFormed.{IsSchema, is_parent_of, kind_stands, has_none, has_type, has_atom_type, is_empty, is_key_leaf, are_key_leaves}
 use Rattle.yp_base.specs.Paths.{last_node}
-use Rattle.yp_schema.specs.Datastore.{is_segment, goes_down, is_path_of, is_key_node, is_key_at, ends_in_key, is_place, IsRowOf, value_of_kind, may_end, goes_to_row}
+use Rattle.yp_schema.specs.Datastore.{is_segment, goes_down, is_path_of, is_key_node, is_key_at, ends_in_key, is_place, IsRowOf, value_of_kind, may_end, goes_to_row, atom_fits, typed_fits, is_present}
 use Rattle.std.proofs.lemmas.List.Sums.{split_at_first, passes_at_first}
 use Rattle.std.specs.List.{position_or_len, before_first, after_first}
 
@@ -219,3 +221,21 @@ pub row_place : (nodes : List SchemaNode) (row : Row) → IsRowOf nodes row → 
 row_place nodes row is =
     let node = row_node nodes None row.path row.value is.goes in
     open_place nodes row.path (row_path nodes row is) (ap (is_key_at nodes) node.1.0 ∙ node.1.2)
+
+-- ---- values
+
+-- a key that fits a type is a value of it
+pub plain_fits : (ty : Option LeafType) (key : Atom) → atom_fits ty key ≡ true → typed_fits ty (Plain key) ≡ true
+plain_fits None key h = h
+plain_fits (Some ty) key h = h
+
+pub present_is : (value : Value) → is_present value ≡ true → value ≡ Present
+present_is (Plain atom) h = absurd (true≢false (sym h))
+present_is Member h = absurd (true≢false (sym h))
+present_is Empty h = absurd (true≢false (sym h))
+present_is Present h = refl
+
+-- where there are no keys
+pub empty_keys : (keys : List Atom) → is_empty keys ≡ true → keys ≡ []
+empty_keys [] h = refl
+empty_keys (key ∷ keys) h = absurd (true≢false (sym h))

@@ -5,7 +5,7 @@ use Rattle.yp_base.specs.declared.atom.Atom.{Atom}
 use Rattle.yp_base.specs.declared.leaf_type.LeafType.{LeafType}
 use Rattle.yp_base.specs.declared.row.Value.{Value}
 use Rattle.yp_base.specs.declared.row.Value.TheVariants.{Atom as Plain, Member, Empty, Present}
-use Rattle.yp_base.specs.Json.{value_in}
+use Rattle.yp_value.specs.Json.{value_in}
 
 -- the value that JSON is read as at a node of this type; a node without a type has none
 abbrev pub typed_value : Option LeafType → Data → Option Value

@@ -2,7 +2,7 @@
 ghost use Rattle.std.specs.Prelude.{◌≡◌, ◌<◌, ◌↔◌, ℕ, List, length, map, All, IfSome, Ok, option_copied, true, false};
 ghost use Rattle.serde_json.specs.Data.{Data};
 ghost use Rattle.serde_json.specs.View.{view};
-ghost use Rattle.yp_base.specs.Texts.{ReadsAs};
+ghost use Rattle.yp_value.specs.Texts.{ReadsAs};
 ghost use Rattle.yp_base.specs.Types.{is_type};
 ghost use Rattle.yp_schema.specs.declared.schema.SchemaNode.{SchemaNode};
 ghost use Rattle.yp_schema.specs.Compiled.{Compiles};
@@ -20,13 +20,13 @@ use serde_json::Value as Json;
 use std::alloc::Global;
 use std::marker::Model;
 use yp_base::atom::Atom;
-use yp_base::json::read_json;
 use yp_base::leaf_type::LeafType;
 use yp_base::path::Path;
 use yp_base::row::Value;
 use yp_base::series::Series;
-use yp_base::text::TextFault;
 use yp_base::txt::Txt;
+use yp_value::json::read_json;
+use yp_value::text::TextFault;
 
 /// What a node is (RFC 7950 section 4.2.2). `Presence` is a container with presence.
 #[derive(Debug, Drop, Clone, Copy, PartialEq, Eq)]

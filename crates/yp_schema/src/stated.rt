@@ -2,9 +2,8 @@
 ghost use Rattle.std.specs.Prelude.{◌≡◌, ℕ, IfOk, option_map};
 ghost use Rattle.serde_json.specs.View.{view, items_view, members_view};
 ghost use Rattle.serde_json.specs.Find.{get_member};
-ghost use Rattle.yp_base.specs.Types.{are_distinct};
 ghost use Rattle.yp_schema.specs.Names.{around_colon};
-ghost use Rattle.yp_base.specs.Json.{text_member};
+ghost use Rattle.yp_value.specs.Json.{text_member};
 ghost use Rattle.yp_schema.specs.Stated.{may_have, is_own, has_only, flag_of, flag_member, texts_in, texts_member, places_in, decimal_at, integer_in, type_in, all_names, are_key_names, container_kind, container_in, list_in, enumeration_in, typed_in, leaf_in, of_kind, body_in, form_of, form_in, stated_in, node_in, tested};
 
 use crate::enumeration::enumeration_names;
@@ -12,11 +11,10 @@ use crate::names::{around_colon, is_name, last_of, read_path, text_of};
 use crate::schema::Kind;
 use serde_json::{Map, Value as Json};
 use std::alloc::Global;
-use std::collections::BTreeSet;
 use yp_base::leaf_type::{LeafType, Names};
 use yp_base::memory::NoMemory;
 use yp_base::series::Series;
-use yp_base::txt::Txt;
+use yp_base::txt::{Txt, are_distinct};
 
 /// Which members a node may have, beside `path`, `kind` and `deny-all`.
 #[derive(Drop, Clone, Copy, PartialEq, Eq)]
@@ -263,19 +261,6 @@ fn key_names(alloc: Global, names: Names) -> Result<Option<Names>, NoMemory>
     } else {
         Ok(None)
     }
-}
-
-/// Whether no text stands twice.
-fn are_distinct(alloc: Global, texts: &[Txt]) -> Result<bool, NoMemory>
-    ensures { IfOk result (λ distinct. distinct ≡ are_distinct texts.now) }
-{
-    let mut seen = BTreeSet::new(alloc);
-    for text in texts {
-        if !seen.insert(text.as_str())? {
-            return Ok(false);
-        }
-    }
-    Ok(true)
 }
 
 fn read_list(alloc: Global, members: &Map<String, Json>) -> Result<Option<Body>, NoMemory>

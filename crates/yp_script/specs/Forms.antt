@@ -4,7 +4,7 @@ use Rattle.std.specs.Borrow.{Bor}
 use Rattle.serde_json.specs.Data.{Data}
 use Rattle.serde_json.specs.View.{view}
 use Rattle.serde_json.specs.declared.value.Value.{Value}
-use Rattle.yp_base.specs.Json.{member_of}
+use Rattle.yp_value.specs.Json.{member_of}
 use Rattle.yp_base.specs.Types.{same_text}
 use Rattle.yp_command.specs.Requests.{request_named, request_in, seen_request}
 use Rattle.yp_command.specs.Words.{has_count, sole_member}

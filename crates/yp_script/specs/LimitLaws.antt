@@ -14,7 +14,8 @@ use Rattle.yp_script.specs.declared.script.Script.{Script}
 use Rattle.yp_script.specs.Faults.{LineFault}
 use Rattle.yp_script.specs.declared.stream.Stream.{Stream}
 use Rattle.yp_script.specs.Forms.{line_form}
-use Rattle.yp_script.specs.Lines.{Line, TextLine, pieces_of, without_feed, is_blank, is_in_script, json_in, json_of, lines_from, text_in, texts_from}
+use Rattle.yp_value.specs.Json.{json_of}
+use Rattle.yp_script.specs.Lines.{Line, TextLine, pieces_of, without_feed, is_blank, is_in_script, json_in, lines_from, text_in, texts_from}
 use Rattle.yp_script.specs.Script.{Progress, no_progress, line_taken, at_line, script_from, script_of, script_in}
 use Rattle.yp_script.specs.SaidLaws.{line_is}
 use Rattle.yp_script.specs.Stream.{before_parts, is_part, is_part_form, json_said, parts_from, stream_at, stream_from, stream_in, stream_of}

@@ -1,12 +1,11 @@
 -- The lines of a script: text between line feeds, numbered from 1, each one JSON text (RFC 8259).
-use Rattle.std.specs.Prelude.{ℕ, ◌+◌, ◌==◌, ◌&&◌, ◌||◌, List, [], ◌∷◌, length, Bool, true, Option, None, Ok, Err, if◌then◌else◌, nat_le}
-use Rattle.std.specs.Str.Lossy.{utf8_valid_len}
+use Rattle.std.specs.Prelude.{ℕ, ◌+◌, ◌==◌, ◌&&◌, ◌||◌, List, [], ◌∷◌, length, Bool, true, Ok, Err, if◌then◌else◌, nat_le}
 use Rattle.serde_json.specs.Data.{Data}
-use Rattle.serde_json.specs.Read.{read as read_text}
 use Rattle.yp_base.specs.Cuts.{cut_after}
 use Rattle.yp_base.specs.Results.{or_fault}
 use Rattle.yp_command.specs.declared.fault.ScriptKind.TheVariants.{TooLong, NotJson, Limit}
 use Rattle.yp_command.specs.Faults.{Said}
+use Rattle.yp_value.specs.Json.{json_of}
 
 -- a text cut after each line feed; the last piece may lack one
 abbrev pub pieces_of : List ℕ → List (List ℕ)
@@ -21,10 +20,6 @@ without_feed (b ∷ bytes) = if b == 10 then [] else b ∷ without_feed bytes
 abbrev pub is_blank : List ℕ → Bool
 is_blank [] = true
 is_blank (b ∷ bytes) = (b == 32 || b == 9 || b == 13) && is_blank bytes
-
--- the JSON value that a text is, if it is UTF-8 and JSON
-abbrev pub json_of : List ℕ → Option Data
-json_of text = if utf8_valid_len text == length text then read_text text else None
 
 -- a script has this many bytes at most
 abbrev pub byte_limit : ℕ

@@ -11,7 +11,8 @@ use Rattle.yp_script.specs.declared.stage.Stage.TheVariants.{Started}
 use Rattle.yp_script.specs.declared.stream.Stream.{Stream}
 use Rattle.yp_script.specs.Faults.{LineFault}
 use Rattle.yp_script.specs.Forms.{line_form}
-use Rattle.yp_script.specs.Lines.{TextLine, pieces_of, byte_limit, line_limit, json_of, json_in, texts_from}
+use Rattle.yp_value.specs.Json.{json_of}
+use Rattle.yp_script.specs.Lines.{TextLine, pieces_of, byte_limit, line_limit, json_in, texts_from}
 use Rattle.yp_script.specs.Script.{Progress, no_progress, line_taken, at_line}
 
 -- ---- schema lines

@@ -1,7 +1,7 @@
 -- What the values of a line say, by its form, or the least of their faults.
 use Rattle.std.specs.Prelude.{ℕ, ◌==◌, ◌&&◌, ◌||◌, List, [], ◌∷◌, length, Bool, true, not, Option, is_some, Err, if◌then◌else◌, nat_le, nat_lt, codes}
 use Rattle.serde_json.specs.Data.{Data, string}
-use Rattle.yp_base.specs.Json.{member_of}
+use Rattle.yp_value.specs.Json.{member_of}
 use Rattle.yp_base.specs.Results.{◌>>=◌, or_fault}
 use Rattle.yp_schema.specs.declared.schema.SchemaNode.{SchemaNode}
 use Rattle.yp_journal.specs.declared.receiver.ReceiverInfo.{ReceiverInfo}

@@ -7,11 +7,11 @@ ghost use Rattle.yp_script.specs.Forms.{seen_form, form_named, lane_form, line_f
 
 use serde_json::Value as Json;
 use std::alloc::Global;
-use yp_base::json::member;
 use yp_cause::lines::form_cause;
 use yp_command::command::{Request, request_in, request_named};
 use yp_command::fault::{Flaw, ScriptKind};
 use yp_command::words::{has_count, sole_member};
+use yp_value::json::member;
 
 /// The form of a line, with the values that stand in it.
 #[derive(Clone, Copy)]

@@ -4,7 +4,8 @@ ghost use Rattle.std.specs.Result.{result_ok};
 ghost use Rattle.serde_json.specs.View.{view};
 ghost use Rattle.yp_command.specs.declared.fault.ScriptKind.TheVariants.{Limit, TooLong};
 ghost use Rattle.yp_command.specs.Faults.{said_map};
-ghost use Rattle.yp_script.specs.Lines.{pieces_of, without_feed, is_blank, json_of, json_in, text_in};
+ghost use Rattle.yp_value.specs.Json.{json_of};
+ghost use Rattle.yp_script.specs.Lines.{pieces_of, without_feed, is_blank, json_in, text_in};
 
 use crate::cursor::{BYTE_LIMIT, LINE_LIMIT};
 use memchr::memchr;

@@ -4,13 +4,12 @@ ghost use Rattle.serde_json.specs.View.{view};
 ghost use Rattle.yp_command.specs.declared.fault.ScriptKind.TheVariants.{Member};
 ghost use Rattle.yp_command.specs.Names.{receiver_number};
 ghost use Rattle.yp_command.specs.Readings.{Tells};
-ghost use Rattle.yp_base.specs.Json.{member_of};
+ghost use Rattle.yp_value.specs.Json.{member_of};
 ghost use Rattle.yp_command.specs.Words.{where_true, text_at, whole_there};
 ghost use Rattle.yp_script.specs.Values.{is_receiver_name, is_user_name, is_new_name, places_said, receiver_said};
 
 use serde_json::Value as Json;
 use std::alloc::Global;
-use yp_base::json::member;
 use yp_cause::cause::{Cause, Wrong};
 use yp_cause::excerpt::Excerpt;
 use yp_command::fault::Flaw;
@@ -18,6 +17,7 @@ use yp_command::halt::{Halt, least};
 use yp_command::receivers::Receivers;
 use yp_command::words::{has_count, lacking_among, says, text_in, text_of, whole};
 use yp_journal::receiver::ReceiverInfo;
+use yp_value::json::member;
 
 /// The members of a receiver.
 const MEMBERS: [&str; 4] = ["name", "user", "queue", "take"];

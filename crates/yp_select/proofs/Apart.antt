@@ -1,40 +1,22 @@
 -- The visits of the rows at or below paths that are apart.
-use Rattle.std.proofs.Common.{◌≡◌, ◌≤◌, ◌<◌, ◌+◌, ℕ, List, [], ◌∷◌, ◌++◌, length, take, drop, drop-cons, get_or, suc, refl, sym, ap, ◌∙◌, cond, Bool, true, false, true≢false, ◌||◌, ◌&&◌, arith}
+use Rattle.std.proofs.Common.{◌≡◌, ◌≤◌, ◌<◌, ◌+◌, ℕ, List, [], ◌∷◌, ◌++◌, length, take, drop, drop-cons, get_or, suc, refl, sym, ap, ◌∙◌, cond, Bool, true, false, ◌||◌, arith}
 use Rattle.std.specs.Prelude.{not}
 use Rattle.std.specs.List.{list_any, AllByRecursion}
 use Rattle.std.specs.Ordering.{is_eq}
 use Rattle.std.proofs.Math.Seq.{take-suc}
-use Rattle.std.proofs.lemmas.Bool.{and_parts, and_from}
 use Rattle.std.proofs.lemmas.List.Filters.{length-filter_both}
 use Rattle.std.proofs.lemmas.List.Folds.{list_any-append}
 use Rattle.yp_base.specs.declared.path.Seg.{Seg}
 use Rattle.yp_base.specs.declared.row.Row.{Row}
-use Rattle.yp_base.specs.Exact.{segments_decide}
-use Rattle.yp_base.specs.Order.{path_cmp, segment_cmp, is_within}
+use Rattle.yp_base.specs.Order.{path_cmp, is_within}
 use Rattle.yp_base.specs.Rows.{rows_within, rows_without}
+use Rattle.yp_base.specs.PathLaws.{within_one}
 use Rattle.yp_select.specs.Reaches.{StandApart}
-
--- of two paths that a third is at or below, one is at or below the other
-meets : (one two path : List Seg) → is_within one path ≡ true → is_within two path ≡ true → is_within one two ≡ false → is_within two one ≡ true
-meets [] two path first second apart = absurd (true≢false apart)
-meets (a ∷ one) [] path first second apart = refl
-meets (a ∷ one) (b ∷ two) [] first second apart = absurd (true≢false (sym first))
-meets (a ∷ one) (b ∷ two) (c ∷ path) first second apart =
-    let upper = and_parts (is_eq (segment_cmp a c)) (is_within one path) first in
-    let lower = and_parts (is_eq (segment_cmp b c)) (is_within two path) second in
-    let same : a ≡ b = (segments_decide a c).0 upper.0 ∙ sym ((segments_decide b c).0 lower.0) in
-    let forth : is_eq (segment_cmp a b) ≡ true = (segments_decide a b).1 same in
-    let back : is_eq (segment_cmp b a) ≡ true = (segments_decide b a).1 (sym same) in
-    and_from (is_eq (segment_cmp b a)) (is_within two one) back (meets one two path upper.1 lower.1 (rest (is_eq (segment_cmp a b)) (is_within one two) forth apart))
-  where
-    rest : (same within : Bool) → same ≡ true → (same && within) ≡ false → within ≡ false
-    rest true within is h = h
-    rest false within is h = absurd (true≢false (sym is))
 
 outside : (one two path : List Seg) → is_within one two ≡ false → is_within two one ≡ false → is_within one path ≡ true → is_within two path ≡ false
 outside one two path apart other first =
     elim (is_within two path) as (λ b. is_within two path ≡ b → b ≡ false) [
-      | true ↦ λ second. sym (meets one two path first second apart) ∙ other
+      | true ↦ λ second. sym (within_one one two path first second apart) ∙ other
       | false ↦ λ second. refl
     ] refl
 

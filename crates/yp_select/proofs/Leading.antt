@@ -1,6 +1,6 @@
 -- A set, and a containment node, at the instance at the first segments of a path.
 use Rattle.std.proofs.Common.{◌≡◌, ◌<◌, ◌+◌, ℕ, List, [], ◌∷◌, ◌++◌, length, take, drop, get_or, drop-cons, map, refl, sym, ap, subst, ◌∙◌, Bool, true, false, ◌&&◌, Option, Some, None, arith}
-use Rattle.std.specs.Prelude.{nat_eq, ◌≤◌, ◌||◌, slice_get, Result, Ok, Err, IfOk, OnOk}
+use Rattle.std.specs.Prelude.{nat_eq, ◌≤◌, ◌||◌, slice_get, Result, Ok, Err, OnOk}
 use Rattle.std.proofs.Math.Seq.{take-suc}
 use Rattle.std.proofs.lemmas.Bool.{and_parts}
 use Rattle.yp_base.specs.declared.path.Seg.{Seg}
@@ -54,10 +54,6 @@ pub leads_inner : (nodes : List SchemaNode) (rows : List Row) (node : Node) (pat
     → entered ≡ enters nodes rows (take (d + 1) path) n → entered ≡ true → keeps nodes rows set (take (d + 1) path) (drop (d + 1) path) ≡ node_leads nodes rows node (take d path) (drop d path)
 leads_inner nodes rows node path d n seg set entered seen less is same told out =
     sym (leads_within nodes rows node path d n seg set seen less is ∙ (λ i. (self_same seg.node n same i && (sym told ∙ out) i) && keeps nodes rows set (take (d + 1) path) (drop (d + 1) path)))
-
-pub ok_same : {X E : Type 0} (r : Result X E) (x y : X) → x ≡ y → IfOk r (λ is. is ≡ x) → IfOk r (λ is. is ≡ y)
-ok_same (Ok is) x y same h = h ∙ same
-ok_same (Err e) x y same h = tt
 
 -- match nodes, and containment nodes with what is in them, are no more than all nodes
 pub parts_size : (set : Nodes) → match_visits set + inner_visits set ≤ set_size set

@@ -1,7 +1,7 @@
 -- An item that is taken leaves a track fewer offers: it is owed no more, or due no more.
 use Rattle.std.proofs.Common.{◌≡◌, ℕ, ◌+◌, ◌<◌, ◌≤◌, refl, sym, ap, subst, ◌∙◌, Bool, true, false, ◌&&◌, List, [], Option, Some, None, arith}
 use Rattle.std.specs.Prelude.{if◌then◌else◌, nat_lt, nat_le}
-use Rattle.std.proofs.lemmas.Bool.{true≢false}
+use Rattle.std.proofs.lemmas.Bool.{true≢false, and_right}
 use Rattle.std.proofs.lemmas.Option.{same_Some, none-some}
 use Rattle.yp_base.specs.declared.notice.Trigger.{Trigger}
 use Rattle.yp_base.specs.declared.notice.Trigger.TheVariants.{Periodic as Every, OnChange}
@@ -12,7 +12,7 @@ use Rattle.yp_feed.specs.declared.owed.Owed.{Owed}
 use Rattle.yp_feed.specs.Machine.{FeedState, first_of, first_owed, due_item, due_from, due_after, is_at, is_past, without, rebases, refused, counted, suspends, suspended, freezes, frozen}
 use Rattle.yp_attempt.specs.Content.{Content, IsLawful}
 use Rattle.yp_attempt.specs.Tracks.{Track, Answer, Took, Full, current, roots_in, edit_count, offered_item, with_feed, moving, rebased, after_answer}
-use Rattle.yp_attempt.specs.ListLaws.{and_false}
+use Rattle.yp_attempt.specs.ListLaws.{unblocked}
 use Rattle.yp_serial.specs.DueTicks.{HasDueTicks}
 use Rattle.yp_serial.specs.Weights.{flag, owed_count, some_count, due_in, weight}
 
@@ -48,10 +48,6 @@ lessens false false false false false false false other item e = (false, none_le
 
 -- ---- what is due
 
-unblocked : {X : Type 0} → (b : Bool) (x : Option X) (y : X) → (if b then None else x) ≡ Some y → (b ≡ false) × (x ≡ Some y)
-unblocked true x y e = absurd (none-some y e)
-unblocked false x y e = (refl, e)
-
 some_at_most : (o : Option Item) → some_count o ≤ 1
 some_at_most None = omega arith
 some_at_most (Some item) = omega arith
@@ -69,7 +65,7 @@ is_item false x item e = absurd (none-some item e)
 -- without a changed place no record is due
 no_record : (dampening : ℕ) (last : Option ℕ) (roots edits stamp : ℕ) → roots ≡ 0 → (if is_past last dampening stamp && (nat_lt 0 roots && nat_lt 0 edits) then Some Changes else None) ≡ None
 no_record dampening last roots edits stamp e =
-    ap (λ (b : Bool). if b then Some Changes else None) (and_false (is_past last dampening stamp) (nat_lt 0 roots && nat_lt 0 edits) (ap (λ (b : Bool). b && nat_lt 0 edits) (none_lt roots e)))
+    ap (λ (b : Bool). if b then Some Changes else None) (and_right (is_past last dampening stamp) (nat_lt 0 roots && nat_lt 0 edits) (ap (λ (b : Bool). b && nat_lt 0 edits) (none_lt roots e)))
 
 -- what was due is due no more once it is taken
 none_due : (trigger : Trigger) (last later : Option ℕ) (due roots edits after left stamp : ℕ) (item : Item) → HasDueTicks trigger → due_item trigger last due roots edits stamp ≡ Some item → (item ≡ Changes → after ≡ 0)

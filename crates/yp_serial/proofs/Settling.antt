@@ -4,12 +4,12 @@ use Rattle.std.specs.Prelude.{if◌then◌else◌}
 use Rattle.std.specs.List.{AllByRecursion}
 use Rattle.std.proofs.lemmas.List.{map-append}
 use Rattle.yp_feed.specs.declared.item.Item.{Item}
-use Rattle.yp_feed.specs.Machine.{freezes, frozen, is_on_change}
 use Rattle.yp_attempt.specs.Content.{Content, IsLawful}
-use Rattle.yp_attempt.specs.Tracks.{Track, Answer, Took, Full, roots_in, record_in, offered_item, freeze_tried, rebased, after_answer}
+use Rattle.yp_attempt.specs.Tracks.{Track, Answer, offered_item, rebased, after_answer}
 use Rattle.yp_attempt.specs.Runs.{Standing, Found, first_offer, IsFirst, unless_ended, settled}
 use Rattle.yp_attempt.specs.Workers.{ready, all_ready, answered_alone, puts}
-use Rattle.yp_attempt.specs.ListLaws.{and_false, all_before, all_rest}
+use Rattle.yp_attempt.specs.ListLaws.{all_before, all_rest}
+use Rattle.yp_attempt.specs.TrackLaws.{alone_ready}
 use Rattle.yp_serial.specs.DueTicks.{HasDueTicks}
 use Rattle.yp_serial.specs.Weights.{weight, weights}
 use Rattle.yp_serial.proofs.Lessening.{fewer, look_no_more}
@@ -52,27 +52,10 @@ settled_fewer finds c lawful standing found answer there e =
 
 -- ---- a worker
 
-abbrev tried_as : Content → ℕ → ℕ → Track → Bool → Track
-tried_as c n stamp t b = record t {
-  feed = if b then frozen t.feed else t.feed;
-  frozen = if b then Some (record { from = t.feed.base; position = n; tick = stamp; edits = record_in c t }) else t.frozen;
-}
-
--- after an item that was taken no record is set aside
-took_thawed : (c : Content) (n stamp : ℕ) (t : Track) (item : Item) → freeze_tried c n stamp (after_answer c n stamp t item Took) ≡ after_answer c n stamp t item Took
-took_thawed c n stamp t item =
-    let new : Track = after_answer c n stamp t item Took in
-    let no : freezes new.feed (roots_in c new) ≡ false = and_false (is_on_change t.feed.trigger) _ refl in
-    ap (tried_as c n stamp new) no
-
-looked_after : (c : Content) (n stamp : ℕ) (t : Track) (item : Item) (answer : Answer) → ready c n stamp (answered_alone n stamp t item answer) ≡ rebased c n stamp (after_answer c n stamp t item answer)
-looked_after c n stamp t item Took = ap (rebased c n stamp) (took_thawed c n stamp t item)
-looked_after c n stamp t item Full = refl
-
 alone_fewer : (c : Content) (lawful : IsLawful c) (n stamp : ℕ) (t : Track) (item : Item) (answer : Answer) → HasDueTicks t.feed.trigger → offered_item c stamp t ≡ Some item → weight c stamp (ready c n stamp (answered_alone n stamp t item answer)) < weight c stamp t
 alone_fewer c lawful n stamp t item answer there e =
     let new : Track = after_answer c n stamp t item answer in
-    let same : weight c stamp (ready c n stamp (answered_alone n stamp t item answer)) ≡ weight c stamp (rebased c n stamp new) = ap (weight c stamp) (looked_after c n stamp t item answer) in
+    let same : weight c stamp (ready c n stamp (answered_alone n stamp t item answer)) ≡ weight c stamp (rebased c n stamp new) = ap (weight c stamp) (alone_ready c n stamp t item answer) in
     let no_more : weight c stamp (rebased c n stamp new) ≤ weight c stamp new = look_no_more c lawful n stamp new in
     let less : weight c stamp new < weight c stamp t = fewer c lawful n stamp t item answer there e in
     omega (arith, same, no_more, less)

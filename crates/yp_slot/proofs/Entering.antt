@@ -6,6 +6,7 @@ use Rattle.std.proofs.lemmas.Bool.{eq-eqb}
 use Rattle.yp_base.specs.declared.path.Seg.{Seg}
 use Rattle.yp_base.specs.declared.row.Row.{Row}
 use Rattle.yp_base.specs.Rows.{last_of}
+use Rattle.yp_base.specs.RowLaws.{last_more}
 use Rattle.yp_schema.specs.declared.schema.SchemaNode.{SchemaNode}
 use Rattle.yp_schema.specs.Datastore.{IsDatastore}
 use Rattle.yp_filter.specs.declared.filter.Filter.{Filter}
@@ -51,10 +52,6 @@ use Rattle.yp_slot.proofs.Standing.{follows_again, kept_again, live_unended, sel
 use Rattle.yp_slot.proofs.Going.{Continues, StandsBut, ending_on, goes_on, modify_continues, with_places}
 
 -- ---- windows with one selection more
-
-last_more : (first : List Row) (later : List (List Row)) (next : List Row) → last_of first (later ++ next ∷ []) ≡ next
-last_more first [] next = refl
-last_more first (one ∷ later) next = last_more one later next
 
 none_more : (paths : List (List Seg)) (first : List Row) (later : List (List Row)) → touched_paths paths first (later ++ last_of first later ∷ []) ≡ touched_paths paths first later
 none_more paths first [] = ap (λ (those : List ChangedRow). put_paths (map (λ change. change.path) those) paths) (none_differ first first refl)

@@ -2,7 +2,7 @@
 use Rattle.std.proofs.Common.{◌≡◌, ℕ, ◌<◌, refl, sym, ap, subst, ◌∙◌, Bool, true, false, true≢false, not, ◌&&◌, ◌||◌, List, [], length, Option, None}
 use Rattle.std.specs.Prelude.{IfSome, if◌then◌else◌, ◌==◌}
 use Rattle.std.specs.List.{AllByRecursion}
-use Rattle.std.proofs.lemmas.Bool.{and_parts, not-true}
+use Rattle.std.proofs.lemmas.Bool.{and_parts, not-true, or_parts, or_from, and_right}
 use Rattle.yp_schema.specs.declared.schema.SchemaNode.{SchemaNode}
 use Rattle.yp_base.specs.declared.notice.Trigger.{Trigger}
 use Rattle.yp_base.specs.declared.notice.Trigger.TheVariants.{Periodic as Every, OnChange}
@@ -14,7 +14,6 @@ use Rattle.yp_feed.specs.Machine.{FeedState, amended, controlled, counted, endin
 use Rattle.yp_touch.specs.declared.root.Root.{Root}
 use Rattle.yp_touch.specs.Absorbed.{EndsAsRow, all_absorbed, paths_of}
 use Rattle.yp_journal.specs.History.{JournalState}
-use Rattle.yp_attempt.specs.ListLaws.{and_false}
 use Rattle.yp_attempt.specs.Tracks.{Track, current, kept_if, with_feed}
 use Rattle.yp_moment.specs.Entries.{selected_at}
 use Rattle.yp_slot.specs.declared.slot.Frozen.{Frozen as FrozenHere}
@@ -109,18 +108,6 @@ module _ (nodes : List SchemaNode) (state : JournalState) (slot : Slot) (track :
 
 -- ---- what happens to a feed
 
-or_left : (a b : Bool) → (a || b) ≡ false → a ≡ false
-or_left true b e = e
-or_left false b e = refl
-
-or_right : (a b : Bool) → (a || b) ≡ false → b ≡ false
-or_right true b e = absurd (true≢false e)
-or_right false b e = e
-
-neither : (a b : Bool) → a ≡ false → b ≡ false → (a || b) ≡ false
-neither true b e h = e
-neither false b e h = h
-
 restarted_plain : (sync resync : Bool) → (sync && not resync) ≡ false → ((sync || resync) && not resync) ≡ false
 restarted_plain true true e = refl
 restarted_plain true false e = e
@@ -152,13 +139,13 @@ restarted_on f n lives = record {
   sub = refl;
   receiver = refl;
   plain = restarted_plain f.owed.sync (resyncs f.trigger);
-  apart = λ _. and_false (f.owed.sync || resyncs f.trigger) f.owed.terminated lives;
-  reads = λ stays plain reads. (reads.0, neither f.owed.sync f.owed.terminated (or_left f.owed.sync (resyncs f.trigger) (or_left (f.owed.sync || resyncs f.trigger) f.owed.terminated reads.1)) lives);
+  apart = λ _. and_right (f.owed.sync || resyncs f.trigger) f.owed.terminated lives;
+  reads = λ stays plain reads. (reads.0, or_from f.owed.sync f.owed.terminated (or_parts f.owed.sync (resyncs f.trigger) (or_parts (f.owed.sync || resyncs f.trigger) f.owed.terminated reads.1).0).0 lives);
 }
 
 restarted_unread : (f : FeedState) (n : ℕ) → not (resyncs f.trigger) ≡ false → ((restarted f n).owed.sync || (restarted f n).owed.terminated) ≡ false → ⊥
 restarted_unread f n stays none =
-    let resync : resyncs f.trigger ≡ false = or_right f.owed.sync (resyncs f.trigger) (or_left (f.owed.sync || resyncs f.trigger) f.owed.terminated none) in
+    let resync : resyncs f.trigger ≡ false = (or_parts f.owed.sync (resyncs f.trigger) (or_parts (f.owed.sync || resyncs f.trigger) f.owed.terminated none).0).1 in
     true≢false (ap not (sym resync) ∙ stays)
 
 pub resync_continues : (f : FeedState) (n stamp : ℕ) → f.owed.terminated ≡ false → Continues f Resync n stamp
@@ -173,7 +160,7 @@ rules_continue f n stamp = let it = by f.owed.terminated refl in record { goes =
     by true e = (
       record { sub = refl; receiver = refl; plain = λ plain. plain; apart = λ apart. apart; reads = λ _ plain reads. reads },
       refl,
-      λ _ none. true≢false (sym e ∙ or_right f.owed.sync f.owed.terminated none),
+      λ _ none. true≢false (sym e ∙ (or_parts f.owed.sync f.owed.terminated none).1),
       λ moves. absurd (true≢false (sym moves)),
     )
     by false e = (restarted_on f n e, refl, restarted_unread f n, λ moves. moves)
@@ -276,8 +263,8 @@ refused_on f item stamp = by (suspends (counted f item stamp)) refl
             sub = refl;
             receiver = refl;
             plain = λ _. both_not (resyncs f.trigger);
-            apart = λ _. and_false (resyncs f.trigger) false refl;
-            reads = λ _ plain reads. (reads.0, neither f.owed.sync f.owed.terminated (unsynced f.owed.sync (resyncs f.trigger) plain reads.1) lives);
+            apart = λ _. and_right (resyncs f.trigger) false refl;
+            reads = λ _ plain reads. (reads.0, or_from f.owed.sync f.owed.terminated (unsynced f.owed.sync (resyncs f.trigger) plain reads.1) lives);
           },
           sym lives,
         )

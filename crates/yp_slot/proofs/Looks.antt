@@ -2,6 +2,7 @@
 use Rattle.std.proofs.Common.{◌≡◌, ℕ, refl, sym, ap, subst, ◌∙◌, Bool, true, false, not, ◌&&◌, List, [], length, ⊎_elim, Option, Some, None}
 use Rattle.std.specs.Prelude.{if◌then◌else◌, ◌==◌, nat_lt}
 use Rattle.std.specs.List.{AllByRecursion}
+use Rattle.std.proofs.lemmas.Bool.{and_right}
 use Rattle.yp_base.specs.declared.notice.Change.{Change}
 use Rattle.yp_schema.specs.declared.schema.SchemaNode.{SchemaNode}
 use Rattle.yp_feed.specs.declared.item.Item.{Item}
@@ -19,7 +20,6 @@ use Rattle.yp_slot.specs.declared.slot.Slot.{Slot}
 use Rattle.yp_slot.specs.Slots.{IsSendableRecord, IsRead, IsSlotOf, IsOfferOf, record_at}
 use Rattle.yp_slot.proofs.Numbers.{capped, capped_some, capped_many, some_lt, unread_or, freezes_read, same_offer, same_freeze, stays_with_one, IsOther, IsSame, same_with_edits, IsDueNow, due_now, nothing_due}
 use Rattle.yp_slot.proofs.Standing.{AreWindows, as_many, same_record, kept_again, unended}
-use Rattle.yp_attempt.specs.ListLaws.{and_false}
 
 -- ---- what tracks become
 
@@ -79,7 +79,7 @@ module _ (nodes : List SchemaNode) (state : JournalState) (slot : Slot) (track :
         frozen = λ i. Some (record { from = (from ∙ ap (λ (g : FeedState). g.base) stands.feed) i; position = position i; tick = tick i; edits = made i });
         roots = λ _. stands.roots read;
         plain = and_not (resyncs track.feed.trigger);
-        apart = and_false (resyncs track.feed.trigger) track.feed.owed.terminated (ap (λ (g : FeedState). g.owed.terminated) (sym stands.feed) ∙ unended nodes state slot track stands read);
+        apart = and_right (resyncs track.feed.trigger) track.feed.owed.terminated (ap (λ (g : FeedState). g.owed.terminated) (sym stands.feed) ∙ unended nodes state slot track stands read);
         current = stands.current;
       } in
       subst (λ (t : Track). IsSlotOf nodes state (record slot { feed = f; frozen = Some aside }) t) (sym (ap (tried_as n stamp track) holds)) is_slot

@@ -1,20 +1,14 @@
 -- How the machine of a feed reads the number of changed places and the number of edits.
 use Rattle.std.proofs.Common.{◌≡◌, ℕ, refl, sym, ap, ◌∙◌, Bool, true, false, true≢false, not, ◌&&◌, ◌||◌, ◌⊎◌, inl, inr, Option, Some, None, arith}
 use Rattle.std.specs.Prelude.{if◌then◌else◌, ◌==◌, nat_lt, nat_le, min}
-use Rattle.std.proofs.lemmas.Bool.{and_parts, not-true}
+use Rattle.std.proofs.lemmas.Bool.{and_parts, not-true, or_parts, and_right}
 use Rattle.yp_base.specs.declared.notice.Trigger.{Trigger}
 use Rattle.yp_base.specs.declared.notice.Trigger.TheVariants.{Periodic as Every, OnChange}
 use Rattle.yp_feed.specs.declared.item.Item.{Item}
 use Rattle.yp_feed.specs.declared.item.Item.TheVariants.{Changes, Periodic}
 use Rattle.yp_feed.specs.Machine.{FeedState, is_on_change, is_at, is_past, due_item, first_of, first_owed, freezes, moves, offer_of, owes, is_empty_record}
-use Rattle.yp_feed.specs.MachineLaws.{IsUnread, unread}
-use Rattle.yp_attempt.specs.ListLaws.{by_bool, and_false}
-
--- ---- truth values
-
-or_false : (a b : Bool) → (a || b) ≡ false → (a ≡ false) × (b ≡ false)
-or_false true b e = absurd (true≢false e)
-or_false false b e = (refl, e)
+use Rattle.yp_feed.specs.MachineLaws.{IsUnread, unread, nothing_owed}
+use Rattle.yp_attempt.specs.ListLaws.{by_bool}
 
 -- ---- a number that is cut off
 
@@ -49,7 +43,7 @@ off_frozen : (f : FeedState) (r : ℕ) → is_on_change f.trigger ≡ false → 
 off_frozen f r off = ap (λ (b : Bool). b && (nat_lt 0 f.tries && (nat_lt 256 r && not (f.owed.incomplete || (f.owed.suspended || (f.owed.resumed || (f.owed.sync || f.owed.terminated))))))) off
 
 off_moves : (f : FeedState) (r e stamp : ℕ) → is_on_change f.trigger ≡ false → moves f r e stamp ≡ false
-off_moves f r e stamp off = and_false (not (is_at f.last_full stamp)) _ (and_false (not (owes f.owed)) _ (periodic_full f.trigger f.last_record r e stamp off))
+off_moves f r e stamp off = and_right (not (is_at f.last_full stamp)) _ (and_right (not (owes f.owed)) _ (periodic_full f.trigger f.last_record r e stamp off))
 
 periodic_unread : (f : FeedState) (stamp r e q d : ℕ) → is_on_change f.trigger ≡ false → IsUnread f stamp r e q d
 periodic_unread f stamp r e q d off = record {
@@ -93,11 +87,11 @@ same_freeze f r q same = ap (λ (b : Bool). is_on_change f.trigger && (nat_lt 0 
 
 empty_one : (t : Trigger) (last : Option ℕ) (r stamp : ℕ) → is_empty_record t last r 1 stamp ≡ false
 empty_one (Every period anchor) last r stamp = refl
-empty_one (OnChange dampening sync excluded) last r stamp = and_false (is_past last dampening stamp) _ (and_false (nat_lt 0 r) false refl)
+empty_one (OnChange dampening sync excluded) last r stamp = and_right (is_past last dampening stamp) _ (and_right (nat_lt 0 r) false refl)
 
 -- a feed with an edit doesn't move its base
 pub stays_with_one : (f : FeedState) (r stamp : ℕ) → moves f r 1 stamp ≡ false
-stays_with_one f r stamp = and_false (not (is_at f.last_full stamp)) _ (and_false (not (owes f.owed)) _ (empty_one f.trigger f.last_record r stamp))
+stays_with_one f r stamp = and_right (not (is_at f.last_full stamp)) _ (and_right (not (owes f.owed)) _ (empty_one f.trigger f.last_record r stamp))
 
 -- an item, where it isn't of changes
 abbrev pub IsOther : Option Item → Type 0
@@ -112,16 +106,6 @@ owed_first false false false false true s t one two e = refl
 owed_first false false false false false true t one two e = refl
 owed_first false false false false false false true one two e = refl
 owed_first false false false false false false false one two e = absurd (true≢false (sym e))
-
-pub idle_first : (a b i d r s t : Bool) (other : Option Item) → (a || (b || (i || (d || (r || (s || t)))))) ≡ false → first_of a b i d r s t other ≡ other
-idle_first true b i d r s t other e = absurd (true≢false e)
-idle_first false true i d r s t other e = absurd (true≢false e)
-idle_first false false true d r s t other e = absurd (true≢false e)
-idle_first false false false true r s t other e = absurd (true≢false e)
-idle_first false false false false true s t other e = absurd (true≢false e)
-idle_first false false false false false true t other e = absurd (true≢false e)
-idle_first false false false false false false true other e = absurd (true≢false e)
-idle_first false false false false false false false other e = refl
 
 no_changes : (past some : Bool) → IsOther (if past && (some && true) then Some Changes else None) → (more : Bool) → (past && (some && more)) ≡ false
 no_changes true true other more = absurd (other refl)
@@ -163,15 +147,15 @@ same_with_edits f stamp r e other =
       offers = ap (λ (o : Option Item). if is_at f.last_full stamp then None else o)
           (owed_first f.owed.started f.owed.modified f.owed.incomplete f.owed.suspended f.owed.resumed f.owed.sync f.owed.terminated
           (due_item f.trigger f.last_record f.due r e stamp) (due_item f.trigger f.last_record f.due r 1 stamp) owed);
-      stays = and_false (not (is_at f.last_full stamp)) _ (ap (λ (b : Bool). not b && is_empty_record f.trigger f.last_record r e stamp) owed);
+      stays = and_right (not (is_at f.last_full stamp)) _ (ap (λ (b : Bool). not b && is_empty_record f.trigger f.last_record r e stamp) owed);
     })
     (λ idle.
-    let first = idle_first f.owed.started f.owed.modified f.owed.incomplete f.owed.suspended f.owed.resumed f.owed.sync f.owed.terminated (due_item f.trigger f.last_record f.due r 1 stamp) idle in
+    let first = nothing_owed f.owed.started f.owed.modified f.owed.incomplete f.owed.suspended f.owed.resumed f.owed.sync f.owed.terminated (due_item f.trigger f.last_record f.due r 1 stamp) idle in
     let item : IsOther (first_owed f.owed (due_item f.trigger f.last_record f.due r 1 stamp)) = other_item (is_at f.last_full stamp) _ free other in
     let same = unmoved_due f.trigger f.last_record f.due r e stamp (λ is. item (first ∙ is)) in
     record {
       offers = ap (λ (o : Option Item). if is_at f.last_full stamp then None else first_owed f.owed o) same.due;
-      stays = and_false (not (is_at f.last_full stamp)) _ (and_false (not (owes f.owed)) _ same.full);
+      stays = and_right (not (is_at f.last_full stamp)) _ (and_right (not (owes f.owed)) _ same.full);
     }))
 
 -- ---- a record that would be offered with an edit
@@ -226,17 +210,17 @@ pub record IsDueNow (f : FeedState) (stamp r : ℕ) : Type 0 where
   pub moves : (e : ℕ) → (e == 0) ≡ true → moves f r e stamp ≡ true
 
 idle_owes : (a b i d r s t : Bool) → (a || (b || (i || (d || (r || (s || t)))))) ≡ false → (s || t) ≡ false
-idle_owes a b i d r s t e = (or_false r (s || t) (or_false d _ (or_false i _ (or_false b _ (or_false a _ e).1).1).1).1).1
+idle_owes a b i d r s t e = (or_parts r (s || t) (or_parts d _ (or_parts i _ (or_parts b _ (or_parts a _ e).1).1).1).1).1
 
 pub due_now : (f : FeedState) (stamp r : ℕ) → offer_of f r 1 stamp ≡ Some Changes → IsDueNow f stamp r
 due_now f stamp r e =
     let at = at_none (is_at f.last_full stamp) _ e in
     let idle = none_first f.owed.started f.owed.modified f.owed.incomplete f.owed.suspended f.owed.resumed f.owed.sync f.owed.terminated (due_item f.trigger f.last_record f.due r 1 stamp) at.1 in
-    let first = idle_first f.owed.started f.owed.modified f.owed.incomplete f.owed.suspended f.owed.resumed f.owed.sync f.owed.terminated (due_item f.trigger f.last_record f.due r 1 stamp) idle in
+    let first = nothing_owed f.owed.started f.owed.modified f.owed.incomplete f.owed.suspended f.owed.resumed f.owed.sync f.owed.terminated (due_item f.trigger f.last_record f.due r 1 stamp) idle in
     let due = due_record f.trigger f.last_record f.due r stamp (sym first ∙ at.1) in
     let offer : (edits : ℕ) → offer_of f r edits stamp ≡ (if nat_lt 0 edits then Some Changes else None) = λ edits.
     (λ i. if at.0 i then None else first_owed f.owed (due_item f.trigger f.last_record f.due r edits stamp))
-    ∙ idle_first f.owed.started f.owed.modified f.owed.incomplete f.owed.suspended f.owed.resumed f.owed.sync f.owed.terminated (due_item f.trigger f.last_record f.due r edits stamp) idle
+    ∙ nothing_owed f.owed.started f.owed.modified f.owed.incomplete f.owed.suspended f.owed.resumed f.owed.sync f.owed.terminated (due_item f.trigger f.last_record f.due r edits stamp) idle
     ∙ due.items edits in
     let move : (edits : ℕ) → moves f r edits stamp ≡ (edits == 0) = λ edits. λ i. not (at.0 i) && (not (idle i) && due.empty edits i) in
     record {
@@ -252,7 +236,7 @@ due_now f stamp r e =
 -- nothing changed, so nothing is offered
 pub nothing_due : (f : FeedState) (stamp e : ℕ) → is_on_change f.trigger ≡ true → owes f.owed ≡ false → offer_of f 0 e stamp ≡ None
 nothing_due f stamp e on idle =
-    by_at (is_at f.last_full stamp) _ (idle_first f.owed.started f.owed.modified f.owed.incomplete f.owed.suspended f.owed.resumed f.owed.sync f.owed.terminated (due_item f.trigger f.last_record f.due 0 e stamp) idle ∙ nothing f.trigger on)
+    by_at (is_at f.last_full stamp) _ (nothing_owed f.owed.started f.owed.modified f.owed.incomplete f.owed.suspended f.owed.resumed f.owed.sync f.owed.terminated (due_item f.trigger f.last_record f.due 0 e stamp) idle ∙ nothing f.trigger on)
   where
     by_at : (b : Bool) (o : Option Item) → o ≡ None → (if b then None else o) ≡ None
     by_at true o e = refl
@@ -260,4 +244,4 @@ nothing_due f stamp e on idle =
 
     nothing : (t : Trigger) → is_on_change t ≡ true → due_item t f.last_record f.due 0 e stamp ≡ None
     nothing (Every period anchor) on = absurd (true≢false (sym on))
-    nothing (OnChange dampening sync excluded) on = ap (λ (b : Bool). if b then Some Changes else None) (and_false (is_past f.last_record dampening stamp) false refl)
+    nothing (OnChange dampening sync excluded) on = ap (λ (b : Bool). if b then Some Changes else None) (and_right (is_past f.last_record dampening stamp) false refl)

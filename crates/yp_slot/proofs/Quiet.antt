@@ -1,13 +1,13 @@
 -- Slots that were looked at and offer nothing.
 use Rattle.std.proofs.Common.{◌≡◌, ℕ, refl, sym, ap, ◌∙◌, Bool, true, false, List, [], length, Option, Some, None}
 use Rattle.std.specs.Prelude.{if◌then◌else◌, nat_lt}
+use Rattle.std.proofs.lemmas.Bool.{and_right}
 use Rattle.yp_schema.specs.declared.schema.SchemaNode.{SchemaNode}
 use Rattle.yp_feed.specs.declared.item.Item.{Item}
 use Rattle.yp_feed.specs.declared.item.Item.TheVariants.{Changes}
 use Rattle.yp_feed.specs.Machine.{FeedState, after_freeze, freezes, frozen, is_on_change, looked, offer_of}
 use Rattle.yp_touch.specs.declared.root.Root.{Root}
 use Rattle.yp_journal.specs.History.{JournalState}
-use Rattle.yp_attempt.specs.ListLaws.{and_false}
 use Rattle.yp_attempt.specs.Tracks.{Track, offered_item, rebased, roots_in}
 use Rattle.yp_attempt.specs.Workers.{ready}
 use Rattle.yp_moment.specs.Windows.{recorded}
@@ -22,7 +22,7 @@ none_other e = cc
 
 -- of no places nothing is set aside
 none_thawed : (f : FeedState) → freezes f 0 ≡ false
-none_thawed f = and_false (is_on_change f.trigger) _ (and_false (nat_lt 0 f.tries) _ refl)
+none_thawed f = and_right (is_on_change f.trigger) _ (and_right (nat_lt 0 f.tries) _ refl)
 
 -- what a slot that offers nothing stands for was looked at, and offers nothing
 pub quiet_track : AreWindows → (nodes : List SchemaNode) (state : JournalState) (slot : Slot) (track : Track) → IsQuiet state slot → IsSlotOf nodes state slot track → (ready recorded state.position state.stamp track ≡ track) × (offered_item recorded state.stamp track ≡ None)
@@ -54,7 +54,7 @@ quiet_counted state slot f n q touched due after empty =
 -- ---- feeds that were tried
 
 pub frozen_stays : (f : FeedState) (r : ℕ) → freezes (frozen f) r ≡ false
-frozen_stays f r = and_false (is_on_change f.trigger) _ (and_false (nat_lt 0 f.tries) _ (and_false (nat_lt 256 r) false refl))
+frozen_stays f r = and_right (is_on_change f.trigger) _ (and_right (nat_lt 0 f.tries) _ (and_right (nat_lt 256 r) false refl))
 
 -- where a record was set aside, none is again
 pub frozen_thawed : (f g : FeedState) (q r : ℕ) → g ≡ after_freeze f q → freezes f q ≡ true → freezes g r ≡ false

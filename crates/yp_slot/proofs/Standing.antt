@@ -1,7 +1,8 @@
 -- What a slot keeps, as what is known of the track that it stands for.
-use Rattle.std.proofs.Common.{◌≡◌, ℕ, ◌<◌, sym, ap, subst, ◌∙◌, refl, Bool, true, false, true≢false, ◌||◌, List, [], length, Some}
+use Rattle.std.proofs.Common.{◌≡◌, ℕ, ◌<◌, sym, ap, subst, ◌∙◌, refl, Bool, true, false, List, [], length, Some}
 use Rattle.std.specs.Prelude.{IfSome}
 use Rattle.std.specs.List.{AllByRecursion}
+use Rattle.std.proofs.lemmas.Bool.{or_parts}
 use Rattle.std.proofs.lemmas.List.{length-map}
 use Rattle.yp_base.specs.Paths.{topmost}
 use Rattle.yp_schema.specs.declared.schema.SchemaNode.{SchemaNode}
@@ -35,14 +36,10 @@ pub record AreWindows : Type 0 where
   pub roots : RootsAreOfTheWindow
   pub record_is : RecordIsOfTheWindow
 
-or_not : (a b : Bool) → (a || b) ≡ false → b ≡ false
-or_not true b e = absurd (true≢false e)
-or_not false b e = e
-
 module _ (nodes : List SchemaNode) (state : JournalState) (slot : Slot) (track : Track) (stands : IsSlotOf nodes state slot track) where
   -- the end of a feed of which numbers may be read isn't owed
   pub unended : IsRead track → slot.feed.owed.terminated ≡ false
-  unended read = ap (λ (f : FeedState). f.owed.terminated) stands.feed ∙ or_not track.feed.owed.sync track.feed.owed.terminated read.unowed
+  unended read = ap (λ (f : FeedState). f.owed.terminated) stands.feed ∙ (or_parts track.feed.owed.sync track.feed.owed.terminated read.unowed).1
 
   -- the filter of a live subscription selects what the track has last
   pub selects : slot.feed.owed.terminated ≡ false → selection nodes (filter_view slot.filter) (may_read nodes state slot.feed.receiver) state.rows ≡ current track

@@ -3,8 +3,8 @@
 use std::alloc::Global;
 use yp_base::memory::{Duplicate, NoMemory};
 use yp_base::notice::Trigger;
-use yp_base::payload::Payload;
 use yp_base::txt::Txt;
+use yp_value::payload::Payload;
 
 /// The filter that is asked for (RFC 8641 section 3.6).
 #[derive(Drop)]

@@ -14,10 +14,10 @@ use crate::terms::Terms;
 use crate::triggers::differ_in_kind;
 use std::alloc::Global;
 use yp_base::notice::Trigger;
-use yp_base::payload::Payload;
 use yp_filter::fault::FilterFault;
 use yp_filter::filter::Filter;
 use yp_schema::schema::Schema;
+use yp_value::payload::Payload;
 
 /// The shortest period, in ticks of a hundredth of a second.
 pub const SHORTEST_PERIOD: u32 = 10;

@@ -15,12 +15,12 @@ use Rattle.yp_base.specs.declared.leaf_type.LeafType.{LeafType}
 use Rattle.yp_base.specs.declared.leaf_type.LeafType.TheVariants.{Bool as TruthType, Int as IntType, Uint as UintType, Dec as DecType, Text as TextType, Names, Empty as EmptyType}
 use Rattle.yp_base.specs.declared.row.Value.{Value}
 use Rattle.yp_base.specs.declared.row.Value.TheVariants.{Atom as Plain, Member, Empty, Present}
-use Rattle.yp_base.specs.Json.{whole_in, string_in, plain_in, is_null_array, value_in, value_fits}
-use Rattle.yp_base.specs.JsonLaws.{json_fits}
-use Rattle.yp_base.specs.TextLaws.{each_width, read_fits}
-use Rattle.yp_base.specs.Texts.{atom_in, atom_text, fits, is_between, truth_in, number_in, decimal_in}
+use Rattle.yp_value.specs.Json.{whole_in, string_in, plain_in, is_null_array, value_in, value_fits}
+use Rattle.yp_value.specs.JsonLaws.{json_fits}
+use Rattle.yp_value.specs.TextLaws.{read_fits, widths_fit}
+use Rattle.yp_value.specs.Texts.{atom_in, atom_text, fits, is_between, truth_in, number_in, decimal_in}
 use Rattle.yp_base.specs.Types.{is_type, is_width, is_short, is_among}
-use Rattle.yp_base.proofs.Written.{ascii_decimal}
+use Rattle.yp_value.proofs.Written.{ascii_decimal}
 use Rattle.yp_receiver.specs.Readable.{has_value_text}
 use Rattle.yp_utf8.specs.Utf8.{HasUtf8}
 
@@ -38,13 +38,10 @@ not_too_low k n h low = omega arith
 below_width : (k n : ℕ) → n ≤ k → k < 2 ^ 64 → n < 2 ^ 64
 below_width k n h low = omega arith
 
-widths : (bits : ℕ) → is_width bits ≡ true → (2 ^ (bits - 1) ≤ 2 ^ 63) × (2 ^ bits - 1 < 2 ^ 64)
-widths = each_width (λ bits. (2 ^ (bits - 1) ≤ 2 ^ 63) × (2 ^ bits - 1 < 2 ^ 64)) (omega arith, omega arith) (omega arith, omega arith) (omega arith, omega arith) (omega arith, omega arith)
-
 int_ascii : (bits : ℕ) (z : ℤ) → is_width bits ≡ true → is_between (2 ^ (bits - 1)) (2 ^ (bits - 1) - 1) z ≡ true → IsAscii (signed_decimal z)
-int_ascii bits (pos n) width h = IsAscii-decimal n (low_enough (2 ^ (bits - 1)) n (leb-true n (2 ^ (bits - 1) - 1) h) (widths bits width).0)
+int_ascii bits (pos n) width h = IsAscii-decimal n (low_enough (2 ^ (bits - 1)) n (leb-true n (2 ^ (bits - 1) - 1) h) (widths_fit bits width).0)
 int_ascii bits (negsuc n) width h =
-    IsAscii-cons 45 (decimal (suc n)) (omega arith) (IsAscii-decimal (suc n) (not_too_low (2 ^ (bits - 1)) n (leb-true (suc n) (2 ^ (bits - 1)) h) (widths bits width).0))
+    IsAscii-cons 45 (decimal (suc n)) (omega arith) (IsAscii-decimal (suc n) (not_too_low (2 ^ (bits - 1)) n (leb-true (suc n) (2 ^ (bits - 1)) h) (widths_fit bits width).0))
 
 units_low : (units : ℤ) → is_between (2 ^ 63) (2 ^ 63 - 1) units ≡ true → unsigned_abs units < 2 ^ 64
 units_low (pos n) h = let low = leb-true n (2 ^ 63 - 1) h in omega arith
@@ -70,7 +67,7 @@ int_utf8 EmptyType z t h = absurd (true≢false (sym h))
 uint_utf8 : (ty : LeafType) (n : ℕ) → is_type ty ≡ true → fits ty (Uint n) ≡ true → is_utf8 (decimal n) ≡ true
 uint_utf8 TruthType n t h = absurd (true≢false (sym h))
 uint_utf8 (IntType bits) n t h = absurd (true≢false (sym h))
-uint_utf8 (UintType bits) n t h = plain (decimal n) (IsAscii-decimal n (below_width (2 ^ bits - 1) n (leb-true n (2 ^ bits - 1) h) (widths bits t).1))
+uint_utf8 (UintType bits) n t h = plain (decimal n) (IsAscii-decimal n (below_width (2 ^ bits - 1) n (leb-true n (2 ^ bits - 1) h) (widths_fit bits t).1))
 uint_utf8 (DecType places) n t h = absurd (true≢false (sym h))
 uint_utf8 TextType n t h = absurd (true≢false (sym h))
 uint_utf8 (Names names) n t h = absurd (true≢false (sym h))

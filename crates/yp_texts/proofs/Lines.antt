@@ -9,7 +9,7 @@ use Rattle.serde_json.specs.Data.{Data, null, boolean, number, string, array, ob
 use Rattle.serde_json.specs.Events.{members_len}
 use Rattle.serde_json.specs.Find.{get_member, as_object, as_array}
 use Rattle.serde_json.specs.Read.{read}
-use Rattle.yp_base.specs.Json.{member_of, text_member}
+use Rattle.yp_value.specs.Json.{member_of, text_member, json_of}
 use Rattle.yp_base.specs.Results.{or_fault}
 use Rattle.yp_base.specs.Types.{same_text, are_distinct}
 use Rattle.yp_patch.specs.declared.patch.Edit.{Edit}
@@ -24,7 +24,7 @@ use Rattle.yp_command.specs.Words.{has_count, sole_member}
 use Rattle.yp_script.specs.declared.form.Form.{Form}
 use Rattle.yp_script.specs.declared.form.Form.TheVariants as forms
 use Rattle.yp_script.specs.Forms.{form_named, lane_form, form_by, line_form}
-use Rattle.yp_script.specs.Lines.{json_of, json_in}
+use Rattle.yp_script.specs.Lines.{json_in}
 use Rattle.yp_utf8.specs.Utf8.{HasUtf8, ItemsHaveUtf8, MembersHaveUtf8}
 use Rattle.yp_texts.specs.Commands.{EditHasUtf8}
 use Rattle.yp_texts.proofs.Reading.{member_utf8}

@@ -14,7 +14,7 @@ use Rattle.yp_base.specs.Order.{is_within}
 use Rattle.yp_base.specs.Results.{◌>>=◌, or_fault}
 use Rattle.yp_base.specs.RowLaws.{all_puts}
 use Rattle.yp_base.specs.Rows.{put_rows, rows_without, has_within}
-use Rattle.yp_base.specs.Texts.{atom_text}
+use Rattle.yp_value.specs.Texts.{atom_text}
 use Rattle.yp_schema.specs.declared.schema.SchemaNode.{SchemaNode}
 use Rattle.yp_schema.specs.Datastore.{ends_in_key}
 use Rattle.yp_schema.specs.Nodes.{node_at}

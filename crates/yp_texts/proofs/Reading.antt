@@ -16,7 +16,7 @@ use Rattle.yp_base.specs.declared.row.Value.TheVariants.{Atom as Plain, Member, 
 use Rattle.yp_base.specs.Results.{◌>>=◌}
 use Rattle.yp_base.specs.RowLaws.{all_put}
 use Rattle.yp_base.specs.Rows.{put_row, value_at}
-use Rattle.yp_base.specs.Texts.{atom_text}
+use Rattle.yp_value.specs.Texts.{atom_text}
 use Rattle.yp_base.specs.Types.{is_type}
 use Rattle.yp_schema.specs.declared.schema.SchemaNode.{SchemaNode}
 use Rattle.yp_schema.specs.declared.schema.Kind.{Kind}

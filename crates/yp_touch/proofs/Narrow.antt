@@ -4,7 +4,7 @@ use Rattle.std.specs.Prelude.{is_some}
 use Rattle.std.specs.Ordering.{is_eq}
 use Rattle.yp_base.specs.declared.path.Seg.{Seg}
 use Rattle.yp_base.specs.declared.row.Value.{Value}
-use Rattle.yp_base.specs.declared.row.Value.TheVariants.{Atom as Plain, Member, Empty, Present}
+use Rattle.yp_base.specs.declared.row.Value.TheVariants.{Present}
 use Rattle.yp_base.specs.declared.row.Row.{Row}
 use Rattle.yp_base.specs.declared.leaf_type.LeafType.{LeafType}
 use Rattle.yp_base.specs.Order.{path_cmp, is_within}
@@ -16,8 +16,8 @@ use Rattle.yp_schema.specs.declared.schema.Kind.{Kind}
 use Rattle.yp_schema.specs.declared.schema.Kind.TheVariants.{Container, Presence, List as Listing, Leaf, LeafList}
 use Rattle.yp_schema.specs.Nodes.{node_at}
 use Rattle.yp_schema.specs.WellFormed.{IsSchema}
-use Rattle.yp_schema.specs.Datastore.{has_row, is_present, value_of_kind, is_entry_kind, last_kind_is, ends_in_entry, goes_to_row, IsDatastore}
-use Rattle.yp_schema.specs.SchemaLaws.{row_node}
+use Rattle.yp_schema.specs.Datastore.{has_row, value_of_kind, is_entry_kind, last_kind_is, ends_in_entry, goes_to_row, IsDatastore}
+use Rattle.yp_schema.specs.SchemaLaws.{row_node, present_is}
 use Rattle.yp_filter.specs.Filters.{Asked}
 use Rattle.yp_nacm.specs.Decision.{visible_rows}
 use Rattle.yp_changes.specs.declared.changed.ChangedRow.{ChangedRow}
@@ -36,12 +36,6 @@ use Rattle.yp_touch.specs.RecordLaws.{rows_end, changed_hold, unchanged, there_o
 use Rattle.yp_touch.proofs.Topped.{listed_of, none_true}
 
 -- ---- entries
-
-present_is : (value : Value) → is_present value ≡ true → value ≡ Present
-present_is (Plain atom) h = absurd (true≢false (sym h))
-present_is Member h = absurd (true≢false (sym h))
-present_is Empty h = absurd (true≢false (sym h))
-present_is Present h = refl
 
 entry_value : (kind : Kind) (ty : Option LeafType) (value : Value) → is_entry_kind kind ≡ true → value_of_kind kind ty value ≡ true → value ≡ Present
 entry_value Container ty value entry holds = absurd (true≢false (sym entry))

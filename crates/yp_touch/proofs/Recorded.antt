@@ -8,9 +8,8 @@ use Rattle.yp_base.specs.RowLaws.{some_keep_order}
 use Rattle.yp_nacm.specs.Decision.{visible_rows}
 use Rattle.yp_changes.specs.declared.changed.ChangedRow.{ChangedRow}
 use Rattle.yp_changes.specs.Changes.{changed_rows}
-use Rattle.yp_changes.specs.Among.{is_covered}
 use Rattle.yp_changes.specs.ChangeLaws.{paths_in, changed_sorted}
-use Rattle.yp_base.specs.Paths.{topmost as roots_of}
+use Rattle.yp_base.specs.Paths.{topmost as roots_of, is_covered}
 use Rattle.yp_changes.specs.Records.{change_at, changed_paths, change_record}
 use Rattle.yp_touch.specs.Looked.{IsBetween}
 use Rattle.yp_touch.specs.Roots.{row_edit}

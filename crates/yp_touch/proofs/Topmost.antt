@@ -9,9 +9,8 @@ use Rattle.yp_base.specs.declared.path.Seg.{Seg}
 use Rattle.yp_base.specs.Order.{segment_cmp, path_cmp, is_within}
 use Rattle.yp_base.specs.OrderLaws.{segments_total, paths_total}
 use Rattle.yp_base.specs.Prefixes.{fronts_together, front_not_after}
-use Rattle.yp_base.specs.PathLaws.{within_itself, within_through, IsBefore}
-use Rattle.yp_base.specs.Paths.{is_above, topmost as roots_of}
-use Rattle.yp_changes.specs.Among.{is_covered}
+use Rattle.yp_base.specs.PathLaws.{within_itself, IsBefore, covered_below}
+use Rattle.yp_base.specs.Paths.{is_above, topmost as roots_of, is_covered}
 
 -- what comes before a path isn't at or below it
 pub outside : (path other : List Seg) → path_cmp path other ≡ Greater → is_within path other ≡ false
@@ -52,10 +51,6 @@ IsPast (Some root) paths = IsBefore root paths
 past_rest : (root : Option (List Seg)) (path : List Seg) (paths : List (List Seg)) → IsPast root (path ∷ paths) → IsPast root paths
 past_rest None path paths past = tt
 past_rest (Some root) path paths past = past.1
-
-covered_below : (root : Option (List Seg)) (path below : List Seg) → is_covered root path ≡ true → is_within path below ≡ true → is_covered root below ≡ true
-covered_below None path below covered within = absurd (true≢false (sym covered))
-covered_below (Some root) path below covered within = within_through root path below covered within
 
 -- what comes past a path that isn't at or below the root isn't either
 never_again : (root : Option (List Seg)) (path later : List Seg) (paths : List (List Seg)) → IsPast root (path ∷ paths) → is_covered root path ≡ false → path_cmp path later ≡ Less → is_covered root later ≡ false

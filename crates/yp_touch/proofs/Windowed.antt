@@ -10,7 +10,7 @@ use Rattle.yp_base.specs.declared.notice.Kinds.{Kinds}
 use Rattle.yp_base.specs.Order.{path_cmp, is_within}
 use Rattle.yp_base.specs.Paths.{topmost}
 use Rattle.yp_base.specs.PathLaws.{ties_itself, within_itself}
-use Rattle.yp_base.specs.RowLaws.{holds_at, within_keeps_order}
+use Rattle.yp_base.specs.RowLaws.{holds_at, within_keeps_order, all_at_top}
 use Rattle.yp_base.specs.Rows.{last_of, AreInOrder, rows_within, changed_by}
 use Rattle.yp_schema.specs.declared.schema.SchemaNode.{SchemaNode}
 use Rattle.yp_schema.specs.WellFormed.{IsSchema}
@@ -185,10 +185,6 @@ record_mirrors nodes asked readable excluded first later schema closed none one 
 
 -- ---- what is whole
 
-all_top : (rows : List Row) → AllByRecursion (λ (row : Row). is_within [] row.path ≡ true) rows
-all_top [] = tt
-all_top (row ∷ rows) = (refl, all_top rows)
-
 -- a datastore is whole at the top
 pub whole_top : (nodes : List SchemaNode) (rows : List Row) → IsDatastore nodes rows → AreWhole nodes [] rows
 whole_top nodes rows datastore = record {
@@ -196,7 +192,7 @@ whole_top nodes rows datastore = record {
     place = refl;
     in_order = datastore.in_order;
     of_schema = datastore.of_schema;
-    within = all_top rows;
+    within = all_at_top rows;
     leaf = λ leaf. absurd (true≢false (sym leaf));
   };
   own = λ entry. absurd (true≢false (sym entry));

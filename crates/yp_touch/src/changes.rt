@@ -2,10 +2,10 @@
 ghost use Rattle.std.specs.Prelude.{◌≡◌, ◌+◌, ◌≤◌, ◌&&◌, [], List, true, not, option_copied, IfOk, OnOk};
 ghost use Rattle.std.specs.List.{AllByRecursion};
 ghost use Rattle.yp_base.specs.declared.row.Row.{Row};
+ghost use Rattle.yp_base.specs.Paths.{is_covered};
 ghost use Rattle.yp_schema.specs.Datastore.{is_path_of, IsRowOf, IsDatastore};
 ghost use Rattle.yp_nacm.specs.Decision.{visible_rows};
 ghost use Rattle.yp_changes.specs.Changes.{changed_rows};
-ghost use Rattle.yp_changes.specs.Among.{is_covered};
 ghost use Rattle.yp_changes.specs.Records.{change_record};
 ghost use Rattle.yp_encode.specs.Sendable.{IsSendableChange};
 ghost use Rattle.yp_filter.specs.Fits.{filter_fits};
@@ -20,7 +20,7 @@ use std::alloc::Global;
 use std::sync::ledger::Ledger;
 use yp_base::memory::{Duplicate, NoMemory};
 use yp_base::notice::{Change, ChangeKind, Changes, Kinds};
-use yp_base::path::{Path, is_prefix};
+use yp_base::path::{Path, is_covered};
 use yp_base::row::Rows;
 use yp_base::series::Series;
 use yp_base::steps::Steps;
@@ -30,16 +30,6 @@ use yp_nacm::readable::Readable;
 use yp_schema::schema::Schema;
 use yp_select::select::select_below;
 use yp_tree::tree::Tree;
-
-/// Whether a path is at or below a root, where there is one.
-fn is_covered(root: Option<&Path>, path: &Path) -> bool
-    ensures { result ≡ is_covered (option_copied root.entry) path.now }
-{
-    match root {
-        Some(root) => is_prefix(root, path),
-        None => false,
-    }
-}
 
 /// Whether a path may be read and isn't at or below the last root.
 fn is_root<R: Readable>(schema: &Schema, readable: &R, root: Option<&Path>, path: &Path) -> bool

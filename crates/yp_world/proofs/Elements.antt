@@ -45,12 +45,6 @@ get_replicate zero i x y e = absurd (none-some y e)
 get_replicate (suc n) zero x y e = sym (same_Some x y e)
 get_replicate (suc n) (suc i) x y e = get_replicate n i x y e
 
--- an element of a map is the image of some element
-pub get_map : {X Y : Type 0} (f : X → Y) (xs : List X) (i : ℕ) (y : Y) → slice_get (map f xs) i ≡ Some y → (x : X) × (slice_get xs i ≡ Some x) × (f x ≡ y)
-get_map f [] i y e = absurd (none-some y e)
-get_map f (x ∷ xs) zero y e = (x, refl, same_Some (f x) y e)
-get_map f (x ∷ xs) (suc i) y e = get_map f xs i y e
-
 -- an element below the length is there
 pub get_below : {X : Type 0} (xs : List X) (i : ℕ) → i < length xs → (x : X) × (slice_get xs i ≡ Some x)
 get_below [] i less = absurd (omega (arith, less))

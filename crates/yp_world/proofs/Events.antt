@@ -4,17 +4,18 @@ use Rattle.std.specs.Prelude.{if◌then◌else◌, ◌==◌, nat_lt, nat_le, sli
 use Rattle.std.specs.List.{slice_get}
 use Rattle.std.proofs.lemmas.Bool.{true≢false, eqb-true, ltb-true, leb-true, and_parts}
 use Rattle.std.proofs.lemmas.List.{length-set, length-replicate, take-append-le}
-use Rattle.std.proofs.lemmas.List.Elements.{filter-append}
 use Rattle.std.proofs.lemmas.Option.{same_Some, none-some, slice_get_within}
-use Rattle.yp_attempt.specs.Attempts.{Notification, notification_of, answers_in, if_taken, of_receiver, taken_of}
-use Rattle.yp_attempt.specs.ListLaws.{by_bool, filter_pass, filter_fail}
+use Rattle.yp_attempt.specs.Attempts.{Notification, notification_of, answers_in, if_taken, of_receiver}
+use Rattle.yp_attempt.specs.ListLaws.{by_bool}
 use Rattle.yp_attempt.specs.Moments.{Moment, Act, Quiet, Starts, Controls, Drops, IsUnused, MayFollow, AllMayFollow, last_stamp, was_started}
 use Rattle.yp_attempt.specs.Runs.{Standing, Found, Reaches, opened, advances, settles, first_run, first_offer, settled, advanced}
 use Rattle.yp_attempt.specs.Tracks.{Attempt, Answer, Took, Full}
+use Rattle.yp_attempt.specs.AttemptLaws.{answers_one_more, taken_append, own_more, other_more}
 use Rattle.yp_world.specs.Holding.{IsDeliveryOf, Serves, Holds, absorbed_by}
 use Rattle.yp_world.specs.World.{Delivery, World, Setup, Event, Append, Absorb, Offer, Take, first_delivery, first_world, worker_of, receivers_of, is_unused, may_follow, append_if, absorb_next, absorb, queue_answer, delivery_after, attempt_of, offer_to, offer_found, offer, take_first, take_from, step, after_events}
+use Rattle.yp_base.specs.Elements.{get_map}
 use Rattle.yp_world.proofs.Belonging.{FindsFirst, found_belongs, run_belongs, all_its}
-use Rattle.yp_world.proofs.Elements.{get_set_same, get_set_other, set_looks_same, take_one_more, get_replicate, get_map}
+use Rattle.yp_world.proofs.Elements.{get_set_same, get_set_other, set_looks_same, take_one_more, get_replicate}
 
 -- ---- legal journals
 
@@ -45,18 +46,6 @@ may_is past m e =
 
 -- ---- deliveries
 
-answers_one_more : (offered : List Attempt) (a : Attempt) → answers_in (offered ++ a ∷ []) ≡ answers_in offered ++ a.answer ∷ []
-answers_one_more [] a = refl
-answers_one_more (x ∷ offered) a = ap (λ (xs : List Answer). x.answer ∷ xs) (answers_one_more offered a)
-
-taken_one_more : (offered : List Attempt) (a : Attempt) → taken_of (offered ++ a ∷ []) ≡ taken_of offered ++ if_taken a.answer (notification_of a) []
-taken_one_more [] a = refl
-taken_one_more (x ∷ offered) a = by x.answer (taken_one_more offered a)
-  where
-    by : (answer : Answer) → taken_of (offered ++ a ∷ []) ≡ taken_of offered ++ if_taken a.answer (notification_of a) [] → if_taken answer (notification_of x) (taken_of (offered ++ a ∷ [])) ≡ if_taken answer (notification_of x) (taken_of offered) ++ if_taken a.answer (notification_of a) []
-    by Took h = ap (λ (ns : List Notification). notification_of x ∷ ns) h
-    by Full h = h
-
 -- an accepted offer found a free place
 pub room_by : (delivery : Delivery) (b : Bool) → nat_lt (length delivery.queue) delivery.places ≡ b → (if b then Took else Full) ≡ Took → length delivery.queue < delivery.places
 room_by delivery true e took = ltb-true (length delivery.queue) delivery.places e
@@ -70,12 +59,12 @@ pub delivered : (delivery : Delivery) (offered : List Attempt) (a : Attempt) (an
     → IsDeliveryOf (delivery_after answer (notification_of a) delivery) (offered ++ a ∷ [])
 delivered delivery offered a Took e room is = record {
   answers = answers_one_more offered a ∙ (λ i. is.answers i ++ e i ∷ []);
-  accepted = taken_one_more offered a ∙ ((λ i. is.accepted i ++ if_taken (e i) (notification_of a) []) ∙ append_assoc delivery.taken delivery.queue (notification_of a ∷ []));
+  accepted = taken_append offered (a ∷ []) ∙ ((λ i. is.accepted i ++ if_taken (e i) (notification_of a) []) ∙ append_assoc delivery.taken delivery.queue (notification_of a ∷ []));
   fits = let less : length delivery.queue < delivery.places = room refl in let more : length (delivery.queue ++ notification_of a ∷ []) ≡ length delivery.queue + 1 = length-append delivery.queue (notification_of a ∷ []) in omega (arith, less, more);
 }
 delivered delivery offered a Full e room is = record {
   answers = answers_one_more offered a ∙ (λ i. is.answers i ++ e i ∷ []);
-  accepted = taken_one_more offered a ∙ ((λ i. is.accepted i ++ if_taken (e i) (notification_of a) []) ∙ append-nil (delivery.taken ++ delivery.queue));
+  accepted = taken_append offered (a ∷ []) ∙ ((λ i. is.accepted i ++ if_taken (e i) (notification_of a) []) ∙ append-nil (delivery.taken ++ delivery.queue));
   fits = is.fits;
 }
 
@@ -87,17 +76,6 @@ first_taken delivery n queue offered e is = record {
   accepted = is.accepted ∙ (ap (λ (ns : List Notification). delivery.taken ++ ns) e ∙ sym (append_assoc delivery.taken (n ∷ []) queue));
   fits = let longer : length delivery.queue ≡ suc (length queue) = ap (λ (ns : List Notification). length ns) e in let fits : length delivery.queue ≤ delivery.places = is.fits in omega (arith, fits, longer);
 }
-
--- the attempts for a receiver after one more
-pub own_more : (receiver : ℕ) (done : List Attempt) (a : Attempt) → (a.receiver == receiver) ≡ true → of_receiver receiver (done ++ a ∷ []) ≡ of_receiver receiver done ++ a ∷ []
-own_more receiver done a e =
-    let is_its : Attempt → Bool = (λ x. x.receiver == receiver) in
-    filter-append is_its done (a ∷ []) ∙ ap (λ (xs : List Attempt). of_receiver receiver done ++ xs) (filter_pass is_its a [] e)
-
-pub other_more : (receiver : ℕ) (done : List Attempt) (a : Attempt) → (a.receiver == receiver) ≡ false → of_receiver receiver (done ++ a ∷ []) ≡ of_receiver receiver done
-other_more receiver done a e =
-    let is_its : Attempt → Bool = (λ x. x.receiver == receiver) in
-    filter-append is_its done (a ∷ []) ∙ (ap (λ (xs : List Attempt). of_receiver receiver done ++ xs) (filter_fail is_its a [] e) ∙ append-nil (of_receiver receiver done))
 
 -- ---- an entry is appended
 

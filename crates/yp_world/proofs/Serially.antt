@@ -12,6 +12,7 @@ use Rattle.yp_attempt.specs.ListLaws.{all_before}
 use Rattle.yp_attempt.specs.Moments.{Moment, MayFollow, AllMayFollow}
 use Rattle.yp_attempt.specs.Runs.{Found, Reaches, Run, Standing, advanced, advances, opened, settled, settles, waits}
 use Rattle.yp_attempt.specs.Tracks.{Answer, Attempt, Took, Full, attempt}
+use Rattle.yp_attempt.specs.AttemptLaws.{own_more, other_more}
 use Rattle.yp_serial.specs.DueTicks.{GiveDueTicks, GivesDueTicks}
 use Rattle.yp_serial.specs.Posts.{Post, Queueing, after_take, first_post}
 use Rattle.yp_serial.specs.Posts as posts
@@ -20,10 +21,11 @@ use Rattle.yp_serial.specs.Weights.{weights}
 use Rattle.yp_world.specs.Holding.{Holds, IsDeliveryOf}
 use Rattle.yp_world.specs.Serially.{HavePlaces, IsDeliveryIn, LeadTo, with_one_worker}
 use Rattle.yp_world.specs.World.{Absorb, Append, Delivery, Event, Offer, Setup, Take, World, absorb_next, after_events, delivery_after, queue_answer, append_if, first_delivery, first_world, offer_found, offer_to, post_of, receivers_of, step, take_first, take_from}
+use Rattle.yp_base.specs.Elements.{get_map}
 use Rattle.yp_world.proofs.Belonging.{FindsFirst}
 use Rattle.yp_world.proofs.Doing.{may_tells, queue_there}
-use Rattle.yp_world.proofs.Elements.{get_map, get_set_other, get_set_same}
-use Rattle.yp_world.proofs.Events.{delivered, events_hold, first_holds, first_taken, other_more, own_more, room_by, self_is}
+use Rattle.yp_world.proofs.Elements.{get_set_other, get_set_same}
+use Rattle.yp_world.proofs.Events.{delivered, events_hold, first_holds, first_taken, room_by, self_is}
 
 -- ---- deliveries
 

@@ -1,8 +1,9 @@
 use Rattle.std.proofs.Common.{sym, ap, subst, ◌∙◌}
 use Rattle.std.proofs.lemmas.Result.{IfOk-weaker}
 use Rattle.yp_base.specs.Rows.{rows_within, AreInOrder}
+use Rattle.yp_base.specs.RowLaws.{all_within}
 use Rattle.yp_changes.specs.Renewals.{made}
-use Rattle.yp_changes.proofs.Renewals.{made_differ, differ_sorted, all_within}
+use Rattle.yp_changes.proofs.Renewals.{made_differ, differ_sorted}
 use Rattle.yp_changes.proofs.renewal.renewed.Goals as goal
 
 pub merged-requires-clause-rows : goal.merged-requires-clause-rows

@@ -1,24 +1,24 @@
-use Rattle.std.proofs.Common.{◌≡◌, ◌+◌, ◌<◌, ◌≤◌, true, false, List, [], ◌∷◌, ◌++◌, length, drop, map, Some, inl, inr, refl, sym, ap, subst, ◌∙◌, arith, rules, length-append, string_bytes}
+use Rattle.std.proofs.Common.{◌≡◌, ◌+◌, ◌<◌, ◌≤◌, true, false, [], ◌∷◌, ◌++◌, length, drop, map, Some, inl, inr, refl, sym, ap, subst, ◌∙◌, arith, rules, length-append, string_bytes}
 use Rattle.std.specs.Prelude.{codes}
 use Rattle.std.specs.List.{AllByRecursion}
 use Rattle.std.proofs.Math.ListN.{drop_of_length-le}
 use Rattle.serde_json.specs.Data.{array, object, member}
 use Rattle.serde_json.specs.View.{items_of}
-use Rattle.serde_json.specs.Written.{items_text, members_text, compact_text}
-use Rattle.yp_base.specs.declared.row.Row.{Row}
+use Rattle.serde_json.specs.Written.{items_text, members_text}
 use Rattle.yp_schema.specs.Nodes.{node_at}
 use Rattle.yp_schema.specs.SchemaLaws.{segment_within, first_segment}
 use Rattle.yp_json_text.specs.Strings.{name_text}
+use Rattle.yp_json_text.specs.Parts.{both}
 use Rattle.yp_data_json.specs.Forest.{forest_at, laid_all}
 use Rattle.yp_data_json.specs.Writing.{Entry, leaf_data, item_data, gathered, members_in}
 use Rattle.yp_data_json.specs.Runs.{longest, IsRest, AreBelow, goes_through, AllGoThrough, all_in_front, AreOneMember}
-use Rattle.yp_data_json.specs.EntryKeys.{IsKeyBelow, AreAscending, among, followed_by}
+use Rattle.yp_data_json.specs.EntryKeys.{IsKeyBelow, AreAscending, among}
 use Rattle.yp_data_json.proofs.Parts.{all_front, all_back, none_left}
 use Rattle.yp_data_json.proofs.Below.{front_below, back_below, further}
-use Rattle.yp_data_json.proofs.Steps.{longest_front, longest_back, deep_rows, deep_left, first_next, first_node, own_row_adds, some_rows, has_plain, plain_below, container_member, presence_member, leaf_member, entry_some, entry_step, entries_member}
+use Rattle.yp_data_json.proofs.Steps.{longest_front, longest_back, deep_rows, deep_left, first_next, first_node, own_row_adds, has_plain, plain_below, container_member, presence_member, leaf_member, entry_some, entry_step, entries_member}
 use Rattle.yp_data_json.proofs.Firsts.{run_first_member, run_has_rows}
 use Rattle.yp_data_json.proofs.KeysAmong.{among_member, ascending_back, keys_below, cut_at, place_within}
-use Rattle.yp_data_json.proofs.Told.{where_ok, both, member_told, entry_told, entries_told}
+use Rattle.yp_data_json.proofs.Told.{where_ok, member_told, entry_told, entries_told}
 use Rattle.yp_data_json.proofs.writing.+write.Goals as goal
 
 pub push_entries-push_item-requires : goal.push_entries-push_item-requires

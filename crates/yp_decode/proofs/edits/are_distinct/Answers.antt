@@ -1,7 +1,8 @@
 use Rattle.std.proofs.Common.{refl, ap, sym, ◌∙◌, arith}
 use Rattle.std.proofs.lemmas.List.{take_all}
 use Rattle.yp_base.specs.Types.{are_distinct}
-use Rattle.yp_decode.proofs.Distinct.{found_ids, is_seen, seen_more, edit_seen, told_new, told_old, still_distinct, seen_twice}
+use Rattle.yp_base.specs.DistinctLaws.{told_new, told_old}
+use Rattle.yp_decode.proofs.Distinct.{found_ids, is_seen, seen_more, edit_seen, still_distinct, seen_twice}
 use Rattle.yp_decode.proofs.edits.are_distinct.Goals as goal
 
 pub loop-edit-init : goal.loop-edit-init

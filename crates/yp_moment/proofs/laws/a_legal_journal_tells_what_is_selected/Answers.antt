@@ -1,5 +1,6 @@
+use Rattle.yp_moment.specs.MomentLaws.{wanted}
 use Rattle.yp_moment.proofs.Starting.{GrantLaws, goes_by}
-use Rattle.yp_moment.proofs.Telling.{wanted, changed}
+use Rattle.yp_moment.proofs.Telling.{changed}
 use Rattle.yp_moment.proofs.laws.a_legal_journal_tells_what_is_selected.Goals as goal
 
 pub returns : goal.returns

@@ -2,7 +2,8 @@ use Rattle.std.proofs.Common.{refl, ap, sym, ◌∙◌, arith}
 use Rattle.std.proofs.lemmas.List.{take_all}
 use Rattle.yp_base.specs.Types.{are_distinct}
 use Rattle.yp_patch.specs.Shapes.{ids_of}
-use Rattle.yp_patch.proofs.Distinct.{is_seen, seen_more, edit_seen, told_new, told_old, still_distinct, seen_twice}
+use Rattle.yp_base.specs.DistinctLaws.{told_new, told_old}
+use Rattle.yp_patch.proofs.Distinct.{is_seen, seen_more, edit_seen, still_distinct, seen_twice}
 use Rattle.yp_patch.proofs.reading.first_repeated.Goals as goal
 
 pub loop-edit-init : goal.loop-edit-init

@@ -1,8 +1,9 @@
 use Rattle.std.proofs.Common.{rules, sym, ap, ◌∙◌, ◌++◌, ◌+◌, List, drop, option_map}
 use Rattle.yp_base.specs.declared.atom.Atom.{Atom}
 use Rattle.yp_base.specs.Cuts.{cut}
+use Rattle.yp_base.specs.Results.{same_answer}
 use Rattle.yp_path.specs.Targets.{values_read}
-use Rattle.yp_path.proofs.Values.{last_there, none_there, one_there, same_answer}
+use Rattle.yp_path.proofs.Values.{last_there, none_there, one_there}
 use Rattle.yp_path.proofs.target.read_bare_values.Goals as goal
 
 pub returns-in-None-2 : goal.returns-in-None-2

@@ -1,6 +1,6 @@
 use Rattle.std.proofs.Common.{ap, ◌∙◌}
 use Rattle.yp_base.specs.Rows.{rows_within}
-use Rattle.yp_receiver.proofs.Held.{all_within}
+use Rattle.yp_base.specs.RowLaws.{all_within}
 use Rattle.yp_receiver.proofs.holding.all_rows.Goals as goal
 
 pub returns : goal.returns

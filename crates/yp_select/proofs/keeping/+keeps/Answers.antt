@@ -1,6 +1,7 @@
 use Rattle.std.proofs.Common.{◌≡◌, ◌+◌, ◌∙◌, sym, ap, take, drop, get_or, true, None, option_copied, rules, arith, List}
 use Rattle.std.specs.Prelude.{slice_get}
 use Rattle.yp_base.specs.declared.path.Seg.{Seg}
+use Rattle.yp_base.specs.Results.{same_answer}
 use Rattle.yp_schema.specs.Datastore.{goes_down}
 use Rattle.yp_schema.specs.SchemaLaws.{node_after}
 use Rattle.yp_filter.specs.Fits.{set_fits}
@@ -8,7 +9,7 @@ use Rattle.yp_filter.specs.View.{node_view, set_view}
 use Rattle.yp_filter.specs.ViewLaws.{node_within}
 use Rattle.yp_nacm.specs.Decision.{visible_rows}
 use Rattle.yp_select.proofs.Ways.{down_take, path_take, next_within}
-use Rattle.yp_select.proofs.Leading.{fits_within, leads_none, leads_inner, ok_same, held_size, led_size}
+use Rattle.yp_select.proofs.Leading.{fits_within, leads_none, leads_inner, held_size, led_size}
 use Rattle.yp_select.proofs.keeping.+keeps.Goals as goal
 
 pub keeps-all_hold-requires-clause-way : goal.keeps-all_hold-requires-clause-way
@@ -35,7 +36,7 @@ pub node_leads-returns-else-not-branch-clause-leads : goal.node_leads-returns-el
 node_leads-returns-else-not-branch-clause-leads g t c =
     let nodes = c.args.visible.now.schema.now in
     let seg = c.index-items-depth.result in
-    ok_same c.keeps.result _ _
+    same_answer c.keeps.result _ _
     (leads_inner nodes (visible_rows (g.R.Readable.may c.args.visible.now.readable.now nodes) c.args.visible.now.tree.now) (node_view c.args.node.now) c.args.path.now c.args.depth c.in-Within.node seg (set_view c.in-Within.set) c.in_ok-enters-in-Within.field-0
     (ap node_view c.in-Within.is ∙ node_within c.in-Within.node c.in-Within.set) c.requires.depth (c.index-items-depth.is ∙ ap (λ path. get_or path c.args.depth seg) c.items.ensures)
     (ap (λ (s : Seg). s.node) c.index-items-depth.is ∙ c.if-items-depth.false) c.in_ok-enters-in-Within.ensures.enters c.if-not-branch.false)

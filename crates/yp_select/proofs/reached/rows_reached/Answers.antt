@@ -1,8 +1,8 @@
 use Rattle.std.proofs.Common.{◌≡◌, ◌||◌, List, ap, ◌∙◌}
 use Rattle.yp_base.specs.declared.path.Seg.{Seg}
 use Rattle.yp_base.specs.RowLaws.{picked}
+use Rattle.yp_base.specs.Results.{same_answer}
 use Rattle.yp_select.specs.Reaches.{is_one_of, is_below, is_reached}
-use Rattle.yp_select.proofs.Leading.{ok_same}
 use Rattle.yp_select.proofs.Those.{those_same, those_are}
 use Rattle.yp_select.proofs.reached.rows_reached.Goals as goal
 
@@ -16,4 +16,4 @@ returns-clause-rows g c =
     let those = those_same (λ other. is_one_of c.as_slice.result.now other || is_below tops other) (is_reached own below) tree c.add_all_below.new.rows
     (λ other i. is_one_of (c.as_slice.ensures.value i) other || same other i)
     (c.in_ok-add_all_below.ensures.those (is_one_of c.as_slice.result.now) c.in_ok-rows.ensures.those) in
-    ok_same c.into_rows.result c.add_all_below.new.rows (picked (is_reached own below) tree) (those_are (is_reached own below) tree c.add_all_below.new.rows c.len-count.ensures.order c.in_ok-add_all_below.ensures.order those) c.into_rows.ensures
+    same_answer c.into_rows.result c.add_all_below.new.rows (picked (is_reached own below) tree) (those_are (is_reached own below) tree c.add_all_below.new.rows c.len-count.ensures.order c.in_ok-add_all_below.ensures.order those) c.into_rows.ensures

@@ -3,8 +3,9 @@ use Rattle.std.proofs.lemmas.Result.{err_from_is_err_and}
 use Rattle.yp_filter.specs.Fits.{filter_fits}
 use Rattle.yp_terms.specs.Refusals.{first_refusal}
 use Rattle.yp_terms.specs.Terms.{asked_for}
+use Rattle.yp_terms.specs.RefusalLaws.{not_refused}
 use Rattle.yp_registry.specs.Registry.{Subscriptions, IsRegistryOf, reasons_against, with_terms}
-use Rattle.yp_registry.proofs.Establishing.{fails_alike, not_refused, terms_are, given_id, given_state, terms_kept}
+use Rattle.yp_registry.proofs.Establishing.{fails_alike, terms_are, given_id, given_state, terms_kept}
 use Rattle.yp_registry.proofs.registry.Registry.establish.Goals as goal
 
 pub returns-in_err-id-clause-answer : goal.returns-in_err-id-clause-answer

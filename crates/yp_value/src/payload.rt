@@ -1,0 +1,91 @@
+//! JSON values that are handed on.
+ghost use Rattle.std.specs.Prelude.{◌≡◌, ◌≤◌, IfOk, Some};
+ghost use Rattle.serde_json.specs.Data.{depth};
+ghost use Rattle.serde_json.specs.Read.{max_depth, read};
+ghost use Rattle.serde_json.specs.View.{view as data_of};
+
+use crate::nesting::nests_within;
+use serde_json::{Category, Value as Json};
+use std::alloc::Global;
+use std::marker::Model;
+use yp_base::memory::{Duplicate, NoMemory};
+use yp_base::txt::Txt;
+
+/// How deep arrays and objects may nest in a text that is read again.
+const MAX_DEPTH: u32 = 127;
+
+/// A JSON value that waits until it is asked for. Contracts see its data, so that copies are equal.
+#[derive(Drop)]
+pub struct Payload {
+    kept: Kept,
+}
+
+/// What a payload keeps: the compact text of its value, since a value takes many times as much room.
+/// A value that nests too deep to be read again is kept as it is.
+#[derive(Drop)]
+enum Kept {
+    Text(Txt),
+    All(Json),
+}
+
+impl Model for Payload {
+    ghost use Rattle.serde_json.specs.Data.{Data};
+    ghost use Rattle.yp_value.specs.Payloads.{IsReadable, kept_data};
+    ghost use Rattle.yp_value.specs.Coding.{coded_data};
+
+    ghost Value = { Data };
+
+    ghost coded = { coded_data };
+
+    ghost view = { λ p. kept_data p.kept };
+
+    ghost invariant = { λ p. IsReadable p.kept };
+}
+
+impl Payload {
+    /// The payload of a JSON value.
+    pub fn from_json(alloc: Global, json: &Json) -> Result<Payload, NoMemory>
+        ensures { IfOk result (λ payload. payload ≡ data_of json.now) }
+    {
+        let kept = if nests_within(json, MAX_DEPTH) {
+            Kept::Text(text_of(alloc, json)?)
+        } else {
+            Kept::All(json.clone()?)
+        };
+        Ok(Payload { kept })
+    }
+
+    /// The JSON value, made again. What is kept as text is read, and only memory can be missing for that.
+    pub fn json(&self, alloc: Global) -> Result<Json, NoMemory>
+        ensures { IfOk result (λ json. data_of json ≡ self.now) }
+    {
+        match &self.kept {
+            Kept::Text(text) => match Json::from_str(alloc, text.as_str()) {
+                Ok(json) => Ok(json),
+                Err(error) => match error.classify() {
+                    Category::Memory => Err(NoMemory),
+                    _ => unreachable!(),
+                },
+            },
+            Kept::All(json) => Ok(json.clone()?),
+        }
+    }
+}
+
+/// The compact text of a value, without spare room: it is copied out of the room in which it was written.
+fn text_of(alloc: Global, json: &Json) -> Result<Txt, NoMemory>
+    ensures { IfOk result (λ text. depth (data_of json.now) ≤ max_depth → read text ≡ Some (data_of json.now)) }
+{
+    let written = json.to_string(alloc)?;
+    Ok(Txt::from_string(String::from_str(alloc, written.as_str())?))
+}
+
+impl Duplicate for Payload {
+    fn copy(&self, alloc: Global) -> Result<Payload, NoMemory> {
+        let kept = match &self.kept {
+            Kept::Text(text) => Kept::Text(text.copy(alloc)?),
+            Kept::All(json) => Kept::All(json.clone()?),
+        };
+        Ok(Payload { kept })
+    }
+}
