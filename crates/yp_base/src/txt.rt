@@ -58,6 +58,13 @@ impl Txt {
     }
 }
 
+/// A text of its own.
+pub fn text_of(alloc: Global, text: &str) -> Result<Txt, NoMemory>
+    ensures { IfOk result (λ made. made ≡ text.now) }
+{
+    Ok(Txt::from_string(String::from_str(alloc, text)?))
+}
+
 /// Whether no text stands twice.
 pub fn are_distinct(alloc: Global, texts: &[Txt]) -> Result<bool, NoMemory>
     ensures { IfOk result (λ distinct. distinct ≡ are_distinct texts.now) }

@@ -2,10 +2,9 @@
 use Rattle.std.specs.Prelude.{ℕ, ◌||◌, List, [], ◌∷◌, Bool, false, Option, Some, None, is_some, Ok, if◌then◌else◌, codes}
 use Rattle.serde_json.specs.Data.{Data, array}
 use Rattle.yp_base.specs.declared.notice.Trigger.{Trigger}
-use Rattle.yp_value.specs.Json.{member_of}
+use Rattle.yp_value.specs.Json.{member_of, texts_in}
 use Rattle.yp_base.specs.Results.{or_fault}
 use Rattle.yp_base.specs.Types.{are_distinct}
-use Rattle.yp_schema.specs.Stated.{texts_in}
 use Rattle.yp_terms.specs.declared.ask.Amend.{Amend}
 use Rattle.yp_terms.specs.declared.ask.FilterAsk.{FilterAsk}
 use Rattle.yp_journal.specs.declared.command.Command.{Command}

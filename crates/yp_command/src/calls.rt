@@ -3,7 +3,7 @@
 ghost use Rattle.std.specs.Prelude.{◌≡◌, IfOk, option_and_then, option_map};
 ghost use Rattle.std.specs.Option.{ForSome};
 ghost use Rattle.serde_json.specs.View.{items_view, view};
-ghost use Rattle.yp_schema.specs.Stated.{texts_in};
+ghost use Rattle.yp_value.specs.Json.{texts_in};
 ghost use Rattle.yp_time.specs.Ticks.{IsAnchor};
 ghost use Rattle.yp_command.specs.declared.fault.ScriptKind.TheVariants.{Member};
 ghost use Rattle.yp_command.specs.Calls.{amend_said, are_some_distinct, call_said, configure_said, delete_said, given_filter_said, given_trigger_said, has_either, id_said, kill_said, modify_said, receivers_said, reconfigure_said, resync_said, unconfigure_said};
@@ -17,18 +17,18 @@ use crate::ask::{
 use crate::fault::{Flaw, ScriptKind};
 use crate::halt::{Halt, both, holding};
 use crate::receivers::Receivers;
-use crate::words::{lacking, text_of};
+use crate::words::lacking;
 use serde_json::Value as Json;
 use std::alloc::Global;
 use yp_base::leaf_type::Names;
 use yp_base::memory::NoMemory;
 use yp_base::notice::Trigger;
-use yp_base::series::Series;
 use yp_base::txt::{Txt, are_distinct};
 use yp_journal::command::Command;
 use yp_terms::ask::{Amend, FilterAsk};
 use yp_time::start::Start;
 use yp_value::json::member;
+use yp_value::members::read_texts;
 
 /// What `receivers` is.
 const ARE_NAMES: &str = "is an array of names";
@@ -140,20 +140,6 @@ pub fn read_modify(
     Ok(Command::Modify { by, id, amend })
 }
 
-/// The texts of an array, where it holds nothing else.
-fn read_texts(alloc: Global, items: &Vec<Json>) -> Result<Option<Names>, NoMemory>
-    ensures { IfOk result (λ texts. texts ≡ texts_in (items_view items.now.items)) }
-{
-    let mut texts = Vec::new(alloc);
-    for item in items {
-        match item.as_str() {
-            Some(text) => texts.push(text_of(alloc, text)?)?,
-            None => return Ok(None),
-        }
-    }
-    Ok(Some(Series::from_vec(texts)))
-}
-
 /// Whether these are one text or more, and none stands twice.
 fn are_some_distinct(alloc: Global, texts: &[Txt]) -> Result<bool, NoMemory>
     ensures { IfOk result (λ distinct. distinct ≡ are_some_distinct texts.now) }
@@ -168,7 +154,7 @@ fn are_some_distinct(alloc: Global, texts: &[Txt]) -> Result<bool, NoMemory>
 fn read_distinct(alloc: Global, items: &Vec<Json>) -> Result<Option<Names>, NoMemory>
     ensures { IfOk result (λ texts. texts ≡ where_true are_some_distinct (texts_in (items_view items.now.items))) }
 {
-    match read_texts(alloc, items)? {
+    match read_texts(alloc, items.as_slice())? {
         Some(texts) => {
             if are_some_distinct(alloc, texts.items())? {
                 Ok(Some(texts))

@@ -2,7 +2,6 @@
 ghost use Rattle.std.specs.Prelude.{◌≡◌, ◌≤◌, option_map, is_some, IfOk};
 ghost use Rattle.serde_json.specs.Find.{as_str};
 ghost use Rattle.serde_json.specs.View.{view, members_view};
-ghost use Rattle.serde_json.specs.Events.{members_len};
 ghost use Rattle.yp_command.specs.declared.fault.ScriptKind.TheVariants.{Member};
 ghost use Rattle.yp_value.specs.Json.{seen_member};
 ghost use Rattle.yp_command.specs.Words.{first_member, sole_member, has_count, text_at, says, is_text, whole_said, is_yes};
@@ -10,18 +9,10 @@ ghost use Rattle.yp_command.specs.Words.{first_member, sole_member, has_count, t
 use crate::fault::Flaw;
 use serde_json::{Map, Value as Json};
 use std::alloc::Global;
-use yp_base::memory::NoMemory;
-use yp_base::txt::Txt;
 use yp_cause::cause::Cause;
 use yp_cause::lines::other_member;
 use yp_value::json::member;
-
-/// How many members an object has.
-fn count(members: &Map<String, Json>) -> usize
-    ensures { result ≡ members_len (members_view members.now.entries) }
-{
-    members.len()
-}
+use yp_value::members::count;
 
 /// Whether it is an object of so many members.
 pub fn has_count(json: &Json, many: usize) -> bool
@@ -77,13 +68,6 @@ pub fn is_text(json: &Json, word: &str) -> bool
         Some(text) => text == word,
         None => false,
     }
-}
-
-/// A text of its own.
-pub fn text_of(alloc: Global, text: &str) -> Result<Txt, NoMemory>
-    ensures { IfOk result (λ made. made ≡ text.now) }
-{
-    Ok(Txt::from_string(String::from_str(alloc, text)?))
 }
 
 /// Whether a member is this text.

@@ -1,5 +1,5 @@
 //! The keys of a list entry.
-ghost use Rattle.std.specs.Prelude.{◌≡◌, ◌<◌, length, All, IfOk, IfErr, IfSome, option_map};
+ghost use Rattle.std.specs.Prelude.{◌≡◌, ◌<◌, length, All, IfOk, IfErr, IfSome};
 ghost use Rattle.serde_json.specs.View.{view, members_view};
 ghost use Rattle.serde_json.specs.Find.{get_member};
 ghost use Rattle.yp_schema.specs.Nodes.{node_at};
@@ -14,6 +14,7 @@ use yp_base::memory::NoMemory;
 use yp_base::row::Value;
 use yp_base::series::Series;
 use yp_schema::schema::Schema;
+use yp_value::members::member_in;
 use yp_value::text::TextFault;
 
 /// The value that JSON is read as at a node, to be kept, or the fault that it is none.
@@ -38,13 +39,6 @@ pub fn atom_of(alloc: Global, schema: &Schema, node: u32, json: &Json) -> Result
         Err(TextFault::BadText) => Err(DataError::invalid(node)),
         Err(TextFault::Memory) => Err(DataError::memory()),
     }
-}
-
-/// The member of an object that has this name.
-fn member_in<'a>(members: &'a Map<String, Json>, name: &str) -> Option<&'a Json>
-    ensures { option_map (λ json. view json.now) result ≡ get_member name.now (members_view members.now.entries) }
-{
-    members.get(name)
 }
 
 /// A key of an entry, or the fault that is found at it.

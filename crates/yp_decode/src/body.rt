@@ -9,12 +9,13 @@ ghost use Rattle.yp_decode.specs.declared.fault.StreamFault.TheVariants.{Member}
 use crate::edits::{EditBody, read_edits};
 use crate::envelope::StateChange;
 use crate::fault::StreamFault;
-use crate::members::{count, member_in, only_in, text_in};
+use crate::members::only_in;
 use serde_json::{Map, Value as Json};
 use std::alloc::Global;
 use yp_base::atom::Atom;
 use yp_base::leaf_type::LeafType;
 use yp_value::json::read_json;
+use yp_value::members::{count, member_in, text_in};
 use yp_value::text::{TextFault, read_text};
 
 /// The body of a full update: the number of its subscription, and the data of the datastore.

@@ -9,11 +9,11 @@ ghost use Rattle.yp_decode.specs.Readings.{Shows, seen_operation, seen_edit, see
 ghost use Rattle.yp_decode.specs.declared.fault.StreamFault.TheVariants.{Member};
 
 use crate::fault::StreamFault;
-use crate::members::{count, member_in, text_in};
 use serde_json::{Map, Value as Json};
 use std::alloc::Global;
 use std::collections::BTreeSet;
 use yp_base::memory::NoMemory;
+use yp_value::members::{count, member_in, text_in};
 
 /// What an edit does at its target, with the value that it carries (RFC 8072 section 2.5). A publisher
 /// merges, inserts and moves nothing.

@@ -5,11 +5,12 @@ ghost use Rattle.yp_value.specs.Json.{json_of};
 ghost use Rattle.yp_decode.specs.Envelope.{event_time_in, envelope_of, envelope_in, kind_named};
 ghost use Rattle.yp_decode.specs.Readings.{seen_envelope};
 
-use crate::members::{count, only_in, other_member, text_in};
+use crate::members::{only_in, other_member};
 use serde_json::{Map, Value as Json};
 use std::alloc::Global;
 use yp_base::memory::NoMemory;
 use yp_time::instant::event_instant;
+use yp_value::members::{count, text_in};
 
 /// A change of a subscription's state (RFC 8639 section 2.7).
 #[derive(Debug, Drop, Clone, Copy, PartialEq, Eq)]

@@ -1,36 +1,11 @@
 //! Members of JSON objects.
 ghost use Rattle.std.specs.Prelude.{◌≡◌, option_map};
-ghost use Rattle.serde_json.specs.Events.{members_len};
-ghost use Rattle.serde_json.specs.Find.{get_member};
 ghost use Rattle.serde_json.specs.View.{view, members_view};
-ghost use Rattle.yp_value.specs.Json.{text_member, seen_member};
+ghost use Rattle.yp_value.specs.Json.{seen_member};
 ghost use Rattle.yp_decode.specs.Envelope.{only_in, other_member};
 
 use serde_json::{Map, Value as Json};
-
-/// How many members an object has.
-pub fn count(members: &Map<String, Json>) -> usize
-    ensures { result ≡ members_len (members_view members.now.entries) }
-{
-    members.len()
-}
-
-/// The member of an object that has this name.
-pub fn member_in<'a>(members: &'a Map<String, Json>, name: &str) -> Option<&'a Json>
-    ensures { option_map (λ json. view json.now) result ≡ get_member name.now (members_view members.now.entries) }
-{
-    members.get(name)
-}
-
-/// The text that a member of this name is.
-pub fn text_in<'a>(members: &'a Map<String, Json>, name: &str) -> Option<&'a str>
-    ensures { option_map (λ text. text.now) result ≡ text_member name.now (members_view members.now.entries) }
-{
-    match member_in(members, name) {
-        Some(json) => json.as_str(),
-        None => None,
-    }
-}
+use yp_value::members::{count, member_in};
 
 /// The members of an object of one member, where that has this name and is an object.
 pub fn only_in<'a>(json: &'a Json, name: &str) -> Option<&'a Map<String, Json>>

@@ -4,7 +4,7 @@ use Rattle.serde_json.specs.Data.{Data, Items, no_items, item, Members, no_membe
 use Rattle.serde_json.specs.Find.{get_member, as_bool, as_str, as_array, as_object}
 use Rattle.yp_base.specs.Results.{◌>>=◌}
 use Rattle.yp_base.specs.Types.{same_text, is_among}
-use Rattle.yp_schema.specs.Stated.{texts_in}
+use Rattle.yp_value.specs.Json.{texts_in}
 use Rattle.yp_nacm_text.specs.declared.members.Part.{Part}
 use Rattle.yp_nacm_text.specs.declared.members.Part.TheVariants.{Document, Policy, Groups, Group, List as OfList, Rule}
 use Rattle.std.specs.Prelude.{Result, Ok}

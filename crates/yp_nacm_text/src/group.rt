@@ -8,12 +8,14 @@ ghost use Rattle.yp_nacm_text.specs.NameSets.{AddsName};
 ghost use Rattle.yp_nacm_text.specs.Policies.{group_in, next_group};
 
 use crate::fault::{Place, PolicyFault, PolicyKind};
-use crate::members::{Part, members_as, text_in, text_of, texts_of};
+use crate::members::{Part, members_as, texts_of};
 use crate::names::NameSet;
 use serde_json::Value as Json;
 use std::alloc::Global;
 use yp_base::series::Series;
+use yp_base::txt::text_of;
 use yp_nacm::policy::{Group, Groups};
+use yp_value::members::text_in;
 
 /// Reads a group, whose name is then taken. Of its faults the first is answered.
 fn read_group<'a>(

@@ -9,14 +9,16 @@ ghost use Rattle.yp_nacm.specs.Policies.{IsSubjectOf, IsListOf};
 ghost use Rattle.yp_nacm_text.specs.Policies.{next_rule, list_in, next_list};
 
 use crate::fault::{Place, PolicyFault, PolicyKind};
-use crate::members::{Part, items_in, members_as, text_in, text_of, texts_of};
+use crate::members::{Part, items_in, members_as, texts_of};
 use crate::names::NameSet;
 use crate::rule::read_rule;
 use serde_json::Value as Json;
 use std::alloc::Global;
 use yp_base::series::Series;
+use yp_base::txt::text_of;
 use yp_nacm::policy::{RuleList, RuleLists, Rules};
 use yp_schema::schema::Schema;
+use yp_value::members::text_in;
 
 /// The rules that items are, in a rule list of this number, or the first fault among them.
 fn read_rules(

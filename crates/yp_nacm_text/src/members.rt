@@ -1,18 +1,15 @@
 //! The members of the objects in a policy.
 ghost use Rattle.std.specs.Prelude.{◌≡◌, IfOk, option_map, option_and_then};
 ghost use Rattle.serde_json.specs.View.{view, items_view, members_view};
-ghost use Rattle.serde_json.specs.Find.{get_member, as_array};
-ghost use Rattle.yp_value.specs.Json.{text_member};
+ghost use Rattle.serde_json.specs.Find.{as_array};
 ghost use Rattle.yp_base.specs.Types.{is_among};
-ghost use Rattle.yp_schema.specs.Stated.{texts_in};
 ghost use Rattle.yp_nacm_text.specs.Members.{names_of, has_only, members_as, switch, permits_by, default_word, texts_of, items_of};
 
 use serde_json::{Map, Value as Json};
 use std::alloc::Global;
 use yp_base::leaf_type::Names;
 use yp_base::memory::NoMemory;
-use yp_base::series::Series;
-use yp_base::txt::Txt;
+use yp_value::members::{member_in, read_texts};
 
 /// The objects of a policy.
 #[derive(Drop, Clone, Copy, PartialEq, Eq)]
@@ -90,23 +87,6 @@ pub fn members_as(part: Part, json: &Json) -> Option<&Map<String, Json>>
     }
 }
 
-/// The member of an object.
-pub fn member_in<'a>(members: &'a Map<String, Json>, name: &str) -> Option<&'a Json>
-    ensures { option_map (λ json. view json.now) result ≡ get_member name.now (members_view members.now.entries) }
-{
-    members.get(name)
-}
-
-/// A member that is a text.
-pub fn text_in<'a>(members: &'a Map<String, Json>, name: &str) -> Option<&'a str>
-    ensures { option_map (λ text. text.now) result ≡ text_member name.now (members_view members.now.entries) }
-{
-    match member_in(members, name) {
-        Some(json) => json.as_str(),
-        None => None,
-    }
-}
-
 /// A switch, which is on where it is left out.
 pub fn switch_in(members: &Map<String, Json>, name: &str) -> Option<bool>
     ensures { result ≡ switch name.now (members_view members.now.entries) }
@@ -158,27 +138,6 @@ pub fn items_in<'a>(members: &'a Map<String, Json>, name: &str) -> Option<&'a [J
         Some(json) => array_of(json),
         None => Some(&[]),
     }
-}
-
-/// A text of its own.
-pub fn text_of(alloc: Global, text: &str) -> Result<Txt, NoMemory>
-    ensures { IfOk result (λ made. made ≡ text.now) }
-{
-    Ok(Txt::from_string(String::from_str(alloc, text)?))
-}
-
-/// The texts that items are.
-fn read_texts(alloc: Global, items: &[Json]) -> Result<Option<Names>, NoMemory>
-    ensures { IfOk result (λ texts. texts ≡ texts_in (items_view items.now)) }
-{
-    let mut texts = Vec::new(alloc);
-    for item in items {
-        match item.as_str() {
-            Some(text) => texts.push(text_of(alloc, text)?)?,
-            None => return Ok(None),
-        }
-    }
-    Ok(Some(Series::from_vec(texts)))
 }
 
 /// The texts of an array, none where it is left out.

@@ -8,12 +8,13 @@ ghost use Rattle.yp_nacm_text.specs.Policies.{policy_members, group_items, polic
 use crate::fault::{Place, PolicyFault, PolicyKind};
 use crate::group::read_groups;
 use crate::list::read_lists;
-use crate::members::{Part, array_of, items_in, member_in, members_as};
+use crate::members::{Part, array_of, items_in, members_as};
 use crate::switches::switches_in;
 use serde_json::{Map, Value as Json};
 use std::alloc::Global;
 use yp_nacm::policy::Policy;
 use yp_schema::schema::Schema;
+use yp_value::members::member_in;
 
 /// A member of the policy itself is missing, unknown or bad.
 const BAD_MEMBER: PolicyFault = PolicyFault::At {

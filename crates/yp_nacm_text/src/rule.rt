@@ -10,17 +10,18 @@ ghost use Rattle.yp_nacm.specs.Policies.{IsSubjectOf};
 ghost use Rattle.yp_nacm_text.specs.Rules.{are_texts, has, has_one_type, rule_members, unless_all, subject_named, subject_in, rule_in};
 
 use crate::fault::{Place, PolicyFault, PolicyKind};
-use crate::members::{Part, member_in, members_as, permits_by, text_in, text_of};
+use crate::members::{Part, members_as, permits_by};
 use crate::names::NameSet;
 use crate::operations::operations_in;
 use serde_json::{Map, Value as Json};
 use std::alloc::Global;
 use yp_base::memory::NoMemory;
-use yp_base::txt::Txt;
+use yp_base::txt::{Txt, text_of};
 use yp_nacm::policy::{Rule, Subject};
 use yp_path::fault::PathFault;
 use yp_path::rule::read_rule_path;
 use yp_schema::schema::Schema;
+use yp_value::members::{member_in, text_in};
 
 /// Whether each member is a text.
 fn are_texts(members: &Map<String, Json>) -> bool

@@ -1,8 +1,6 @@
 //! Members of JSON objects.
 ghost use Rattle.std.specs.Prelude.{◌≡◌, option_map};
 ghost use Rattle.serde_json.specs.View.{view, members_view};
-ghost use Rattle.serde_json.specs.Find.{get_member};
-ghost use Rattle.serde_json.specs.Events.{members_len};
 ghost use Rattle.yp_value.specs.Json.{text_member};
 ghost use Rattle.yp_patch.specs.Shapes.{ReadsAs, some_text, one_if, sole};
 
@@ -10,30 +8,7 @@ use crate::fault::PatchError;
 use serde_json::{Map, Value as Json};
 use std::alloc::Global;
 use yp_base::txt::Txt;
-
-/// How many members an object has.
-pub fn count(members: &Map<String, Json>) -> usize
-    ensures { result ≡ members_len (members_view members.now.entries) }
-{
-    members.len()
-}
-
-/// The member of an object.
-pub fn member_in<'a>(members: &'a Map<String, Json>, name: &str) -> Option<&'a Json>
-    ensures { option_map (λ json. view json.now) result ≡ get_member name.now (members_view members.now.entries) }
-{
-    members.get(name)
-}
-
-/// A member that is a text.
-pub fn text_in<'a>(members: &'a Map<String, Json>, name: &str) -> Option<&'a str>
-    ensures { option_map (λ text. text.now) result ≡ text_member name.now (members_view members.now.entries) }
-{
-    match member_in(members, name) {
-        Some(json) => json.as_str(),
-        None => None,
-    }
-}
+use yp_value::members::{count, member_in, text_in};
 
 /// The text of a member.
 pub fn read_text(alloc: Global, members: &Map<String, Json>, name: &str) -> Result<Txt, PatchError>

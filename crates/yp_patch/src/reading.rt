@@ -8,9 +8,7 @@ ghost use Rattle.yp_base.specs.Types.{same_text, are_distinct, is_among};
 ghost use Rattle.yp_patch.specs.Shapes.{ReadsAs, optional, some_text, one_if, op_named, op_in, place_named, some_place, has_value, may_have_place, is_beside, has_parts, parts_of, edit_of, edit_in, edits_in, ids_of, distinct, some_edits, members_of_patch, patch_of, sole, patch_in};
 
 use crate::fault::PatchError;
-use crate::members::{
-    count, member_in, one_if, only, other_than, read_some_text, read_text, text_in,
-};
+use crate::members::{one_if, only, other_than, read_some_text, read_text};
 use crate::patch::{Edit, EditOp, Edits, Patch, Place};
 use serde_json::{Map, Value as Json};
 use std::alloc::Global;
@@ -18,6 +16,7 @@ use std::collections::BTreeSet;
 use yp_base::memory::NoMemory;
 use yp_base::series::Series;
 use yp_base::txt::Txt;
+use yp_value::members::{count, member_in, text_in};
 use yp_value::payload::Payload;
 
 /// The most edits whose ids are compared without a set of them.

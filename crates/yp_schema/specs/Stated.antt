@@ -3,7 +3,7 @@ use Rattle.std.specs.Prelude.{ℕ, ◌+◌, ◌-◌, ◌==◌, ◌&&◌, ◌||�
 use Rattle.serde_json.specs.Data.{Data, Items, no_items, item, Members, no_members, member}
 use Rattle.serde_json.specs.Find.{get_member, as_bool, as_str, as_array, as_object}
 use Rattle.yp_base.specs.Types.{same_text, are_distinct, are_names}
-use Rattle.yp_value.specs.Json.{text_member}
+use Rattle.yp_value.specs.Json.{text_member, texts_in}
 use Rattle.yp_base.specs.declared.leaf_type.LeafType.{LeafType}
 use Rattle.yp_base.specs.declared.leaf_type.LeafType.TheVariants.{Bool as Truth, Int, Uint, Dec, Text, Names as Enumeration, Empty}
 use Rattle.yp_schema.specs.declared.schema.Kind.{Kind}
@@ -40,10 +40,6 @@ flag_of (Some d) = as_bool d
 
 abbrev pub flag_member : List ℕ → Members → Option Bool
 flag_member name ms = flag_of (get_member name ms)
-
-abbrev pub texts_in : Items → Option Names
-texts_in no_items = Some []
-texts_in (item d ds) = option_and_then (λ text. option_map (λ texts. text ∷ texts) (texts_in ds)) (as_str d)
 
 abbrev pub texts_member : List ℕ → Members → Option Names
 texts_member name ms = option_and_then (λ d. option_and_then texts_in (as_array d)) (get_member name ms)

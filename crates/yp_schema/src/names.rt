@@ -9,14 +9,7 @@ use std::alloc::Global;
 use yp_base::leaf_type::Names;
 use yp_base::memory::{Duplicate, NoMemory};
 use yp_base::series::Series;
-use yp_base::txt::Txt;
-
-/// A text of its own.
-pub fn text_of(alloc: Global, text: &str) -> Result<Txt, NoMemory>
-    ensures { IfOk result (λ made. made ≡ text.now) }
-{
-    Ok(Txt::from_string(String::from_str(alloc, text)?))
-}
+use yp_base::txt::{Txt, text_of};
 
 fn begins_name(b: u8) -> bool
     ensures { result ≡ begins_name b }

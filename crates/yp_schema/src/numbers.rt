@@ -5,7 +5,7 @@ ghost use Rattle.yp_schema.specs.WellFormed.{IsSchema};
 ghost use Rattle.yp_schema.specs.Reading.{numbers_from, number_of, key_numbers, numbered_node, numbered};
 
 use crate::listing::{Listed, Listing};
-use crate::names::{front_of, last_of, text_of, with_name};
+use crate::names::{front_of, last_of, with_name};
 use crate::schema::SchemaNode;
 use std::alloc::Global;
 use std::collections::BTreeMap;
@@ -13,7 +13,7 @@ use std::marker::Model;
 use yp_base::leaf_type::Names;
 use yp_base::memory::{Duplicate, NoMemory};
 use yp_base::series::Series;
-use yp_base::txt::Txt;
+use yp_base::txt::{Txt, text_of};
 
 /// The numbers of nodes, by the names on the way to them.
 #[derive(Drop)]

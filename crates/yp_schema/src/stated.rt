@@ -1,20 +1,19 @@
 //! What the JSON of one node says of it. Nothing is looked up.
 ghost use Rattle.std.specs.Prelude.{◌≡◌, ℕ, IfOk, option_map};
-ghost use Rattle.serde_json.specs.View.{view, items_view, members_view};
-ghost use Rattle.serde_json.specs.Find.{get_member};
+ghost use Rattle.serde_json.specs.View.{view, members_view};
 ghost use Rattle.yp_schema.specs.Names.{around_colon};
-ghost use Rattle.yp_value.specs.Json.{text_member};
-ghost use Rattle.yp_schema.specs.Stated.{may_have, is_own, has_only, flag_of, flag_member, texts_in, texts_member, places_in, decimal_at, integer_in, type_in, all_names, are_key_names, container_kind, container_in, list_in, enumeration_in, typed_in, leaf_in, of_kind, body_in, form_of, form_in, stated_in, node_in, tested};
+ghost use Rattle.yp_schema.specs.Stated.{may_have, is_own, has_only, flag_of, flag_member, texts_member, places_in, decimal_at, integer_in, type_in, all_names, are_key_names, container_kind, container_in, list_in, enumeration_in, typed_in, leaf_in, of_kind, body_in, form_of, form_in, stated_in, node_in, tested};
 
 use crate::enumeration::enumeration_names;
-use crate::names::{around_colon, is_name, last_of, read_path, text_of};
+use crate::names::{around_colon, is_name, last_of, read_path};
 use crate::schema::Kind;
 use serde_json::{Map, Value as Json};
 use std::alloc::Global;
 use yp_base::leaf_type::{LeafType, Names};
 use yp_base::memory::NoMemory;
 use yp_base::series::Series;
-use yp_base::txt::{Txt, are_distinct};
+use yp_base::txt::{Txt, are_distinct, text_of};
+use yp_value::members::{member_in, read_texts, text_in};
 
 /// Which members a node may have, beside `path`, `kind` and `deny-all`.
 #[derive(Drop, Clone, Copy, PartialEq, Eq)]
@@ -76,23 +75,6 @@ fn has_only(shape: Shape, members: &Map<String, Json>) -> bool
     true
 }
 
-/// The member of an object.
-fn member_in<'a>(members: &'a Map<String, Json>, name: &str) -> Option<&'a Json>
-    ensures { option_map (λ json. view json.now) result ≡ get_member name.now (members_view members.now.entries) }
-{
-    members.get(name)
-}
-
-/// A member that is a text.
-fn text_in<'a>(members: &'a Map<String, Json>, name: &str) -> Option<&'a str>
-    ensures { option_map (λ text. text.now) result ≡ text_member name.now (members_view members.now.entries) }
-{
-    match member_in(members, name) {
-        Some(json) => json.as_str(),
-        None => None,
-    }
-}
-
 /// A member that is true or false, and false where it isn't there.
 fn flag_in(members: &Map<String, Json>, name: &str) -> Option<bool>
     ensures { result ≡ flag_member name.now (members_view members.now.entries) }
@@ -101,20 +83,6 @@ fn flag_in(members: &Map<String, Json>, name: &str) -> Option<bool>
         Some(json) => json.as_bool(),
         None => Some(false),
     }
-}
-
-/// The texts of an array.
-fn read_texts(alloc: Global, items: &Vec<Json>) -> Result<Option<Names>, NoMemory>
-    ensures { IfOk result (λ texts. texts ≡ texts_in (items_view items.now.items)) }
-{
-    let mut texts = Vec::new(alloc);
-    for item in items {
-        match item.as_str() {
-            Some(text) => texts.push(text_of(alloc, text)?)?,
-            None => return Ok(None),
-        }
-    }
-    Ok(Some(Series::from_vec(texts)))
 }
 
 /// A member that is an array of texts.
@@ -126,7 +94,7 @@ fn texts_of(
     ensures { IfOk result (λ texts. texts ≡ texts_member name.now (members_view members.now.entries)) }
 {
     match member_in(members, name) {
-        Some(Json::Array(items)) => read_texts(alloc, items),
+        Some(Json::Array(items)) => read_texts(alloc, items.as_slice()),
         _ => Ok(None),
     }
 }

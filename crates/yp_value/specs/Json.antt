@@ -1,5 +1,5 @@
 -- JSON of values (RFC 7951 section 6): which is read, and what is written.
-use Rattle.std.specs.Prelude.{unsigned_abs, ℕ, ◌-◌, ◌^◌, ◌==◌, ℤ, List, Bool, true, false, Option, Some, None, option_map, option_and_then, is_some, length, if◌then◌else◌}
+use Rattle.std.specs.Prelude.{unsigned_abs, ℕ, ◌-◌, ◌^◌, ◌==◌, ℤ, List, [], ◌∷◌, Bool, true, false, Option, Some, None, option_map, option_and_then, is_some, length, if◌then◌else◌}
 use Rattle.std.specs.Borrow.{Bor}
 use Rattle.std.specs.Str.Lossy.{utf8_valid_len}
 use Rattle.serde_json.specs.Data.{unsigned, Data, null, boolean, number, string, array, Items, no_items, item, Members}
@@ -22,6 +22,11 @@ member_of name json = get name json
 -- the text that a member of this name is
 abbrev pub text_member : List ℕ → Members → Option (List ℕ)
 text_member name members = option_and_then as_str (get_member name members)
+
+-- the texts of an array, where it holds nothing else
+abbrev pub texts_in : Items → Option (List (List ℕ))
+texts_in no_items = Some []
+texts_in (item d ds) = option_and_then (λ text. option_map (λ texts. text ∷ texts) (texts_in ds)) (as_str d)
 
 -- a member that was found, as a contract sees it
 abbrev pub seen_member : Bor (List ℕ) × Bor Json → List ℕ × Data

@@ -1,7 +1,7 @@
 use Rattle.std.proofs.Common.{◌≡◌, ◌++◌, drop, option_map}
 use Rattle.serde_json.specs.View.{items_view}
-use Rattle.yp_schema.specs.Stated.{texts_in}
-use Rattle.yp_nacm_text.proofs.members.read_texts.Given as goal
+use Rattle.yp_value.specs.Json.{texts_in}
+use Rattle.yp_value.proofs.members.read_texts.Given as goal
 
 -- the texts so far, put before the rest, are all
 abbrev pub invariant-loop-item : goal.invariant-loop-item
