@@ -2,9 +2,9 @@
 ghost use Rattle.std.specs.Prelude.{◌≡◌, IfOk, true};
 ghost use Rattle.yp_schema.specs.Datastore.{is_path_of};
 
-use crate::calls::Setting;
 use case_frame::fault::{CaseFault, OrFault, or_bad};
 use case_frame::given::{part, text};
+use case_frame::setting::Setting;
 use case_frame::shown::{Answer, Told, quoted, truth};
 use serde_json::Value as Json;
 use std::alloc::Global;

@@ -4,11 +4,11 @@ ghost use Rattle.yp_schema.specs.Datastore.{AreWritable, IsDatastore, goes_down,
 ghost use Rattle.yp_filter.specs.Fits.{filter_fits};
 ghost use Rattle.yp_filter.specs.View.{filter_view};
 
-use crate::calls::Setting;
 use crate::patches::{data_of, tree_of};
 use crate::policies::{own_rules, path_of};
 use case_frame::fault::{OrFault, or_bad};
 use case_frame::given::part;
+use case_frame::setting::Setting;
 use case_frame::shown::{Answer, Told, plain, quoted, truth};
 use serde_json::Value as Json;
 use std::alloc::Global;

@@ -10,10 +10,10 @@ ghost use Rattle.yp_changes.specs.Changes.{changed_rows};
 ghost use Rattle.yp_select.specs.Selection.{selection};
 ghost use Rattle.yp_touch.specs.Absorbed.{EndsAsRow, absorbed, paths_of};
 
-use crate::calls::Setting;
 use crate::selections::{Asked, asked_of};
 use case_frame::fault::{CaseFault, OrFault, or_bad};
 use case_frame::given::{items, no_kinds, part, text};
+use case_frame::setting::Setting;
 use case_frame::shown::{Answer, Told, plain};
 use serde_json::Value as Json;
 use std::alloc::Global;

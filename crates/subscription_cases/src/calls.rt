@@ -1,68 +1,38 @@
 //! The calls that cases name, library by library.
 use crate::{filters, notices, registries};
-use case_frame::fault::{CaseFault, OrFault, or_bad};
+use case_frame::fault::{CaseFault, OrFault};
 use case_frame::frame::Calls;
-use case_frame::given::items;
+use case_frame::setting::Setting;
 use serde_json::Value as Json;
 use std::alloc::Global;
-use yp_nacm::policy::Policy;
-use yp_nacm_text::policy::read_policy;
-use yp_schema::schema::Schema;
 
-/// What earlier lines set: the schema, and the policy of access control.
+/// The libraries that cases call, under what earlier lines set.
 #[derive(Drop)]
-pub struct Setting {
-    pub schema: Schema,
-    pub policy: Policy,
+pub struct Libraries {
+    setting: Setting,
 }
 
-impl Setting {
-    /// With a schema without nodes, and the policy before any is given.
-    pub fn new(alloc: Global) -> OrFault<Setting> {
-        let schema = or_bad(Schema::read(alloc, &[]))?;
-        let policy = Policy::opening(alloc);
-        Ok(Setting { schema, policy })
-    }
-
-    fn set_schema(&mut self, alloc: Global, line: &Json) -> OrFault<bool> {
-        match line.get("schema") {
-            Some(parts) => {
-                self.schema = or_bad(Schema::read(alloc, items(parts)?))?;
-                self.policy = Policy::opening(alloc);
-                Ok(true)
-            }
-            None => Ok(false),
-        }
-    }
-
-    fn set_policy(&mut self, alloc: Global, line: &Json) -> OrFault<bool> {
-        match line.get("policy") {
-            Some(json) => {
-                self.policy = or_bad(read_policy(alloc, &self.schema, json))?;
-                Ok(true)
-            }
-            None => Ok(false),
-        }
+impl Libraries {
+    /// Under a schema without nodes, and the policy before any is given.
+    pub fn new(alloc: Global) -> OrFault<Libraries> {
+        let setting = Setting::new(alloc)?;
+        Ok(Libraries { setting })
     }
 }
 
-impl Calls for Setting {
-    /// Sets what a line without an answer sets: a schema by its parts, under
-    /// the policy before any is given, or a policy. False where the line is a case.
+impl Calls for Libraries {
     fn set(&mut self, alloc: Global, line: &Json) -> OrFault<bool> {
-        if line.get("gives").is_some() {
-            return Ok(false);
-        }
-        Ok(self.set_schema(alloc, line)? || self.set_policy(alloc, line)?)
+        self.setting.set(alloc, line)
     }
 
     fn answer(&self, alloc: Global, call: &str, arguments: &Json) -> OrFault<String> {
-        if let Some(given) = filters::answer(alloc, &self.schema, call, arguments)? {
+        let setting = &self.setting;
+        if let Some(given) = filters::answer(alloc, &setting.schema, call, arguments)? {
             return Ok(given);
         }
-        if let Some(given) = registries::answer(alloc, self, call, arguments)? {
+        if let Some(given) = registries::answer(alloc, setting, call, arguments)? {
             return Ok(given);
         }
-        notices::answer(alloc, &self.schema, call, arguments)?.ok_or(CaseFault::NoSuchCall)
+        notices::answer(alloc, &setting.schema, call, arguments)?.ok_or(CaseFault::NoSuchCall)
     }
 }

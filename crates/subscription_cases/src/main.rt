@@ -10,7 +10,7 @@ mod notices;
 mod registries;
 mod subscriptions;
 
-use calls::Setting;
+use calls::Libraries;
 use case_frame::frame::report;
 use std::{io, str};
 use yp_io::persistent::Persistent;
@@ -24,8 +24,8 @@ fn main(rt: HostRuntime) -> anyhow::Result<()> {
     let alloc = rt.alloc();
     let mut source = StdSource::new(Persistent::reader(rt.reader()));
     let whole = read_whole(alloc, &mut source, MOST_BYTES)?;
-    let mut setting = Setting::new(alloc)?;
-    let told = report(alloc, &mut setting, str::from_utf8(whole.bytes.items())?)?;
+    let mut libraries = Libraries::new(alloc)?;
+    let told = report(alloc, &mut libraries, str::from_utf8(whole.bytes.items())?)?;
     let mut sink = StdSink::new(Persistent::writer(io::writer(&rt)));
     write_whole(&mut sink, told.as_bytes())?;
     Ok(())

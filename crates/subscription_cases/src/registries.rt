@@ -1,10 +1,10 @@
 //! Calls of `yp_registry`: steps on one registry, each with its answer.
 use crate::asks::texts;
-use crate::calls::Setting;
 use crate::filters::tell_filter;
 use crate::subscriptions;
 use case_frame::fault::{CaseFault, OrFault};
 use case_frame::given::{id, items, named, part};
+use case_frame::setting::Setting;
 use case_frame::shown::{Answer, Told, plain, truth};
 use serde_json::Value as Json;
 use std::alloc::Global;

@@ -2,9 +2,9 @@
 ghost use Rattle.std.specs.Prelude.{◌<◌, IfOk, length};
 
 use crate::asks::{amend, ask, texts, tick};
-use crate::calls::Setting;
 use case_frame::fault::{CaseFault, OrFault};
 use case_frame::given::{id, number, part};
+use case_frame::setting::Setting;
 use case_frame::shown::{Answer, quoted, truth};
 use serde_json::Value as Json;
 use std::alloc::Global;
