@@ -107,10 +107,7 @@ pub fn request_in(json: &Json) -> Option<Request<&Json>>
 fn patch_flaw(alloc: Global, json: &Json, error: &PatchError) -> Flaw
     ensures { result ≡ kinds.Patch }
 {
-    Flaw {
-        kind: ScriptKind::Patch,
-        cause: patch_cause(alloc, json, error),
-    }
+    Flaw::of(ScriptKind::Patch, patch_cause(alloc, json, error))
 }
 
 /// The patch that a line asks for (RFC 8072).
@@ -131,10 +128,10 @@ fn read_edit(alloc: Global, json: &Json) -> Result<Command, Halt>
 fn policy_flaw(alloc: Global, schema: &Schema, json: &Json, place: Place, kind: PolicyKind) -> Flaw
     ensures { result ≡ kinds.Policy }
 {
-    Flaw {
-        kind: ScriptKind::Policy,
-        cause: policy_cause(alloc, schema, json, place, kind),
-    }
+    Flaw::of(
+        ScriptKind::Policy,
+        policy_cause(alloc, schema, json, place, kind),
+    )
 }
 
 /// The policy that a line asks for (RFC 8341 section 3.5).

@@ -85,14 +85,18 @@ impl fmt::Debug for Flaw {
 impl Error for Flaw {}
 
 impl Flaw {
+    /// A fault of this kind, of this cause.
+    pub fn of(kind: ScriptKind, cause: Cause) -> Flaw
+        ensures { result ≡ kind }
+    {
+        Flaw { kind, cause }
+    }
+
     /// A fault of members, of this cause.
     pub fn member(cause: Cause) -> Flaw
         ensures { result ≡ Member }
     {
-        Flaw {
-            kind: ScriptKind::Member,
-            cause,
-        }
+        Flaw::of(ScriptKind::Member, cause)
     }
 
     /// A member of this name is not what it must be, as these words say.
@@ -106,29 +110,26 @@ impl Flaw {
     pub fn out_of_range(name: &'static str, low: u64, high: u64) -> Flaw
         ensures { result ≡ Limit }
     {
-        Flaw {
-            kind: ScriptKind::Limit,
-            cause: Cause::of(Wrong::OutOfRange { name, low, high }),
-        }
+        Flaw::of(
+            ScriptKind::Limit,
+            Cause::of(Wrong::OutOfRange { name, low, high }),
+        )
     }
 
     /// A script has more of these than it may have.
     pub fn too_many(most: u64, what: &'static str) -> Flaw
         ensures { result ≡ Limit }
     {
-        Flaw {
-            kind: ScriptKind::Limit,
-            cause: Cause::of(Wrong::TooMany { most, what }),
-        }
+        Flaw::of(ScriptKind::Limit, Cause::of(Wrong::TooMany { most, what }))
     }
 
     /// The text of a member is no instant.
     pub fn no_instant(alloc: Global, name: &'static str, text: &str) -> Flaw
         ensures { result ≡ Instant }
     {
-        Flaw {
-            kind: ScriptKind::Instant,
-            cause: Cause::about(Wrong::NoInstant { name }, Excerpt::of(alloc, text)),
-        }
+        Flaw::of(
+            ScriptKind::Instant,
+            Cause::about(Wrong::NoInstant { name }, Excerpt::of(alloc, text)),
+        )
     }
 }

@@ -61,16 +61,9 @@ fn lane_form(json: &Json) -> Option<Form<&Json>>
     if !has_count(json, 2) {
         return None;
     }
-    match member(json, "lane") {
-        Some(lane) => match member(json, "do") {
-            Some(done) => match request_in(done) {
-                Some(request) => Some(Form::Lane(lane, request)),
-                None => None,
-            },
-            None => None,
-        },
-        None => None,
-    }
+    let lane = member(json, "lane")?;
+    let request = request_in(member(json, "do")?)?;
+    Some(Form::Lane(lane, request))
 }
 
 /// The form of a line, where it has one that is read.
@@ -87,8 +80,5 @@ pub fn line_form(json: &Json) -> Option<Form<&Json>>
 pub fn no_form(alloc: Global, json: &Json) -> Flaw
     ensures { result ≡ UnknownCommand }
 {
-    Flaw {
-        kind: ScriptKind::UnknownCommand,
-        cause: form_cause(alloc, json),
-    }
+    Flaw::of(ScriptKind::UnknownCommand, form_cause(alloc, json))
 }

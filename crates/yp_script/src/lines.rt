@@ -92,10 +92,10 @@ fn past_limit(number: u32) -> Flaw
 fn too_long(text: &[u8]) -> Flaw
     ensures { result ≡ TooLong }
 {
-    Flaw {
-        kind: ScriptKind::TooLong,
-        cause: Cause::of(Wrong::TooLong { bytes: text.len() }),
-    }
+    Flaw::of(
+        ScriptKind::TooLong,
+        Cause::of(Wrong::TooLong { bytes: text.len() }),
+    )
 }
 
 /// The JSON of a line of this number: `Limit` where it isn't within the limits of a script, then `TooLong` and
@@ -116,10 +116,7 @@ pub fn json_within(
     }
     match read_json(alloc, text)? {
         Ok(json) => Ok(Ok(json)),
-        Err(cause) => Ok(Err(Flaw {
-            kind: ScriptKind::NotJson,
-            cause,
-        })),
+        Err(cause) => Ok(Err(Flaw::of(ScriptKind::NotJson, cause))),
     }
 }
 
@@ -152,11 +149,11 @@ pub fn text_within(within: bool, text: &[u8]) -> Result<&[u8], ScriptKind>
 pub fn past_bytes(kind: ScriptKind) -> Flaw
     ensures { result ≡ kind }
 {
-    Flaw {
+    Flaw::of(
         kind,
-        cause: Cause::of(Wrong::TooMany {
+        Cause::of(Wrong::TooMany {
             most: BYTE_LIMIT as u64,
             what: "bytes",
         }),
-    }
+    )
 }

@@ -19,10 +19,7 @@ use yp_schema::schema::Schema;
 fn node_flaw(alloc: Global, part: Option<&Json>, place: usize, kind: SchemaKind) -> Flaw
     ensures { result ≡ kinds.Schema }
 {
-    Flaw {
-        kind: ScriptKind::Schema,
-        cause: node_cause(alloc, part, place, kind),
-    }
+    Flaw::of(ScriptKind::Schema, node_cause(alloc, part, place, kind))
 }
 
 /// The parts of a schema so far, each with the number of its line, and what they compile to, where they

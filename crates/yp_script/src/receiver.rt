@@ -70,14 +70,8 @@ fn new_name<'a>(receivers: &Receivers, json: &'a Json) -> Option<&'a str>
     ensures read { option_map (λ text. text.now) result ≡ where_true (is_new_name receivers.now) (text_at (codes "name") (view json.now)) }
 {
     match text_in(json, "name") {
-        Some(text) => {
-            if is_name(text) && receivers.number_of(text).is_none() {
-                Some(text)
-            } else {
-                None
-            }
-        }
-        None => None,
+        Some(text) if is_name(text) && receivers.number_of(text).is_none() => Some(text),
+        _ => None,
     }
 }
 
@@ -86,14 +80,8 @@ fn user_name(json: &Json) -> Option<&str>
     ensures { option_map (λ text. text.now) result ≡ where_true is_user_name (text_at (codes "user") (view json.now)) }
 {
     match text_in(json, "user") {
-        Some(text) => {
-            if 1 <= text.len() && text.len() <= 64 {
-                Some(text)
-            } else {
-                None
-            }
-        }
-        None => None,
+        Some(text) if 1 <= text.len() && text.len() <= 64 => Some(text),
+        _ => None,
     }
 }
 

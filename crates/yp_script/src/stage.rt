@@ -77,10 +77,7 @@ pub fn misplaced<V>(stage: Stage, form: &Form<V>) -> Flaw
         (Stage::Started, _) => Wrong::Before(Awaited::Schema),
         _ => Wrong::Misplaced(place_of(form)),
     };
-    Flaw {
-        kind: ScriptKind::Order,
-        cause: Cause::of(wrong),
-    }
+    Flaw::of(ScriptKind::Order, Cause::of(wrong))
 }
 
 /// The fault of a script that ends at a stage at which it may not end.
@@ -92,8 +89,5 @@ pub fn unfinished(stage: Stage) -> Flaw
         Stage::Started => Awaited::Schema,
         _ => Awaited::Join,
     };
-    Flaw {
-        kind: ScriptKind::Order,
-        cause: Cause::of(Wrong::Ends(awaited)),
-    }
+    Flaw::of(ScriptKind::Order, Cause::of(Wrong::Ends(awaited)))
 }
