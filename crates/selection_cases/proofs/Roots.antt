@@ -11,8 +11,8 @@ use Rattle.yp_filter.specs.Filters.{Asked}
 use Rattle.yp_nacm.specs.declared.compile.UserRules.{UserRules}
 use Rattle.yp_nacm.specs.AccessLaws.{readable_above}
 use Rattle.yp_nacm.specs.Decision.{is_readable}
-use Rattle.yp_select.specs.KeptLaws.{kept_datastore}
-use Rattle.yp_select.specs.Selection.{selection}
+use Rattle.yp_kept.specs.KeptLaws.{kept_datastore}
+use Rattle.yp_kept.specs.Selection.{selection}
 use Rattle.yp_touch.specs.declared.root.Root.{Root}
 use Rattle.yp_touch.specs.Absorbed.{EndsAsRow, absorbed, paths_of}
 use Rattle.yp_touch.specs.Windows.{RootsEndAsRows}

@@ -8,9 +8,9 @@ use Rattle.yp_base.specs.RowLaws.{within_keeps_order}
 use Rattle.yp_schema.specs.declared.schema.SchemaNode.{SchemaNode}
 use Rattle.yp_schema.specs.Datastore.{IsDatastore, IsRowOf, AreWritable}
 use Rattle.yp_filter.specs.Filters.{Asked}
-use Rattle.yp_select.specs.Selection.{selection}
-use Rattle.yp_select.specs.SelectionLaws.{all_selected, top_writable}
-use Rattle.yp_select.specs.KeptLaws.{kept_in_order, kept_of_schema}
+use Rattle.yp_kept.specs.Selection.{selection}
+use Rattle.yp_kept.specs.SelectionLaws.{all_selected, top_writable}
+use Rattle.yp_kept.specs.KeptLaws.{kept_in_order, kept_of_schema}
 
 pub below_writable : (nodes : List SchemaNode) (asked : Asked) (readable : List Seg → Bool) (at : List Seg) (rows : List Row) → IsDatastore nodes rows → AreWritable nodes [] (rows_within at (selection nodes asked readable rows))
 below_writable nodes asked readable at rows datastore =

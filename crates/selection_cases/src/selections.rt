@@ -20,9 +20,9 @@ use yp_base::row::{Rows, Value};
 use yp_base::steps::Steps;
 use yp_filter::filter::Filter;
 use yp_filter::same::same_filter;
+use yp_kept::keeping::kept;
 use yp_nacm::compile::UserRules;
 use yp_schema::schema::Schema;
-use yp_select::keeping::kept;
 use yp_select::select::{select_all, select_at, select_below};
 use yp_tree::tree::Tree;
 
@@ -78,7 +78,7 @@ pub fn asked_of(alloc: Global, setting: &Setting, arguments: &Json) -> OrFault<A
 }
 
 /// What is selected, with a count of steps of its own.
-#[tactic(auto, using(yp_select::specs::KeptLaws::kept_writable))]
+#[tactic(auto, using(yp_kept::specs::KeptLaws::kept_writable))]
 fn select_counted<L: Ledger>(
     alloc: Global,
     schema: &Schema,

@@ -7,7 +7,7 @@ ghost use Rattle.yp_filter.specs.Fits.{filter_fits};
 ghost use Rattle.yp_filter.specs.View.{filter_view};
 ghost use Rattle.yp_nacm.specs.Decision.{is_readable};
 ghost use Rattle.yp_changes.specs.Changes.{changed_rows};
-ghost use Rattle.yp_select.specs.Selection.{selection};
+ghost use Rattle.yp_kept.specs.Selection.{selection};
 ghost use Rattle.yp_touch.specs.Absorbed.{EndsAsRow, absorbed, paths_of};
 
 use crate::selections::{Asked, asked_of};

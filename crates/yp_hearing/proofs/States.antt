@@ -20,7 +20,7 @@ use Rattle.yp_journal.specs.History.{JournalState, first_state, rows_after, next
 use Rattle.yp_attempt.specs.Moments.{Moment, Act, Quiet, Starts, Controls, Drops}
 use Rattle.yp_moment.specs.Entries.{selected_by, act_of, moments_from, moments_of}
 use Rattle.yp_moment.specs.Followed.{CanBeFollowed}
-use Rattle.yp_select.specs.Selection.{kept, selection}
+use Rattle.yp_kept.specs.Selection.{kept, selection}
 use Rattle.yp_nacm.specs.Decision.{visible_rows}
 
 -- ---- rows

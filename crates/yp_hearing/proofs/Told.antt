@@ -11,9 +11,9 @@ use Rattle.yp_path.specs.Targets.{has_texts}
 use Rattle.yp_nacm.specs.AccessLaws.{readable_above}
 use Rattle.yp_registry.specs.Registry.{live_at}
 use Rattle.yp_terms.specs.Terms.{Terms}
-use Rattle.yp_select.specs.KeptLaws.{kept_datastore}
-use Rattle.yp_select.specs.Selection.{kept}
-use Rattle.yp_select.specs.SelectionLaws.{all_selected}
+use Rattle.yp_kept.specs.KeptLaws.{kept_datastore}
+use Rattle.yp_kept.specs.Selection.{kept}
+use Rattle.yp_kept.specs.SelectionLaws.{all_selected}
 use Rattle.yp_nacm.specs.Decision.{visible_rows}
 use Rattle.yp_touch.specs.Windows.{DatastoresAreWhole}
 use Rattle.yp_feed.specs.declared.item.Item.{Item}

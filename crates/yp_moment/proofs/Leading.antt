@@ -13,8 +13,8 @@ use Rattle.yp_filter.specs.Filters.{all_rows}
 use Rattle.yp_registry.specs.Registry.{live_at}
 use Rattle.yp_terms.specs.Terms.{Terms}
 use Rattle.yp_changes.specs.Records.{HasNone, window_record}
-use Rattle.yp_select.specs.KeptLaws.{kept_datastore}
-use Rattle.yp_select.specs.Selection.{selection}
+use Rattle.yp_kept.specs.KeptLaws.{kept_datastore}
+use Rattle.yp_kept.specs.Selection.{selection}
 use Rattle.yp_touch.specs.Absorbed.{selections}
 use Rattle.yp_touch.specs.Windows.{WindowsLead}
 use Rattle.yp_journal.specs.declared.entry.Entry.{Entry}

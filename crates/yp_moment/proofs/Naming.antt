@@ -12,8 +12,8 @@ use Rattle.yp_nacm.specs.Same.{are_same_rules}
 use Rattle.yp_nacm.specs.SameLaws.{same_are_one}
 use Rattle.yp_registry.specs.Registry.{live_at}
 use Rattle.yp_terms.specs.Terms.{Terms}
-use Rattle.yp_select.specs.Concealed.{AllReadable}
-use Rattle.yp_select.specs.KeptLaws.{kept_readable}
+use Rattle.yp_kept.specs.Concealed.{AllReadable}
+use Rattle.yp_kept.specs.KeptLaws.{kept_readable}
 use Rattle.yp_touch.specs.Concealed.{IsReadableChange}
 use Rattle.yp_touch.specs.Windows.{WindowsConceal}
 use Rattle.yp_journal.specs.declared.entry.Entry.{Entry}

@@ -7,7 +7,7 @@ use Rattle.yp_nacm.specs.Same.{are_same_rules}
 use Rattle.yp_registry.specs.Registry.{live_at}
 use Rattle.yp_terms.specs.Terms.{Terms}
 use Rattle.yp_patch.specs.declared.patch.Patch.{Patch}
-use Rattle.yp_select.specs.Selection.{kept_rows}
+use Rattle.yp_kept.specs.Selection.{kept_rows}
 use Rattle.yp_journal.specs.declared.command.Command.{Command}
 use Rattle.yp_journal.specs.declared.command.Command.TheVariants.{Edit, Establish}
 use Rattle.yp_journal.specs.declared.entry.Entry.{Entry}

@@ -2,7 +2,7 @@
 use Rattle.std.specs.Prelude.{List, Bool}
 use Rattle.std.specs.List.{AllByRecursion}
 use Rattle.yp_base.specs.declared.path.Seg.{Seg}
-use Rattle.yp_select.specs.Concealed.{AllReadable}
+use Rattle.yp_kept.specs.Concealed.{AllReadable}
 use Rattle.yp_touch.specs.Concealed.{IsReadableChange}
 use Rattle.yp_attempt.specs.Tracks.{Body, All, Edits, Marked, Notice}
 

@@ -15,7 +15,7 @@ use Rattle.yp_nacm.specs.AccessLaws.{readable_above}
 use Rattle.yp_registry.specs.Registry.{live_at}
 use Rattle.yp_terms.specs.Terms.{Terms}
 use Rattle.yp_changes.specs.Records.{change_at, is_excluded, touched_paths, window_record}
-use Rattle.yp_select.specs.KeptLaws.{kept_datastore}
+use Rattle.yp_kept.specs.KeptLaws.{kept_datastore}
 use Rattle.yp_journal.specs.declared.entry.Entry.{Entry}
 use Rattle.yp_journal.specs.declared.receiver.ReceiverInfo.{ReceiverInfo}
 use Rattle.yp_journal.specs.History.{JournalState, first_state, rules_at, may_read, state_of, state_at}

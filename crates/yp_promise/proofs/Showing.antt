@@ -14,7 +14,7 @@ use Rattle.yp_feed.specs.declared.item.Item.{Item}
 use Rattle.yp_feed.specs.declared.item.Item.TheVariants.{Started, Modified, Incomplete, Suspended, Resumed, Sync, Terminated, Changes, Periodic}
 use Rattle.yp_schema.specs.declared.schema.SchemaNode.{SchemaNode}
 use Rattle.yp_schema.specs.Datastore.{IsRowOf}
-use Rattle.yp_select.specs.SelectionLaws.{top_writable}
+use Rattle.yp_kept.specs.SelectionLaws.{top_writable}
 use Rattle.yp_attempt.specs.Attempts.{Notification, taken_of}
 use Rattle.yp_attempt.specs.ListLaws.{all_before, all_filter}
 use Rattle.yp_attempt.specs.Tracks.{Attempt, Body, All, Edits, Marked, Notice}

@@ -7,7 +7,7 @@ use Rattle.yp_filter.specs.Filters.{Asked}
 use Rattle.yp_nacm.specs.declared.compile.UserRules.{UserRules}
 use Rattle.yp_nacm.specs.Decision.{is_readable}
 use Rattle.yp_base.specs.declared.row.Row.{Row}
-use Rattle.yp_select.specs.Selection.{selection}
+use Rattle.yp_kept.specs.Selection.{selection}
 use Rattle.yp_touch.specs.Absorbed.{absorbed}
 use Rattle.yp_schema.specs.declared.schema.SchemaNode.{SchemaNode}
 use Rattle.yp_touch.specs.declared.root.Root.{Root}

@@ -212,6 +212,10 @@ row_way : (nodes : List SchemaNode) (path : List Seg) (value : Value) → goes_t
 row_way nodes [] value h = h
 row_way nodes (seg ∷ path) value h = row_goes_down nodes None (seg ∷ path) value h
 
+-- the path of a row goes down
+pub row_down : (nodes : List SchemaNode) (row : Row) → IsRowOf nodes row → goes_down nodes None row.path ≡ true
+row_down nodes row is = row_goes_down nodes None row.path row.value is.goes
+
 -- the path of a row is one of the schema
 pub row_path : (nodes : List SchemaNode) (row : Row) → IsRowOf nodes row → is_path_of nodes row.path ≡ true
 row_path nodes row is = row_way nodes row.path row.value is.goes

@@ -26,10 +26,10 @@ use Rattle.yp_schema.specs.Datastore.{keys_fit, keys_of_kind, is_segment, goes_d
 use Rattle.yp_schema.specs.SchemaLaws.{segment_within, first_segment}
 use Rattle.yp_filter.specs.Filters.{Node, Nodes, select, compare, within, unknown, unknown_compare, none, more, of_set, node_size, set_size}
 use Rattle.yp_filter.specs.Fits.{is_child_of, node_fits, set_fits}
-use Rattle.yp_select.specs.Matches.{atom_in, either_of, key_among, key_in, key_at, match_segment, holds_by, match_holds, all_hold}
-use Rattle.yp_select.specs.Selection.{enters_by, all_match, has_match, set_names, set_selects, enters, keeps, node_leads, set_leads, kept}
+use Rattle.yp_kept.specs.Matches.{atom_in, either_of, key_among, key_in, key_at, match_segment, holds_by, match_holds, all_hold}
+use Rattle.yp_kept.specs.Selection.{enters_by, all_match, has_match, set_names, set_selects, enters, keeps, node_leads, set_leads, kept}
 use Rattle.yp_select.specs.Reaches.{key_asked, asks_keys, onto, entry_keys, names_one, way_segment, is_narrow, are_narrow, own_by, own_of_node, own_of_nodes, own_reached, below_by, below_of_node, below_of_nodes, below_reached, is_one_of, is_below, is_reached, node_stands, set_stands}
-use Rattle.yp_select.specs.KeptLaws.{keeps_hold}
+use Rattle.yp_kept.specs.KeptLaws.{keeps_hold}
 
 -- ---- the entry that a set asks for
 

@@ -1,13 +1,6 @@
-pub mod Keys
-pub mod Ways
-pub mod Sets
-pub mod Leading
-pub mod Led
-pub mod OnWay
-pub mod Selecting
-pub mod Tops
-pub mod Those
 pub mod Apart
 pub mod Covering
 pub mod Reading
-pub mod Forms
+pub mod Selecting
+pub mod Those
+pub mod Tops

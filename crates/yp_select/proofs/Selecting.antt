@@ -8,7 +8,7 @@ use Rattle.yp_base.specs.RowLaws.{picked}
 use Rattle.yp_schema.specs.declared.schema.SchemaNode.{SchemaNode}
 use Rattle.yp_schema.specs.Datastore.{goes_down, IsRowOf}
 use Rattle.yp_nacm.specs.Decision.{visible_rows}
-use Rattle.yp_select.proofs.Ways.{row_down}
+use Rattle.yp_schema.specs.SchemaLaws.{row_down}
 
 -- some of the rows are no more than all
 pub picked_few : (p : List Seg → Bool) (rows : List Row) → length (picked p rows) ≤ length rows

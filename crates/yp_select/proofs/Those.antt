@@ -10,9 +10,9 @@ use Rattle.yp_base.specs.Order.{path_cmp, is_within}
 use Rattle.yp_base.specs.Rows.{value_at, put_row, put_rows, rows_within, AreInOrder}
 use Rattle.yp_base.specs.RowLaws.{picked, none_past, first_order, rest_order, value_at_put, some_keep_order}
 use Rattle.yp_tree.specs.Alike.{same_rows}
-use Rattle.yp_select.specs.Matches.{either_of}
+use Rattle.yp_kept.specs.Matches.{either_of}
 use Rattle.yp_select.specs.Reaches.{is_one_of, AreThose}
-use Rattle.yp_select.specs.SelectionLaws.{value_selected}
+use Rattle.yp_kept.specs.SelectionLaws.{value_selected}
 
 -- none are those of no path
 pub none_are : (all : List Row) → AreThose (is_one_of []) all []

@@ -1,11 +1,3 @@
-pub mod Concealed
-pub mod SelectionLaws
-pub mod Matches
-pub mod Selection
-pub mod Form
-pub mod Visits
-pub mod Standing
-pub mod KeptLaws
-pub mod Reaches
-pub mod Places
 pub mod PlaceLaws
+pub mod Places
+pub mod Reaches

@@ -23,12 +23,12 @@ use Rattle.yp_schema.specs.Datastore.{is_leaf_kind}
 use Rattle.yp_schema.specs.SchemaLaws.{last_node_append}
 use Rattle.yp_filter.specs.Filters.{Node, Nodes, select, compare, within, unknown, unknown_compare, none, more, Asked, all_rows, of_set, node_compares, set_compares, compares}
 use Rattle.yp_nacm.specs.Decision.{visible_rows}
-use Rattle.yp_select.specs.Matches.{match_segment, key_at, holds_by, node_holds, all_hold}
-use Rattle.yp_select.specs.Selection.{enters_by, keeps_by, node_leads, set_leads, keeps, kept, selection}
+use Rattle.yp_kept.specs.Matches.{match_segment, key_at, holds_by, node_holds, all_hold}
+use Rattle.yp_kept.specs.Selection.{enters_by, keeps_by, node_leads, set_leads, keeps, kept, selection}
 use Rattle.yp_select.specs.Reaches.{is_one_of}
 use Rattle.yp_select.specs.Places.{path_above, is_compared, moved_place, is_moved, DifferAt}
-use Rattle.yp_select.specs.SelectionLaws.{value_selected}
-use Rattle.yp_select.specs.KeptLaws.{Then, value_kept}
+use Rattle.yp_kept.specs.SelectionLaws.{value_selected}
+use Rattle.yp_kept.specs.KeptLaws.{Then, value_kept}
 
 above_append : (path : List Seg) (seg : Seg) → path_above (path ++ seg ∷ []) ≡ path
 above_append [] seg = refl

@@ -10,8 +10,8 @@ use Rattle.yp_base.specs.Rows.{value_at}
 use Rattle.yp_schema.specs.declared.schema.SchemaNode.{SchemaNode}
 use Rattle.yp_schema.specs.Nodes.{node_at}
 use Rattle.yp_filter.specs.Filters.{Node, Nodes, select, compare, within, unknown, unknown_compare, none, more}
-use Rattle.yp_select.specs.Matches.{atom_in, either_of}
-use Rattle.yp_select.specs.Selection.{enters_by}
+use Rattle.yp_kept.specs.Matches.{atom_in, either_of}
+use Rattle.yp_kept.specs.Selection.{enters_by}
 
 -- ---- sets that ask for one entry
 

@@ -9,9 +9,9 @@ ghost use Rattle.yp_schema.specs.declared.schema.SchemaNode.{SchemaNode};
 ghost use Rattle.yp_schema.specs.Datastore.{AreWritable, IsDatastore, IsRowOf};
 ghost use Rattle.yp_filter.specs.Filters.{Asked, all_rows};
 ghost use Rattle.yp_nacm.specs.Decision.{IsClosed, visible_rows};
-ghost use Rattle.yp_select.specs.Concealed.{AllReadable};
+ghost use Rattle.yp_kept.specs.Concealed.{AllReadable};
 ghost use Rattle.yp_select.specs.Places.{DifferAt, is_moved};
-ghost use Rattle.yp_select.specs.Selection.{kept, selection};
+ghost use Rattle.yp_kept.specs.Selection.{kept, selection};
 
 /// The selection of a datastore is a datastore, where what stands above what may be read may be read too.
 pub fn selection_is_a_datastore()
@@ -20,7 +20,7 @@ pub fn selection_is_a_datastore()
 {}
 
 /// Each row that is selected may be read, and has the value that it has in the datastore.
-#[tactic(auto, using(crate::specs::SelectionLaws::selected_readable, crate::specs::SelectionLaws::value_selected))]
+#[tactic(auto, using(yp_kept::specs::SelectionLaws::selected_readable, yp_kept::specs::SelectionLaws::value_selected))]
 pub fn selected_rows_may_be_read()
     ensures each { (readable : List Seg → Bool) (rows : List Row) → AllReadable readable (visible_rows readable rows) }
     ensures value { (readable : List Seg → Bool) (path : List Seg) (rows : List Row)
@@ -29,7 +29,7 @@ pub fn selected_rows_may_be_read()
 
 /// Rows of a schema in order stay so when they are selected, and what is selected at or below a path is the
 /// selection of the rows there.
-#[tactic(auto, using(crate::specs::SelectionLaws::selection_in_order, crate::specs::SelectionLaws::selection_of_schema, crate::specs::SelectionLaws::selection_within))]
+#[tactic(auto, using(yp_kept::specs::SelectionLaws::selection_in_order, yp_kept::specs::SelectionLaws::selection_of_schema, yp_kept::specs::SelectionLaws::selection_within))]
 pub fn selection_keeps_rows()
     ensures order { (readable : List Seg → Bool) (rows : List Row) → AreInOrder rows
         → AreInOrder (visible_rows readable rows) }
@@ -40,7 +40,7 @@ pub fn selection_keeps_rows()
 {}
 
 /// Rows of a schema in order can be written at the top, and so can a selection of them.
-#[tactic(auto, using(crate::specs::SelectionLaws::top_writable))]
+#[tactic(auto, using(yp_kept::specs::SelectionLaws::top_writable))]
 pub fn selection_can_be_written()
     ensures rows { (nodes : List SchemaNode) (rows : List Row) → AreInOrder rows → AllByRecursion (IsRowOf nodes) rows
         → AreWritable nodes [] rows }

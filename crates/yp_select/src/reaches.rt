@@ -3,13 +3,13 @@ ghost use Rattle.std.specs.Prelude.{◌≡◌, ◌++◌, [], ◌<◌, length, tr
 ghost use Rattle.yp_filter.specs.View.{node_view, set_view, nodes_of};
 ghost use Rattle.yp_select.specs.Reaches.{node_key, key_asked, asks_keys, entry_keys, names_one, is_narrow, are_narrow, own_of_node, own_reached, below_of_node, below_reached, node_stands, set_stands};
 
-use crate::matching::atom_in;
 use std::alloc::Global;
 use yp_base::atom::{Atom, Keys};
 use yp_base::memory::{Duplicate, NoMemory};
 use yp_base::path::{Path, Seg};
 use yp_base::series::Series;
 use yp_filter::filter::{FilterNode, FilterSet};
+use yp_kept::matching::atom_in;
 use yp_schema::schema::{Kind, Schema};
 
 /// Where the rows that a filter keeps can be: at the paths of `own`, and at or below those of `below`.

@@ -10,14 +10,10 @@ ghost use Rattle.yp_filter.specs.Filters.{filter_size, of_set, set_size};
 ghost use Rattle.yp_filter.specs.Fits.{filter_fits, set_fits};
 ghost use Rattle.yp_filter.specs.View.{filter_view, set_view};
 ghost use Rattle.yp_nacm.specs.Decision.{visible_rows};
-ghost use Rattle.yp_select.specs.Selection.{kept, selection};
+ghost use Rattle.yp_kept.specs.Selection.{kept, selection};
 
-use crate::form::could_be_kept;
-use crate::keeping::kept;
 use crate::reached::rows_reached;
 use crate::reaches::reaches_of;
-use crate::standing::Way;
-use crate::visible::Visible;
 use std::alloc::Global;
 use std::sync::ledger::Ledger;
 use yp_base::memory::{Duplicate, NoMemory};
@@ -26,6 +22,10 @@ use yp_base::row::{Rows, Value};
 use yp_base::series::Series;
 use yp_base::steps::Steps;
 use yp_filter::filter::{Filter, FilterSet};
+use yp_kept::form::could_be_kept;
+use yp_kept::keeping::kept;
+use yp_kept::standing::Way;
+use yp_kept::visible::Visible;
 use yp_nacm::readable::Readable;
 use yp_schema::schema::Schema;
 use yp_tree::tree::Tree;
@@ -78,7 +78,7 @@ fn keep_readable<R: Readable>(
 /// Of these rows those that a filter's set keeps, among all that may be read. What stands on the way to a
 /// row is kept for the next one, as far as both ways are the same. It counts at most a visit for each row
 /// and each node of the set.
-#[tactic(auto, using(crate::proofs::Ways::row_down))]
+#[tactic(auto, using(yp_schema::specs::SchemaLaws::row_down))]
 fn keep_kept<R: Readable, L: Ledger>(
     alloc: Global,
     visible: &Visible<R>,
@@ -125,7 +125,7 @@ fn keep_selected<R: Readable, L: Ledger>(
 /// The value that a reader's selection by a filter has at a path, and `None` exactly where it has no row
 /// there. It counts at most one visit, and one for each node of the filter. Where the filter's form alone
 /// says no, nothing is looked up.
-#[tactic(auto, using(crate::specs::KeptLaws::value_kept, crate::proofs::Forms::not_selected, yp_schema::specs::SchemaLaws::path_down))]
+#[tactic(auto, using(yp_kept::specs::KeptLaws::value_kept, yp_kept::specs::FormLaws::not_selected, yp_schema::specs::SchemaLaws::path_down))]
 pub fn select_at<'a, R: Readable, L: Ledger>(
     alloc: Global,
     schema: &Schema,
@@ -160,7 +160,7 @@ pub fn select_at<'a, R: Readable, L: Ledger>(
 
 /// The same where the value that the rows have at the path is known: it isn't looked up. It counts at most
 /// one visit for each node of the filter.
-#[tactic(auto, using(crate::specs::KeptLaws::value_kept, crate::proofs::Forms::not_selected, yp_schema::specs::SchemaLaws::path_down))]
+#[tactic(auto, using(yp_kept::specs::KeptLaws::value_kept, yp_kept::specs::FormLaws::not_selected, yp_schema::specs::SchemaLaws::path_down))]
 pub fn select_known<'v, R: Readable, L: Ledger>(
     alloc: Global,
     schema: &Schema,

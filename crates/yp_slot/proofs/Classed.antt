@@ -7,7 +7,7 @@ use Rattle.yp_base.specs.declared.notice.Change.{Change}
 use Rattle.yp_schema.specs.declared.schema.SchemaNode.{SchemaNode}
 use Rattle.yp_filter.specs.View.{filter_view}
 use Rattle.yp_nacm.specs.Decision.{is_readable}
-use Rattle.yp_select.specs.Selection.{selection}
+use Rattle.yp_kept.specs.Selection.{selection}
 use Rattle.yp_touch.specs.declared.root.Root.{Root}
 use Rattle.yp_touch.specs.Absorbed.{absorbed, recorded as record_of_roots}
 use Rattle.yp_journal.specs.History.{JournalState}

@@ -24,7 +24,7 @@ use Rattle.yp_changes.specs.Records.{changed_paths, put_paths, touched_paths}
 use Rattle.yp_nacm.specs.Same.{are_same_rules}
 use Rattle.yp_registry.specs.Registry.{Subscriptions, live_at}
 use Rattle.yp_terms.specs.Terms.{Terms}
-use Rattle.yp_select.specs.Selection.{selection}
+use Rattle.yp_kept.specs.Selection.{selection}
 use Rattle.yp_feed.specs.declared.item.Control.{Control}
 use Rattle.yp_feed.specs.declared.item.Control.TheVariants.{Modify, Rules, End}
 use Rattle.yp_feed.specs.Machine.{FeedState, controlled, ending, is_on_change, restarts, resyncs}

@@ -14,7 +14,7 @@ use Rattle.yp_changes.specs.Records.{touched_paths}
 use Rattle.std.proofs.lemmas.Option.{none-some}
 use Rattle.yp_registry.specs.Registry.{live_at}
 use Rattle.yp_terms.specs.Terms.{Terms}
-use Rattle.yp_select.specs.Selection.{selection}
+use Rattle.yp_kept.specs.Selection.{selection}
 use Rattle.yp_feed.specs.Machine.{FeedState}
 use Rattle.yp_touch.specs.declared.root.Root.{Root}
 use Rattle.yp_touch.specs.Absorbed.{EndsAsRow, paths_of, root_at, recorded as record_of_roots}

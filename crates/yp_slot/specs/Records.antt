@@ -9,7 +9,7 @@ use Rattle.yp_filter.specs.Filters.{Asked}
 use Rattle.yp_filter.specs.View.{filter_view}
 use Rattle.yp_encode.specs.Lines.{patch_data}
 use Rattle.yp_encode.specs.Sendable.{IsSendableChange}
-use Rattle.yp_select.specs.Selection.{selection}
+use Rattle.yp_kept.specs.Selection.{selection}
 use Rattle.yp_touch.specs.declared.root.Root.{Root}
 use Rattle.yp_touch.specs.Absorbed.{recorded as record_of_roots}
 use Rattle.yp_journal.specs.History.{JournalState, may_read}

@@ -12,7 +12,7 @@ use Rattle.yp_registry.specs.Registry.{live_at}
 use Rattle.yp_terms.specs.Terms.{Terms}
 use Rattle.yp_encode.specs.Lines.{patch_data}
 use Rattle.yp_encode.specs.Sendable.{IsSendableChange}
-use Rattle.yp_select.specs.Selection.{selection}
+use Rattle.yp_kept.specs.Selection.{selection}
 use Rattle.yp_touch.specs.Absorbed.{EndsAsRow, all_absorbed, paths_of, recorded as record_of_roots}
 use Rattle.yp_time.specs.Ticks.{tick_limit}
 use Rattle.yp_feed.specs.declared.item.Item.TheVariants.{Changes}

@@ -14,7 +14,7 @@ use Rattle.yp_terms.specs.Terms.{Terms}
 use Rattle.yp_registry.specs.Ids.{HasRisingIds}
 use Rattle.yp_journal.specs.declared.command.Command.TheVariants.{Edit, Rules as Policies}
 use Rattle.yp_journal.specs.History.{JournalState, may_read, rules_at, next_state, reply_to}
-use Rattle.yp_select.specs.Selection.{selection}
+use Rattle.yp_kept.specs.Selection.{selection}
 use Rattle.yp_touch.specs.declared.root.Root.{Root}
 use Rattle.yp_touch.specs.Absorbed.{absorbed}
 use Rattle.yp_feed.specs.declared.item.Control.TheVariants.{Modify, Resync, End}

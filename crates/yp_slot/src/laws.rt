@@ -2,7 +2,7 @@
 ghost use Rattle.std.specs.Prelude.{◌≡◌, ℕ, [], Bool, false, length, List, None, Some};
 ghost use Rattle.yp_base.specs.declared.notice.Trigger.{Trigger};
 ghost use Rattle.yp_filter.specs.View.{filter_view};
-ghost use Rattle.yp_select.specs.Selection.{selection};
+ghost use Rattle.yp_kept.specs.Selection.{selection};
 ghost use Rattle.yp_feed.specs.declared.item.Item.TheVariants.{Periodic, Sync};
 ghost use Rattle.yp_feed.specs.declared.item.Control.TheVariants.{End, Modify, Resync};
 ghost use Rattle.yp_registry.specs.Registry.{live_at};

@@ -14,9 +14,9 @@ use Rattle.yp_schema.specs.Nodes.{node_at}
 use Rattle.yp_changes.specs.declared.changed.ChangedRow.{ChangedRow}
 use Rattle.yp_changes.specs.Changes.{are_alike}
 use Rattle.yp_filter.specs.Filters.{all_rows}
-use Rattle.yp_select.specs.KeptLaws.{value_kept}
+use Rattle.yp_kept.specs.KeptLaws.{value_kept}
 use Rattle.yp_select.specs.Places.{path_above, is_compared}
-use Rattle.yp_select.specs.Selection.{selection}
+use Rattle.yp_kept.specs.Selection.{selection}
 use Rattle.yp_touch.specs.declared.root.Root.{Root}
 use Rattle.yp_touch.specs.Looked.{IsBetween, root_found, roots_found, looks_of}
 use Rattle.yp_touch.specs.RootLaws.{has_root}

@@ -25,9 +25,9 @@ use Rattle.yp_changes.specs.ChangeLaws.{alike_is, alike_itself}
 use Rattle.yp_changes.specs.Records.{changed_paths, put_paths}
 use Rattle.yp_changes.specs.WindowLaws.{puts_rise}
 use Rattle.yp_select.specs.Places.{path_above, is_compared}
-use Rattle.yp_select.specs.Selection.{kept, selection}
-use Rattle.yp_select.specs.KeptLaws.{value_kept}
-use Rattle.yp_select.specs.SelectionLaws.{is_selected}
+use Rattle.yp_kept.specs.Selection.{kept, selection}
+use Rattle.yp_kept.specs.KeptLaws.{value_kept}
+use Rattle.yp_kept.specs.SelectionLaws.{is_selected}
 use Rattle.yp_touch.specs.declared.root.Root.{Root}
 use Rattle.yp_touch.specs.Absorbed.{AreTopmost, flagged, paths_of, root_at, was_in, absorbed}
 use Rattle.yp_touch.specs.Looked.{can_move, is_looked_at, looks_at, looks_of, roots_found, with_paths}

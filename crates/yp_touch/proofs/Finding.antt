@@ -14,7 +14,7 @@ use Rattle.yp_schema.specs.Datastore.{IsRowOf}
 use Rattle.yp_changes.specs.declared.changed.ChangedRow.{ChangedRow}
 use Rattle.yp_filter.specs.Filters.{Asked}
 use Rattle.yp_select.specs.Places.{path_above, is_compared}
-use Rattle.yp_select.specs.SelectionLaws.{all_selected}
+use Rattle.yp_kept.specs.SelectionLaws.{all_selected}
 use Rattle.yp_touch.specs.declared.root.Root.{Root}
 use Rattle.yp_touch.specs.Looked.{root_found, roots_found, looks_at, looks_of}
 

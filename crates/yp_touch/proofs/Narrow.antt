@@ -27,8 +27,8 @@ use Rattle.yp_changes.specs.ChangeLaws.{paths_in, change_in, changed_at, no_chan
 use Rattle.yp_changes.specs.Records.{changed_paths}
 use Rattle.yp_select.specs.Places.{path_above, is_compared, moved_place, is_moved}
 use Rattle.yp_select.specs.PlaceLaws.{above_within, selection_local}
-use Rattle.yp_select.specs.Selection.{kept, selection}
-use Rattle.yp_select.specs.KeptLaws.{value_kept}
+use Rattle.yp_kept.specs.Selection.{kept, selection}
+use Rattle.yp_kept.specs.KeptLaws.{value_kept}
 use Rattle.yp_touch.specs.Absorbed.{EndsAsRow}
 use Rattle.yp_touch.specs.Looked.{can_move, is_looked_at}
 use Rattle.yp_touch.specs.RootLaws.{found_one}

@@ -9,7 +9,7 @@ use Rattle.yp_base.specs.Order.{path_cmp, is_within}
 use Rattle.yp_base.specs.PathLaws.{within_itself}
 use Rattle.yp_base.specs.Rows.{rows_within, value_at}
 use Rattle.yp_schema.specs.Datastore.{has_row}
-use Rattle.yp_select.specs.SelectionLaws.{value_selected}
+use Rattle.yp_kept.specs.SelectionLaws.{value_selected}
 
 -- one of some rows has a path where there is a row of it
 is_listed : (path : List Seg) (rows : List Row) → list_any (λ row. is_eq (path_cmp path row.path)) rows ≡ has_row path rows

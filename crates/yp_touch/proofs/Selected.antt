@@ -10,7 +10,7 @@ use Rattle.yp_base.specs.RowLaws.{all_puts, paths_of_some, picked-puts}
 use Rattle.yp_changes.specs.declared.changed.ChangedRow.{ChangedRow}
 use Rattle.yp_changes.specs.Changes.{are_alike, change_of, row_change as change_at, changed_rows, paths_of_both}
 use Rattle.yp_nacm.specs.Decision.{visible_rows}
-use Rattle.yp_select.specs.SelectionLaws.{value_selected}
+use Rattle.yp_kept.specs.SelectionLaws.{value_selected}
 use Rattle.yp_touch.specs.Looked.{IsBetween}
 
 told : (path : List Seg) (old new : Option Value) (row : ChangedRow) → change_of path old new ≡ Some row → row ≡ record { path = path; old = old; new = new }

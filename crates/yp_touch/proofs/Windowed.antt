@@ -22,10 +22,10 @@ use Rattle.yp_encode.specs.Sendable.{IsSendableChange}
 use Rattle.yp_changes.specs.Among.{is_listed}
 use Rattle.yp_changes.specs.Records.{changed_paths, put_path, put_paths, touched_paths, change_at, change_record, is_excluded, HasNone, told, window_record}
 use Rattle.yp_changes.specs.WindowLaws.{told_all, one_step}
-use Rattle.yp_select.specs.Concealed.{AllReadable}
-use Rattle.yp_select.specs.Selection.{selection}
-use Rattle.yp_select.specs.KeptLaws.{kept_datastore}
-use Rattle.yp_select.specs.SelectionLaws.{all_selected, is_selected, selected_readable, was_selected}
+use Rattle.yp_kept.specs.Concealed.{AllReadable}
+use Rattle.yp_kept.specs.Selection.{selection}
+use Rattle.yp_kept.specs.KeptLaws.{kept_datastore}
+use Rattle.yp_kept.specs.SelectionLaws.{all_selected, is_selected, selected_readable, was_selected}
 use Rattle.yp_touch.specs.declared.root.Root.{Root}
 use Rattle.yp_touch.specs.Absorbed.{paths_of, absorbed, all_absorbed, recorded, root_change, was_in, EndsAsRow, selections}
 use Rattle.yp_touch.specs.Concealed.{IsReadableChange}

@@ -14,7 +14,7 @@ use Rattle.yp_base.specs.Paths.{topmost}
 use Rattle.yp_schema.specs.declared.schema.SchemaNode.{SchemaNode}
 use Rattle.yp_schema.specs.Datastore.{has_row, goes_to_row}
 use Rattle.yp_filter.specs.Filters.{Asked}
-use Rattle.yp_select.specs.Selection.{selection}
+use Rattle.yp_kept.specs.Selection.{selection}
 use Rattle.yp_changes.specs.Records.{carried_rows, changed_paths, put_paths, told}
 use Rattle.yp_touch.specs.declared.root.Root.{Root}
 

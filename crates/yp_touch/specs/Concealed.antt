@@ -2,7 +2,7 @@
 use Rattle.std.specs.Prelude.{◌≡◌, List, Bool, true}
 use Rattle.yp_base.specs.declared.notice.Change.{Change}
 use Rattle.yp_base.specs.declared.path.Seg.{Seg}
-use Rattle.yp_select.specs.Concealed.{AllReadable}
+use Rattle.yp_kept.specs.Concealed.{AllReadable}
 
 -- a change's target may be read, and each row that it carries
 abbrev pub IsReadableChange : (List Seg → Bool) → Change → Type 0

@@ -32,8 +32,8 @@ use Rattle.yp_changes.specs.Changes.{row_change as difference_at}
 use Rattle.yp_changes.specs.Records.{changed_paths, carried_rows, change_at, change_record}
 use Rattle.yp_nacm.specs.Decision.{IsClosed, visible_rows}
 use Rattle.yp_encode.specs.Sendable.{IsSendableChange}
-use Rattle.yp_select.specs.Concealed.{AllReadable}
-use Rattle.yp_select.specs.SelectionLaws.{value_selected, all_selected, selection_is, selected_readable, selection_in_order, selection_of_schema}
+use Rattle.yp_kept.specs.Concealed.{AllReadable}
+use Rattle.yp_kept.specs.SelectionLaws.{value_selected, all_selected, selection_is, selected_readable, selection_in_order, selection_of_schema}
 use Rattle.yp_touch.specs.declared.root.Root.{Root}
 use Rattle.yp_touch.specs.Absorbed.{EndsAsRow, root_change}
 use Rattle.yp_touch.specs.Concealed.{IsReadableChange}

@@ -12,8 +12,8 @@ use Rattle.yp_filter.specs.Filters.{Asked}
 use Rattle.yp_nacm.specs.Decision.{IsClosed}
 use Rattle.yp_encode.specs.Sendable.{IsSendableChange}
 use Rattle.yp_changes.specs.Records.{touched_paths, HasNone, window_record}
-use Rattle.yp_select.specs.Concealed.{AllReadable}
-use Rattle.yp_select.specs.Selection.{selection}
+use Rattle.yp_kept.specs.Concealed.{AllReadable}
+use Rattle.yp_kept.specs.Selection.{selection}
 use Rattle.yp_touch.specs.declared.root.Root.{Root}
 use Rattle.yp_touch.specs.Absorbed.{AreTopmost, paths_of, absorbed, all_absorbed, roots_since, recorded, selections, EndsAsRow}
 use Rattle.yp_touch.specs.Concealed.{IsReadableChange}

@@ -10,7 +10,7 @@ ghost use Rattle.yp_changes.specs.Records.{change_record};
 ghost use Rattle.yp_encode.specs.Sendable.{IsSendableChange};
 ghost use Rattle.yp_filter.specs.Fits.{filter_fits};
 ghost use Rattle.yp_filter.specs.View.{filter_view};
-ghost use Rattle.yp_select.specs.Selection.{selection};
+ghost use Rattle.yp_kept.specs.Selection.{selection};
 ghost use Rattle.yp_touch.specs.Absorbed.{absorbed};
 ghost use Rattle.yp_touch.specs.Looked.{step_visits, window_visits};
 ghost use Rattle.yp_touch.specs.Roots.{kind_of, carried_below, row_edit, visits_at, record_visits};

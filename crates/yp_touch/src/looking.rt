@@ -9,7 +9,7 @@ ghost use Rattle.yp_filter.specs.Filters.{filter_size, compares};
 ghost use Rattle.yp_filter.specs.Fits.{filter_fits};
 ghost use Rattle.yp_filter.specs.View.{filter_view};
 ghost use Rattle.yp_select.specs.Places.{path_above, is_compared};
-ghost use Rattle.yp_select.specs.Selection.{selection};
+ghost use Rattle.yp_kept.specs.Selection.{selection};
 ghost use Rattle.yp_touch.specs.Absorbed.{AreTopmost};
 ghost use Rattle.yp_touch.specs.Looked.{IsBetween, root_found, roots_found, look_visits, looks_visits, looks_at, looks_of};
 

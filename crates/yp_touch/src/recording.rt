@@ -8,7 +8,7 @@ ghost use Rattle.yp_changes.specs.Records.{carried_rows, is_excluded};
 ghost use Rattle.yp_encode.specs.Sendable.{IsSendableChange};
 ghost use Rattle.yp_filter.specs.Fits.{filter_fits};
 ghost use Rattle.yp_filter.specs.View.{filter_view};
-ghost use Rattle.yp_select.specs.Selection.{selection};
+ghost use Rattle.yp_kept.specs.Selection.{selection};
 ghost use Rattle.yp_touch.specs.Absorbed.{EndsAsRow, flagged, kind_since, recorded, root_change};
 ghost use Rattle.yp_touch.specs.Looked.{root_visits, rows_from, window_visits};
 

@@ -8,7 +8,7 @@ ghost use Rattle.yp_encode.specs.Sendable.{IsSendableChange};
 ghost use Rattle.yp_filter.specs.Filters.{all_rows};
 ghost use Rattle.yp_filter.specs.Fits.{filter_fits};
 ghost use Rattle.yp_filter.specs.View.{filter_view};
-ghost use Rattle.yp_select.specs.Selection.{selection};
+ghost use Rattle.yp_kept.specs.Selection.{selection};
 ghost use Rattle.yp_touch.specs.Absorbed.{EndsAsRow, absorbed, paths_of, recorded};
 ghost use Rattle.yp_touch.specs.Looked.{step_visits, window_visits};
 

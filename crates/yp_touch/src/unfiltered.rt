@@ -4,7 +4,7 @@ ghost use Rattle.std.specs.List.{AllByRecursion};
 ghost use Rattle.yp_base.specs.declared.row.Row.{Row};
 ghost use Rattle.yp_schema.specs.Datastore.{is_path_of};
 ghost use Rattle.yp_filter.specs.Filters.{all_rows};
-ghost use Rattle.yp_select.specs.Selection.{selection};
+ghost use Rattle.yp_kept.specs.Selection.{selection};
 ghost use Rattle.yp_touch.specs.Absorbed.{AreTopmost};
 ghost use Rattle.yp_touch.specs.Looked.{IsBetween, root_found, roots_found};
 

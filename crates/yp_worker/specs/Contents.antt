@@ -7,7 +7,7 @@ use Rattle.yp_schema.specs.declared.schema.SchemaNode.{SchemaNode}
 use Rattle.yp_data_json.specs.Writing.{rows_json}
 use Rattle.yp_filter.specs.Filters.{Asked}
 use Rattle.yp_filter.specs.View.{filter_view}
-use Rattle.yp_select.specs.Selection.{selection}
+use Rattle.yp_kept.specs.Selection.{selection}
 use Rattle.yp_journal.specs.History.{JournalState, may_read}
 use Rattle.yp_worker.specs.declared.contents.Content.{Content}
 use Rattle.yp_worker.specs.declared.contents.Selected.{Selected}

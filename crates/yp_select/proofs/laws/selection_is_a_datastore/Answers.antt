@@ -1,4 +1,4 @@
-use Rattle.yp_select.specs.SelectionLaws.{selection_is}
+use Rattle.yp_kept.specs.SelectionLaws.{selection_is}
 use Rattle.yp_select.proofs.laws.selection_is_a_datastore.Goals as goal
 
 pub returns : goal.returns

@@ -6,8 +6,8 @@ use Rattle.yp_schema.specs.Datastore.{IsRowOf}
 use Rattle.yp_filter.specs.Filters.{of_set, set_size}
 use Rattle.yp_filter.specs.View.{set_view}
 use Rattle.yp_nacm.specs.Decision.{visible_rows}
-use Rattle.yp_select.specs.Selection.{kept}
-use Rattle.yp_select.specs.Standing.{IsWay}
+use Rattle.yp_kept.specs.Selection.{kept}
+use Rattle.yp_kept.specs.Standing.{IsWay}
 use Rattle.yp_select.proofs.select.keep_kept.Given as goal
 
 -- the rows kept so far and those of the rows that are left are all, what is left takes the visits that are left, and the way has what stands on it

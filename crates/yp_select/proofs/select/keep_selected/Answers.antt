@@ -7,9 +7,9 @@ use Rattle.yp_schema.specs.Datastore.{IsRowOf}
 use Rattle.yp_filter.specs.Filters.{filter_size, set_size}
 use Rattle.yp_filter.specs.View.{filter_view, set_view}
 use Rattle.yp_nacm.specs.Decision.{visible_rows}
-use Rattle.yp_select.specs.Selection.{kept}
-use Rattle.yp_select.specs.SelectionLaws.{selection_of_schema}
-use Rattle.yp_select.specs.KeptLaws.{all_kept}
+use Rattle.yp_kept.specs.Selection.{kept}
+use Rattle.yp_kept.specs.SelectionLaws.{selection_of_schema}
+use Rattle.yp_kept.specs.KeptLaws.{all_kept}
 use Rattle.yp_select.proofs.Selecting.{picked_few, fewer_visits}
 use Rattle.yp_select.proofs.select.keep_selected.Goals as goal
 

@@ -12,9 +12,9 @@ use Rattle.yp_filter.specs.Filters.{filter_size, of_set}
 use Rattle.yp_filter.specs.Fits.{filter_fits}
 use Rattle.yp_filter.specs.View.{set_view, filter_view}
 use Rattle.yp_nacm.specs.Decision.{visible_rows}
-use Rattle.yp_select.specs.Selection.{kept}
+use Rattle.yp_kept.specs.Selection.{kept}
 use Rattle.yp_select.specs.Reaches.{own_reached, below_reached, is_reached}
-use Rattle.yp_select.specs.SelectionLaws.{all_selected, within_top}
+use Rattle.yp_kept.specs.SelectionLaws.{all_selected, within_top}
 use Rattle.yp_select.proofs.Selecting.{picked_few, reached_enough}
 use Rattle.yp_select.proofs.Covering.{kept_covered, reached_few, stands_so}
 use Rattle.yp_select.proofs.select.rows_for.Goals as goal

@@ -6,9 +6,9 @@ use Rattle.yp_base.specs.RowLaws.{picked}
 use Rattle.yp_schema.specs.Datastore.{IsRowOf}
 use Rattle.yp_filter.specs.View.{filter_view}
 use Rattle.yp_nacm.specs.Decision.{visible_rows}
-use Rattle.yp_select.specs.Selection.{kept}
-use Rattle.yp_select.specs.SelectionLaws.{all_selected}
-use Rattle.yp_select.specs.KeptLaws.{kept_within}
+use Rattle.yp_kept.specs.Selection.{kept}
+use Rattle.yp_kept.specs.SelectionLaws.{all_selected}
+use Rattle.yp_kept.specs.KeptLaws.{kept_within}
 use Rattle.yp_select.proofs.select.select_below.Goals as goal
 
 pub keep_selected-requires-clause-schema : goal.keep_selected-requires-clause-schema

@@ -1,7 +1,7 @@
 use Rattle.std.proofs.Common.{[], sym, ap, ◌∙◌, cond}
 use Rattle.yp_base.specs.Rows.{rows_within}
 use Rattle.yp_nacm.specs.Decision.{visible_rows}
-use Rattle.yp_select.specs.KeptLaws.{selection_of_all}
+use Rattle.yp_kept.specs.KeptLaws.{selection_of_all}
 use Rattle.yp_touch.proofs.changes.carried_below.Goals as goal
 
 pub returns-in_ok-carried-clause-carried : goal.returns-in_ok-carried-clause-carried

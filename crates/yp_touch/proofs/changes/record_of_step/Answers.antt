@@ -1,7 +1,7 @@
 use Rattle.std.proofs.Common.{◌∙◌, ap, arith, List}
 use Rattle.yp_filter.specs.View.{filter_view}
-use Rattle.yp_select.specs.Selection.{selection}
-use Rattle.yp_select.specs.KeptLaws.{kept_datastore, kept_in_order}
+use Rattle.yp_kept.specs.Selection.{selection}
+use Rattle.yp_kept.specs.KeptLaws.{kept_datastore, kept_in_order}
 use Rattle.yp_touch.specs.declared.root.Root.{Root}
 use Rattle.yp_touch.specs.Absorbed.{absorbed}
 use Rattle.yp_touch.specs.Looked.{window_visits}

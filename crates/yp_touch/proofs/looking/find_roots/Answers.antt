@@ -1,7 +1,7 @@
 use Rattle.std.proofs.Common.{◌≡◌, true}
 use Rattle.yp_schema.specs.Datastore.{is_path_of}
 use Rattle.yp_filter.specs.View.{filter_view}
-use Rattle.yp_select.specs.Selection.{selection}
+use Rattle.yp_kept.specs.Selection.{selection}
 use Rattle.yp_touch.specs.Looked.{IsBetween, looks_visits}
 use Rattle.yp_touch.proofs.Finding.{found_more, visits_more, rest_have}
 use Rattle.yp_touch.proofs.looking.find_roots.Goals as goal

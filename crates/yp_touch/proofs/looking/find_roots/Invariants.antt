@@ -2,7 +2,7 @@ use Rattle.std.proofs.Common.{◌≡◌, ◌++◌, ◌+◌, ◌≤◌, true, map
 use Rattle.std.specs.List.{AllByRecursion}
 use Rattle.yp_schema.specs.Datastore.{is_path_of}
 use Rattle.yp_filter.specs.View.{filter_view}
-use Rattle.yp_select.specs.Selection.{selection}
+use Rattle.yp_kept.specs.Selection.{selection}
 use Rattle.yp_touch.specs.Looked.{IsBetween, roots_found, looks_of, looks_visits}
 use Rattle.yp_touch.proofs.looking.find_roots.Given as goal
 

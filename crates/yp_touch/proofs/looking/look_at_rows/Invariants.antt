@@ -5,7 +5,7 @@ use Rattle.yp_base.specs.Rows.{path_of, row_of}
 use Rattle.yp_schema.specs.Datastore.{IsRowOf}
 use Rattle.yp_filter.specs.Filters.{filter_size}
 use Rattle.yp_filter.specs.View.{filter_view}
-use Rattle.yp_select.specs.Selection.{selection}
+use Rattle.yp_kept.specs.Selection.{selection}
 use Rattle.yp_touch.specs.Looked.{roots_found, look_visits}
 use Rattle.yp_touch.proofs.looking.look_at_rows.Given as goal
 

@@ -2,7 +2,7 @@ use Rattle.std.proofs.Common.{◌++◌, ◌-◌, ◌∙◌, sym, ap, take, List}
 use Rattle.std.proofs.lemmas.List.{length-map}
 use Rattle.yp_base.specs.declared.path.Seg.{Seg}
 use Rattle.yp_filter.specs.View.{filter_view}
-use Rattle.yp_select.specs.Selection.{selection}
+use Rattle.yp_kept.specs.Selection.{selection}
 use Rattle.yp_touch.specs.Looked.{roots_found}
 use Rattle.yp_touch.proofs.Bounds.{looks_bound}
 use Rattle.yp_touch.proofs.Finding.{below_of_schema, two_found, looked_rows}

@@ -5,7 +5,7 @@ use Rattle.std.specs.List.{AllByRecursion}
 use Rattle.std.specs.Slice.Iter.{iter_rest}
 use Rattle.yp_base.specs.declared.path.Seg.{Seg}
 use Rattle.yp_filter.specs.View.{filter_view}
-use Rattle.yp_select.specs.Selection.{selection}
+use Rattle.yp_kept.specs.Selection.{selection}
 use Rattle.yp_touch.specs.Absorbed.{EndsAsRow, flagged}
 use Rattle.yp_touch.specs.Looked.{window_visits}
 use Rattle.yp_touch.proofs.Bounds.{window_more}

@@ -1,7 +1,7 @@
 use Rattle.std.proofs.Common.{◌∙◌, Some, None, sym, ap, cond}
 use Rattle.yp_base.specs.Rows.{rows_within}
 use Rattle.yp_filter.specs.View.{filter_view}
-use Rattle.yp_select.specs.Selection.{selection}
+use Rattle.yp_kept.specs.Selection.{selection}
 use Rattle.yp_touch.proofs.Rows.{found_among}
 use Rattle.yp_touch.proofs.recording.rows_at_once.Goals as goal
 

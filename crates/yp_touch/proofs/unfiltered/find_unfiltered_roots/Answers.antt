@@ -2,7 +2,7 @@ use Rattle.std.proofs.Common.{◌≡◌, List, map, true}
 use Rattle.yp_base.specs.declared.path.Seg.{Seg}
 use Rattle.yp_schema.specs.Datastore.{is_path_of}
 use Rattle.yp_filter.specs.Filters.{all_rows}
-use Rattle.yp_select.specs.Selection.{selection}
+use Rattle.yp_kept.specs.Selection.{selection}
 use Rattle.yp_changes.specs.declared.changed.ChangedRow.{ChangedRow}
 use Rattle.yp_touch.specs.Looked.{IsBetween, roots_found}
 use Rattle.yp_touch.proofs.AllRows.{found_all, found_one, one_has}

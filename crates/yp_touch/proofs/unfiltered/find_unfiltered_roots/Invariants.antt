@@ -3,7 +3,7 @@ use Rattle.std.specs.List.{AllByRecursion}
 use Rattle.yp_base.specs.declared.row.Row.{Row}
 use Rattle.yp_schema.specs.Datastore.{is_path_of}
 use Rattle.yp_filter.specs.Filters.{all_rows}
-use Rattle.yp_select.specs.Selection.{selection}
+use Rattle.yp_kept.specs.Selection.{selection}
 use Rattle.yp_touch.specs.Looked.{IsBetween, roots_found}
 use Rattle.yp_touch.proofs.unfiltered.find_unfiltered_roots.Given as goal
 

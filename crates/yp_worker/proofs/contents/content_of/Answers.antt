@@ -2,7 +2,7 @@ use Rattle.std.proofs.Common.{◌≡◌, ◌∙◌, ap, subst}
 use Rattle.yp_filter.specs.View.{filter_view}
 use Rattle.yp_nacm.specs.declared.compile.UserRules.{UserRules}
 use Rattle.yp_nacm.specs.Decision.{is_readable}
-use Rattle.yp_select.specs.Selection.{selection}
+use Rattle.yp_kept.specs.Selection.{selection}
 use Rattle.yp_journal.specs.History.{rules_at}
 use Rattle.yp_worker.specs.Contents.{IsContent}
 use Rattle.yp_worker.proofs.contents.content_of.Goals as goal

@@ -4,7 +4,7 @@ use Rattle.yp_base.specs.declared.row.Row.{Row}
 use Rattle.yp_data_json.specs.Writing.{rows_json}
 use Rattle.yp_filter.specs.View.{filter_view}
 use Rattle.yp_nacm.specs.Decision.{is_readable}
-use Rattle.yp_select.specs.Selection.{selection}
+use Rattle.yp_kept.specs.Selection.{selection}
 use Rattle.yp_worker.specs.Contents.{selected}
 use Rattle.yp_worker.proofs.contents.select.Goals as goal
 

@@ -3,7 +3,7 @@ use Rattle.std.specs.List.{AllByRecursion}
 use Rattle.yp_base.specs.declared.path.Seg.{Seg}
 use Rattle.yp_changes.specs.declared.changed.ChangedRow.{ChangedRow}
 use Rattle.yp_filter.specs.Filters.{all_rows}
-use Rattle.yp_select.specs.Selection.{selection}
+use Rattle.yp_kept.specs.Selection.{selection}
 use Rattle.yp_touch.specs.declared.root.Root.{Root}
 use Rattle.yp_touch.specs.Absorbed.{absorbed, paths_of}
 use Rattle.yp_touch.specs.Looked.{IsBetween, roots_found, with_paths}

@@ -3,8 +3,8 @@ use Rattle.std.specs.List.{AllByRecursion}
 use Rattle.yp_base.specs.declared.notice.Change.{Change}
 use Rattle.yp_encode.specs.Sendable.{IsSendableChange}
 use Rattle.yp_filter.specs.View.{filter_view}
-use Rattle.yp_select.specs.Selection.{selection}
-use Rattle.yp_select.specs.KeptLaws.{kept_in_order, kept_of_schema}
+use Rattle.yp_kept.specs.Selection.{selection}
+use Rattle.yp_kept.specs.KeptLaws.{kept_in_order, kept_of_schema}
 use Rattle.yp_touch.specs.declared.root.Root.{Root}
 use Rattle.yp_touch.specs.Absorbed.{EndsAsRow, flagged, paths_of, recorded}
 use Rattle.yp_touch.proofs.Absorbing.{flagged_paths}

@@ -1,0 +1,8 @@
+use Rattle.std.proofs.Common.{◌≡◌, map, drop}
+use Rattle.yp_filter.specs.View.{node_view, nodes_of}
+use Rattle.yp_kept.specs.Selection.{set_names}
+use Rattle.yp_kept.proofs.keeping.set_names.Given as goal
+
+-- the nodes that are left tell it of all
+abbrev pub invariant-loop-node : goal.invariant-loop-node
+invariant-loop-node l = set_names l.schema l.segment (nodes_of (map node_view (drop l.node-index l.set))) ≡ set_names l.schema l.segment (nodes_of (map node_view l.set))

@@ -1,0 +1,9 @@
+pub mod Concealed
+pub mod Form
+pub mod FormLaws
+pub mod KeptLaws
+pub mod Matches
+pub mod Selection
+pub mod SelectionLaws
+pub mod Standing
+pub mod Visits
