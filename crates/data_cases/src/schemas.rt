@@ -8,8 +8,8 @@ use serde_json::Value as Json;
 use std::alloc::Global;
 use yp_base::atom::Atom;
 use yp_base::memory::Duplicate;
+use yp_base::rule_path::{RuleKeys, RuleSeg};
 use yp_schema::fault::{SchemaFault, SchemaKind};
-use yp_schema::rule_path::{RuleKeys, RuleSeg};
 use yp_schema::schema::{Kind, Schema, accepted_schema_is_compiled};
 use yp_value::text::TextFault;
 

@@ -5,10 +5,10 @@ use case_frame::shown::{self, Answer, Told};
 use serde_json::Value as Json;
 use std::alloc::Global;
 use yp_base::atom::Atom;
+use yp_base::rule_path::{RulePath, RuleSeg};
 use yp_path::fault::{PathError, PathFault};
 use yp_path::rule::read_rule_path;
 use yp_path::target::{read_target, write_target};
-use yp_schema::rule_path::{RulePath, RuleSeg};
 use yp_schema::schema::Schema;
 use yp_value::text::write_text;
 

@@ -1,5 +1,5 @@
 -- Steps that may fail.
-use Rattle.std.specs.Prelude.{◌≡◌, false, Option, Some, None, is_some, Result, Ok, Err, IfOk, refl}
+use Rattle.std.specs.Prelude.{◌≡◌, Bool, false, if◌then◌else◌, Option, Some, None, is_some, Result, Ok, Err, IfOk, refl}
 use mathlib.Core.Path.{◌∙◌}
 
 -- a step, and the next one with what it gave; the first fault stands
@@ -12,6 +12,10 @@ abbrev pub ◌>>=◌ : {A B F : Type 0} → Result A F → (A → Result B F) �
 abbrev pub or_fault : {A F : Type 0} → F → Option A → Result A F
 or_fault e None = Err e
 or_fault e (Some x) = Ok x
+
+-- what passes a test
+abbrev pub tested : {X : Type 0} → (X → Bool) → X → Option X
+tested test x = if test x then Some x else None
 
 -- what is not there is None
 pub none_is : {X : Type 0} (o : Option X) → is_some o ≡ false → o ≡ None

@@ -6,7 +6,8 @@
 //! Lists, paths and texts are kept by one value, or shared with its copies: once it went through `share`,
 //! a copy takes no memory. What is made to be kept is shared where it is made: `Path::below` gives a
 //! shared path, and `Row::share` shares the path and the text of a row.
-//! Types follow RFC 7950 section 9; paths RFC 8040 section 3.5.3; notices RFC 8641 and RFC 8639.
+//! Types follow RFC 7950 section 9; paths RFC 8040 section 3.5.3, those of access rules RFC 8341 section 3.3.5;
+//! notices RFC 8641 and RFC 8639.
 #![tactic(auto)]
 
 pub mod atom;
@@ -17,6 +18,7 @@ pub mod memory;
 pub mod notice;
 pub mod path;
 pub mod row;
+pub mod rule_path;
 pub mod series;
 pub mod steps;
 pub mod txt;

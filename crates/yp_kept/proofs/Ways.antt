@@ -4,7 +4,6 @@ use Rattle.std.specs.Prelude.{All, nat_lt, slice_get}
 use Rattle.std.proofs.lemmas.Bool.{and_parts, and_from}
 use Rattle.std.proofs.lemmas.List.Elements.{All-nil}
 use Rattle.yp_base.specs.declared.path.Seg.{Seg}
-use Rattle.yp_base.specs.declared.row.Row.{Row}
 use Rattle.yp_base.specs.declared.row.Value.{Value}
 use Rattle.yp_base.specs.declared.row.Value.TheVariants.{Atom as Plain, Member, Empty, Present}
 use Rattle.yp_base.specs.Paths.{same_number}
@@ -12,8 +11,8 @@ use Rattle.yp_schema.specs.declared.schema.SchemaNode.{SchemaNode}
 use Rattle.yp_schema.specs.declared.schema.Kind.{Kind}
 use Rattle.yp_schema.specs.declared.schema.Kind.TheVariants.{Container, Presence, List as Listing, Leaf, LeafList}
 use Rattle.yp_schema.specs.Nodes.{node_at}
-use Rattle.yp_schema.specs.Datastore.{keys_of_kind, is_segment, goes_down, is_path_of, is_leaf_kind, IsRowOf}
-use Rattle.yp_schema.specs.SchemaLaws.{node_after, path_within, segment_within, first_segment, row_goes_down}
+use Rattle.yp_schema.specs.Datastore.{keys_of_kind, is_segment, goes_down, is_path_of, is_leaf_kind}
+use Rattle.yp_schema.specs.SchemaLaws.{node_after, path_within, segment_within, first_segment}
 use Rattle.yp_filter.specs.Filters.{compare}
 use Rattle.yp_filter.specs.Fits.{match_fits, is_child_of, node_fits}
 use Rattle.yp_kept.specs.Matches.{keys_asked, match_segment}

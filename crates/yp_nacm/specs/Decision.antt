@@ -6,7 +6,7 @@ use Rattle.yp_base.specs.declared.path.Seg.{Seg}
 use Rattle.yp_base.specs.declared.row.Row.{Row}
 use Rattle.yp_base.specs.Order.{atom_cmp}
 use Rattle.yp_base.specs.Types.{same_text}
-use Rattle.yp_schema.specs.declared.rule_path.RuleSeg.{RuleSeg}
+use Rattle.yp_base.specs.declared.rule_path.RuleSeg.{RuleSeg}
 use Rattle.yp_schema.specs.declared.schema.SchemaNode.{SchemaNode}
 use Rattle.yp_base.specs.Paths.{last_node}
 use Rattle.yp_schema.specs.Nodes.{node_at, no_node}

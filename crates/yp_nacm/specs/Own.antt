@@ -1,6 +1,6 @@
 -- What decides on a user's reading: the user's own rules (RFC 8341 section 3.4.5).
 use Rattle.std.specs.Prelude.{ℕ, List, map, filter, Bool, true, false, ◌&&◌, Option, Some, None}
-use Rattle.yp_schema.specs.declared.rule_path.RuleSeg.{RuleSeg}
+use Rattle.yp_base.specs.declared.rule_path.RuleSeg.{RuleSeg}
 use Rattle.yp_nacm.specs.declared.compile.UserRule.{UserRule}
 use Rattle.yp_nacm.specs.declared.compile.UserRules.{UserRules}
 use Rattle.yp_nacm.specs.declared.policy.Policy.{Policy}

@@ -5,7 +5,7 @@ use Rattle.std.specs.Option.{option_eq}
 use Rattle.std.specs.Ordering.{eq_by_cmp}
 use Rattle.std.proofs.Math.Bool.{beq}
 use Rattle.yp_base.specs.Order.{atom_cmp}
-use Rattle.yp_schema.specs.declared.rule_path.RuleSeg.{RuleSeg}
+use Rattle.yp_base.specs.declared.rule_path.RuleSeg.{RuleSeg}
 use Rattle.yp_nacm.specs.declared.compile.UserRule.{UserRule}
 use Rattle.yp_nacm.specs.declared.compile.UserRules.{UserRules}
 

@@ -9,9 +9,9 @@ ghost use Rattle.yp_nacm.specs.Same.{are_same_rules};
 use crate::policy::{Group, Policy, Rule, RuleList, Subject};
 use std::alloc::Global;
 use yp_base::memory::{Duplicate, NoMemory};
+use yp_base::rule_path::RulePath;
 use yp_base::series::Series;
 use yp_base::txt::Txt;
-use yp_schema::rule_path::RulePath;
 
 /// A rule that can decide on a user's reading: its module, `None` for each; its path, `None` where it is
 /// about everything; and whether it permits.

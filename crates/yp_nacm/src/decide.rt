@@ -7,8 +7,8 @@ ghost use Rattle.yp_nacm.specs.Decision.{covers, decision, gives_keys, is_of_mod
 use crate::compile::{UserRule, UserRules};
 use yp_base::atom::Atom;
 use yp_base::path::{Path, Seg};
+use yp_base::rule_path::RuleSeg;
 use yp_base::txt::Txt;
-use yp_schema::rule_path::RuleSeg;
 use yp_schema::schema::Schema;
 
 /// Whether a rule's module or operation, `None` for each, is this one.

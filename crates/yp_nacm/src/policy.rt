@@ -5,9 +5,9 @@ ghost use Rattle.yp_nacm.specs.Policies.{opening_policy};
 use std::alloc::Global;
 use yp_base::leaf_type::Names;
 use yp_base::memory::{Duplicate, NoMemory};
+use yp_base::rule_path::RulePath;
 use yp_base::series::Series;
 use yp_base::txt::Txt;
-use yp_schema::rule_path::RulePath;
 
 /// What a rule is about (RFC 8341 section 3.3.4).
 #[derive(Drop)]

@@ -5,7 +5,7 @@ use Rattle.std.proofs.lemmas.List.Elements.{All-push, All-nil}
 use Rattle.serde_json.specs.Data.{Data, Items, no_items, item, Members}
 use Rattle.yp_value.specs.Json.{text_member}
 use Rattle.yp_base.specs.Results.{◌>>=◌, or_fault}
-use Rattle.yp_schema.specs.declared.rule_path.RuleSeg.{RuleSeg}
+use Rattle.yp_base.specs.declared.rule_path.RuleSeg.{RuleSeg}
 use Rattle.yp_schema.specs.declared.schema.SchemaNode.{SchemaNode}
 use Rattle.yp_schema.specs.RulePaths.{IsRulePathOf}
 use Rattle.yp_path.specs.declared.fault.PathFault.{PathFault}

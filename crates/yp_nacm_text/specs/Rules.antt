@@ -6,7 +6,7 @@ use Rattle.serde_json.specs.Find.{get_member, as_str}
 use Rattle.yp_value.specs.Json.{text_member}
 use Rattle.yp_base.specs.Results.{◌>>=◌, or_fault}
 use Rattle.yp_base.specs.Types.{same_text, is_among}
-use Rattle.yp_schema.specs.declared.rule_path.RuleSeg.{RuleSeg}
+use Rattle.yp_base.specs.declared.rule_path.RuleSeg.{RuleSeg}
 use Rattle.yp_schema.specs.declared.schema.SchemaNode.{SchemaNode}
 use Rattle.yp_path.specs.declared.fault.PathFault.{PathFault}
 use Rattle.yp_path.specs.RulePaths.{rule_path_in}

@@ -17,7 +17,8 @@ use Rattle.yp_schema.specs.declared.schema.Kind.{Kind}
 use Rattle.yp_schema.specs.declared.schema.Kind.TheVariants.{Container, Presence, List as Listing, Leaf, LeafList}
 use Rattle.yp_base.specs.Paths.{same_number}
 use Rattle.yp_schema.specs.Nodes.{node_at}
-use Rattle.yp_schema.specs.WellFormed.{IsSchema, is_name, is_at_home, is_empty}
+use Rattle.yp_names.specs.Names.{is_name}
+use Rattle.yp_schema.specs.WellFormed.{IsSchema, is_at_home, is_empty}
 use Rattle.yp_schema.specs.Datastore.{is_path_of, goes_down, is_segment, keys_of_kind, keys_fit, one_fits, atom_fits}
 use Rattle.yp_path.specs.declared.escape.TheConstants.{ESCAPED}
 use Rattle.yp_path.specs.declared.fault.PathFault.TheVariants.{Syntax, UnknownNode, KeyCount, KeyValue}

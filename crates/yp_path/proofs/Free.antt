@@ -2,7 +2,7 @@ use Rattle.std.proofs.Common.{◌≡◌, ℕ, ◌<◌, ◌+◌, ◌==◌, List, 
 use Rattle.std.proofs.lemmas.Bool.{and_parts, not-true}
 use Rattle.std.specs.List.{position_or_len, before_first, after_first}
 use Rattle.std.proofs.Math.Seq.{take-append_seam, drop-append-add, take-length}
-use Rattle.yp_schema.specs.WellFormed.{is_name, go_on_name, goes_on_name, begins_name}
+use Rattle.yp_names.specs.Names.{is_name, go_on_name, goes_on_name, begins_name}
 use Rattle.yp_base.specs.Cuts.{cut}
 use Rattle.yp_path.specs.Grammar.{is_free}
 

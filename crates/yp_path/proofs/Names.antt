@@ -11,7 +11,7 @@ use Rattle.yp_path.specs.NameLaws.{placed}
 use Rattle.yp_path.specs.Names.{is_named, child_named, with_name, own_child}
 use Rattle.yp_path.specs.StepLaws.{some_same}
 use Rattle.yp_path.proofs.Free.{position_free, before_mark, after_mark, position_inside, free_name}
-use Rattle.yp_schema.specs.SchemaLaws.{colon_found}
+use Rattle.yp_names.specs.NameLaws.{colon_found}
 
 -- ---- the first place of a test
 

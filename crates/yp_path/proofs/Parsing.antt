@@ -5,10 +5,11 @@ use Rattle.std.proofs.lemmas.Bool.{cond-true, cond-false, cases_Bool, eqb-true, 
 use Rattle.std.proofs.lemmas.List.{take_all}
 use Rattle.std.proofs.lemmas.List.Sums.{split_at_first, passes_at_first}
 use Rattle.yp_base.specs.PathLaws.{texts_same}
-use Rattle.yp_schema.specs.declared.rule_path.RuleSeg.{RuleSeg}
+use Rattle.yp_base.specs.declared.rule_path.RuleSeg.{RuleSeg}
 use Rattle.yp_schema.specs.declared.schema.SchemaNode.{SchemaNode}
 use Rattle.yp_schema.specs.Nodes.{node_at, qualified_name}
-use Rattle.yp_schema.specs.WellFormed.{IsSchema, is_empty, is_identifier, is_at_home}
+use Rattle.yp_names.specs.Names.{is_identifier}
+use Rattle.yp_schema.specs.WellFormed.{IsSchema, is_empty, is_at_home}
 use Rattle.yp_base.specs.Types.{same_text}
 use Rattle.yp_path.specs.declared.fault.PathFault.TheVariants.{Syntax, UnknownNode, KeyCount, KeyValue}
 use Rattle.yp_path.specs.declared.mark.Place.{Place}

@@ -4,9 +4,9 @@ use Rattle.std.specs.List.{position_or_len, before_first, after_first}
 use Rattle.std.proofs.Math.Bool.{and-false}
 use Rattle.std.proofs.lemmas.List.{drop_all}
 use Rattle.std.proofs.lemmas.Bool.{cond-true, cond-false, lt-ltb, eqb-true, and_parts, not-true}
-use Rattle.yp_schema.specs.declared.rule_path.RuleSeg.{RuleSeg}
+use Rattle.yp_base.specs.declared.rule_path.RuleSeg.{RuleSeg}
 use Rattle.yp_schema.specs.declared.schema.SchemaNode.{SchemaNode}
-use Rattle.yp_schema.specs.WellFormed.{is_identifier, go_on_name, goes_on_name, begins_name}
+use Rattle.yp_names.specs.Names.{is_identifier, go_on_name, goes_on_name, begins_name}
 use Rattle.yp_path.specs.declared.fault.PathFault.{PathFault}
 use Rattle.yp_path.specs.declared.fault.PathFault.TheVariants.{Syntax}
 use Rattle.yp_path.specs.declared.mark.Place.{Place}

@@ -3,7 +3,7 @@ use Rattle.std.proofs.Common.{◌≡◌, ℕ, ◌<◌, ◌==◌, List, [], ◌�
 use Rattle.std.proofs.lemmas.Bool.{lt-ltb, and_from, cond-true, and_parts}
 use Rattle.yp_base.specs.declared.atom.Atom.{Atom}
 use Rattle.yp_base.specs.Results.{◌>>=◌, or_fault}
-use Rattle.yp_schema.specs.declared.rule_path.RuleSeg.{RuleSeg}
+use Rattle.yp_base.specs.declared.rule_path.RuleSeg.{RuleSeg}
 use Rattle.yp_schema.specs.declared.schema.SchemaNode.{SchemaNode}
 use Rattle.yp_schema.specs.declared.schema.Kind.{Kind}
 use Rattle.yp_schema.specs.declared.schema.Kind.TheVariants.{Container, Presence, List as Listing, Leaf, LeafList}

@@ -1,6 +1,6 @@
 -- The grammar of rule paths: absolute instance identifiers whose keys may be left out (RFC 8341 section 3.5.2, RFC 7950 sections 9.13 and 14).
 use Rattle.std.specs.Prelude.{◌≡◌, ℕ, zero, suc, List, [], ◌∷◌, ◌++◌, Bool, true, not, ◌&&◌, ◌==◌, ◌⊎◌, codes}
-use Rattle.yp_schema.specs.WellFormed.{is_identifier}
+use Rattle.yp_names.specs.Names.{is_identifier}
 use Rattle.yp_path.specs.declared.predicate.Predicate.{Predicate}
 
 -- ---- names

@@ -4,7 +4,7 @@ use Rattle.std.specs.List.{position_or_len, before_first, after_first}
 use Rattle.yp_base.specs.Types.{same_text}
 use Rattle.yp_base.specs.declared.atom.Atom.{Atom}
 use Rattle.yp_schema.specs.declared.schema.SchemaNode.{SchemaNode}
-use Rattle.yp_schema.specs.declared.rule_path.RuleSeg.{RuleSeg}
+use Rattle.yp_base.specs.declared.rule_path.RuleSeg.{RuleSeg}
 use Rattle.yp_base.specs.Paths.{same_number}
 use Rattle.yp_schema.specs.Nodes.{node_at, is_in}
 use Rattle.yp_schema.specs.WellFormed.{is_empty}

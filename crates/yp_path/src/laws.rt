@@ -1,7 +1,7 @@
 //! Laws of targets and of rule paths.
 ghost use Rattle.std.specs.Prelude.{◌≡◌, ◌↔◌, true, Ok, List, None, ℕ};
 ghost use Rattle.yp_base.specs.declared.path.Seg.{Seg};
-ghost use Rattle.yp_schema.specs.declared.rule_path.RuleSeg.{RuleSeg};
+ghost use Rattle.yp_base.specs.declared.rule_path.RuleSeg.{RuleSeg};
 ghost use Rattle.yp_schema.specs.declared.schema.SchemaNode.{SchemaNode};
 ghost use Rattle.yp_schema.specs.WellFormed.{IsSchema};
 ghost use Rattle.yp_schema.specs.Datastore.{is_path_of};

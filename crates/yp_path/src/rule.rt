@@ -16,8 +16,8 @@ use crate::target::read_value;
 use std::alloc::Global;
 use yp_base::atom::Atom;
 use yp_base::memory::NoMemory;
+use yp_base::rule_path::{RuleKeys, RulePath, RuleSeg};
 use yp_base::series::Series;
-use yp_schema::rule_path::{RuleKeys, RulePath, RuleSeg};
 use yp_schema::schema::{Kind, Schema};
 use yp_value::text::read_text_fits;
 

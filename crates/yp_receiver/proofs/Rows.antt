@@ -34,7 +34,8 @@ use Rattle.yp_schema.specs.declared.schema.SchemaNode.{SchemaNode}
 use Rattle.yp_schema.specs.declared.schema.Kind.{Kind}
 use Rattle.yp_schema.specs.declared.schema.Kind.TheVariants.{Container, Presence, List as Listing, Leaf, LeafList}
 use Rattle.yp_schema.specs.Nodes.{node_at, qualified_name}
-use Rattle.yp_schema.specs.WellFormed.{IsSchema, is_letter, begins_name, goes_on_name, go_on_name, is_identifier, is_at_home}
+use Rattle.yp_names.specs.Names.{is_letter, begins_name, goes_on_name, go_on_name, is_identifier}
+use Rattle.yp_schema.specs.WellFormed.{IsSchema, is_at_home}
 use Rattle.yp_schema.specs.Datastore.{atom_fits, typed_fits, keys_fit, one_fits, is_segment, keys_of_kind, value_of_kind, may_end, goes_to_row, goes_down, is_path_of, is_place, ends_in_key, IsRowOf, AreWritable}
 use Rattle.yp_schema.specs.SchemaLaws.{type_is, keys_within, segment_within, node_after, end_segment, end_kind, row_ends, path_down, last_is_segment, plain_fits, empty_keys}
 use Rattle.yp_path.specs.Targets.{are_texts, has_texts}

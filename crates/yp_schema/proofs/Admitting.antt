@@ -14,7 +14,7 @@ use Rattle.std.proofs.lemmas.Bool.{and_parts}
 use Rattle.yp_schema.specs.declared.stated.Stated.{Stated}
 use Rattle.yp_schema.specs.declared.fault.SchemaKind.TheVariants as faults
 use Rattle.yp_schema.specs.declared.listing.Listed.{Listed}
-use Rattle.yp_schema.specs.Names.{Names, names_cmp, front}
+use Rattle.yp_names.specs.Names.{Names, names_cmp, front}
 use Rattle.yp_schema.specs.Nodes.{may_hold}
 use Rattle.yp_schema.specs.Stated.{node_in}
 use Rattle.yp_base.specs.Results.{◌>>=◌}

@@ -8,7 +8,7 @@ use Rattle.std.specs.Map.{keys_of}
 use Rattle.std.proofs.lemmas.Option.{slice_get_within, get_or_from_slice_get, slice_get-get_or, slice_get-map}
 use Rattle.std.proofs.lemmas.List.Sorted.{IsPermutation-refl, IsPermutation-trans, IsPermutation-cons, IsPermutation-middle}
 use Rattle.yp_schema.specs.declared.listing.Listed.{Listed}
-use Rattle.yp_schema.specs.Names.{Names, names_cmp}
+use Rattle.yp_names.specs.Names.{Names, names_cmp}
 use Rattle.yp_schema.specs.Rounds.{Nodes, listed_at}
 use Rattle.yp_base.specs.Elements.{get_map}
 use Rattle.yp_schema.proofs.Rising.{Above, Rising, names_exact, same_path, turned_back, above_all, listed_get, get_listed}

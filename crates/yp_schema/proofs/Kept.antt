@@ -12,9 +12,8 @@ use Rattle.yp_schema.specs.declared.stated.Body.{Body}
 use Rattle.yp_schema.specs.declared.stated.Stated.{Stated}
 use Rattle.yp_schema.specs.declared.fault.SchemaKind.TheVariants as faults
 use Rattle.yp_schema.specs.declared.listing.Listed.{Listed}
-use Rattle.yp_schema.specs.Names.{Names, names_cmp, front, last}
+use Rattle.yp_names.specs.Names.{Names, names_cmp, front, last, is_name}
 use Rattle.yp_schema.specs.Nodes.{may_hold}
-use Rattle.yp_schema.specs.WellFormed.{is_name}
 use Rattle.yp_schema.specs.Stated.{node_in}
 use Rattle.yp_base.specs.Results.{◌>>=◌, none_is}
 use Rattle.yp_schema.specs.Rounds.{Nodes, listed_at, module_of_holder, parent_module, own_module, is_typed, placed, in_module, added, at_place, first_round, keys_there, may_be_key, keys_fit, checked, second_round, part_in, parts_in}

@@ -1,9 +1,6 @@
 pub mod Admitting
-pub mod ByteOrder
 pub mod After
 pub mod Compiling
-pub mod Cuts
-pub mod Ends
 pub mod Entries
 pub mod Flags
 pub mod Indexes

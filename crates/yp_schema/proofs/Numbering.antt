@@ -6,7 +6,7 @@ use Rattle.std.specs.Map.{keys_of}
 use Rattle.std.specs.List.{AllByRecursion}
 use Rattle.std.specs.List.Sorted.{IsStrictlySortedBy}
 use Rattle.yp_schema.specs.declared.listing.Listed.{Listed}
-use Rattle.yp_schema.specs.Names.{Names, names_cmp, names_total}
+use Rattle.yp_names.specs.Names.{Names, names_cmp, names_total}
 use Rattle.yp_schema.specs.Rounds.{Nodes}
 use Rattle.yp_schema.specs.Reading.{numbers_from}
 

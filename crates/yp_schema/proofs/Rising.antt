@@ -7,7 +7,7 @@ use Rattle.std.specs.List.{slice_get}
 use Rattle.std.proofs.lemmas.Cmp.{alike_right, tied_itself}
 use Rattle.std.proofs.lemmas.Map.Lookups.{CmpEqualImpliesEq, exact_bytes}
 use Rattle.yp_schema.specs.declared.listing.Listed.{Listed}
-use Rattle.yp_schema.specs.Names.{Names, names_cmp, names_total}
+use Rattle.yp_names.specs.Names.{Names, names_cmp, names_total}
 use Rattle.yp_schema.specs.Rounds.{Nodes, listed_at}
 use Rattle.yp_schema.specs.Reading.{numbers_from, number_of}
 

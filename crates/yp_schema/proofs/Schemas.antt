@@ -16,14 +16,14 @@ use Rattle.yp_schema.specs.declared.schema.Kind.TheVariants.{Container, Presence
 use Rattle.yp_schema.specs.declared.schema.SchemaNode.{SchemaNode}
 use Rattle.yp_schema.specs.declared.fault.SchemaFault.{SchemaFault}
 use Rattle.yp_schema.specs.declared.listing.Listed.{Listed}
-use Rattle.yp_schema.specs.Names.{Names, names_cmp, front, last}
+use Rattle.yp_names.specs.Names.{Names, names_cmp, front, last, is_name, go_on_name}
 use Rattle.yp_base.specs.Paths.{same_number}
 use Rattle.yp_schema.specs.Nodes.{node_at, no_node, child_of, is_child, place_from, is_in, may_hold}
-use Rattle.yp_schema.specs.WellFormed.{is_name, go_on_name, is_parent_of, is_at_home, member_form, has_atom_type, has_type, has_none, is_leaf, is_key_leaf, are_key_leaves, is_empty, kind_stands, Stands, SiblingsInOrder, AreAbove, AreShallow, IsSchema}
+use Rattle.yp_schema.specs.WellFormed.{is_parent_of, is_at_home, member_form, has_atom_type, has_type, has_none, is_leaf, is_key_leaf, are_key_leaves, is_empty, kind_stands, Stands, SiblingsInOrder, AreAbove, AreShallow, IsSchema}
 use Rattle.yp_schema.specs.Stated.{are_key_names, all_names}
 use Rattle.yp_schema.specs.Rounds.{Nodes, listed_at, module_of_holder, parent_module, atoms_in, is_typed, is_key_type, may_be_key, keys_fit, parts_in}
 use Rattle.yp_schema.specs.Reading.{Reads, Numbers, numbers_from, number_of, with_number, key_numbers, numbered_node, numbered}
-use Rattle.yp_schema.proofs.Ends.{front_append, last_append}
+use Rattle.yp_names.specs.NameLaws.{front_append, last_append}
 use Rattle.yp_schema.proofs.Numbering.{length_more}
 use Rattle.yp_schema.proofs.Rising.{Rising, itself, turned, above_get, listed_get, number_get, get_number, get_listed, less_from_places, get_within, within_get}
 use Rattle.yp_schema.proofs.Sound.{type_fits, kind_fits}

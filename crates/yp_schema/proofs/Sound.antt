@@ -15,12 +15,13 @@ use Rattle.yp_schema.specs.declared.stated.Shape.TheVariants as shapes
 use Rattle.yp_schema.specs.declared.stated.Body.{Body}
 use Rattle.yp_schema.specs.declared.stated.Stated.{Stated}
 use Rattle.yp_base.specs.Cuts.{cut}
-use Rattle.yp_schema.specs.Names.{Names, front, last, rooted, names_in, around_colon}
-use Rattle.yp_schema.specs.WellFormed.{is_name, is_empty, has_none}
-use Rattle.yp_schema.specs.Enumerations.{in_byte_order}
+use Rattle.yp_names.specs.Names.{Names, front, last, rooted, names_in, around_colon, is_name}
+use Rattle.yp_schema.specs.WellFormed.{is_empty, has_none}
+use Rattle.yp_value.specs.Enumerations.{in_byte_order}
 use Rattle.yp_value.specs.Json.{text_member}
-use Rattle.yp_schema.specs.Stated.{with_shape, has_only, flag_member, tested, are_key_names, texts_member, container_in, container_kind, list_in, enumeration_in, typed_in, leaf_in, of_kind, body_in, body, type_in, integer_in, decimal_at, places_in, form_of, form_in, stated_in, stated, node_in}
-use Rattle.yp_schema.specs.SchemaLaws.{colon_found}
+use Rattle.yp_base.specs.Results.{tested}
+use Rattle.yp_schema.specs.Stated.{with_shape, has_only, flag_member, are_key_names, texts_member, container_in, container_kind, list_in, enumeration_in, typed_in, leaf_in, of_kind, body_in, body, type_in, integer_in, decimal_at, places_in, form_of, form_in, stated_in, stated, node_in}
+use Rattle.yp_names.specs.NameLaws.{colon_found}
 
 -- ---- types
 

@@ -5,7 +5,7 @@ use Rattle.serde_json.specs.Find.{as_object}
 use Rattle.yp_base.specs.PathLaws.{texts_itself}
 use Rattle.yp_base.specs.Types.{same_text}
 use Rattle.yp_schema.specs.declared.stated.Stated.{Stated}
-use Rattle.yp_schema.specs.Names.{Names, front, last, names_in}
+use Rattle.yp_names.specs.Names.{Names, front, last, names_in}
 use Rattle.yp_schema.specs.Rounds.{own_module}
 use Rattle.yp_value.specs.Json.{text_member}
 use Rattle.yp_schema.specs.Stated.{body_in, form_in, stated, stated_in, node_in}

@@ -10,7 +10,7 @@ use Rattle.yp_base.specs.Types.{same_text}
 use Rattle.yp_schema.specs.declared.schema.SchemaNode.{SchemaNode}
 use Rattle.yp_schema.specs.declared.stated.Stated.{Stated}
 use Rattle.yp_schema.specs.declared.listing.Listed.{Listed}
-use Rattle.yp_schema.specs.Names.{Names, names_cmp, front}
+use Rattle.yp_names.specs.Names.{Names, names_cmp, front}
 use Rattle.yp_schema.specs.Nodes.{may_hold}
 use Rattle.yp_schema.specs.Rounds.{Nodes, is_typed, is_key_type}
 use Rattle.yp_schema.specs.Reading.{numbered}

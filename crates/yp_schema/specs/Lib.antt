@@ -1,8 +1,6 @@
 pub mod Compiled
 pub mod Datastore
-pub mod Enumerations
 pub mod Index
-pub mod Names
 pub mod Nodes
 pub mod Reading
 pub mod Rounds

@@ -7,7 +7,7 @@ use Rattle.yp_schema.specs.declared.schema.SchemaNode.{SchemaNode}
 use Rattle.yp_schema.specs.declared.fault.SchemaFault.{SchemaFault}
 use Rattle.yp_schema.specs.declared.fault.SchemaFault.TheVariants.{At, Memory}
 use Rattle.yp_schema.specs.declared.listing.Listed.{Listed}
-use Rattle.yp_schema.specs.Names.{Names, names_cmp, front, last}
+use Rattle.yp_names.specs.Names.{Names, names_cmp, front, last}
 use Rattle.yp_base.specs.Results.{◌>>=◌}
 use Rattle.yp_schema.specs.Rounds.{Nodes, Fault, fault_at, parts_in}
 

@@ -1,6 +1,6 @@
 -- What follows of a compiled schema, and of its paths.
 use Rattle.std.proofs.Common.{◌≡◌, ℕ, ◌<◌, List, [], ◌∷◌, ◌++◌, length, Bool, true, false, true≢false, refl, sym, ap, ◌∙◌, Option, Some, None, IfSome}
-use Rattle.std.specs.Prelude.{not, All, ◌==◌}
+use Rattle.std.specs.Prelude.{not, All}
 use Rattle.std.proofs.lemmas.Bool.{and_parts, and_from, eqb-true, ltb-true}
 use Rattle.std.proofs.lemmas.List.Elements.{All-nil, All-cons, All-weaker}
 use Rattle.yp_base.specs.declared.atom.Atom.{Atom}
@@ -18,8 +18,6 @@ use Rattle.yp_schema.specs.Nodes.{node_at, may_hold}
 use Rattle.yp_schema.specs.WellFormed.{IsSchema, is_parent_of, kind_stands, has_none, has_type, has_atom_type, is_empty, is_key_leaf, are_key_leaves}
 use Rattle.yp_base.specs.Paths.{last_node}
 use Rattle.yp_schema.specs.Datastore.{is_segment, goes_down, is_path_of, is_key_node, is_key_at, ends_in_key, is_place, IsRowOf, value_of_kind, may_end, goes_to_row, atom_fits, typed_fits, is_present}
-use Rattle.std.proofs.lemmas.List.Sums.{split_at_first, passes_at_first}
-use Rattle.std.specs.List.{position_or_len, before_first, after_first}
 
 -- ---- the nodes of a schema
 
@@ -67,13 +65,6 @@ leaf_within n nodes k h = ltb-true k (length nodes) (and_parts _ _ (and_parts _ 
 -- and one of its nodes
 pub keys_within : (nodes : List SchemaNode) (n : ℕ) → IsSchema nodes → n < length nodes → All (λ k. k < length nodes) (node_at n nodes).keys
 keys_within nodes n schema within = All-weaker (λ k. is_key_leaf n nodes k ≡ true) (λ k. k < length nodes) (leaf_within n nodes) (node_at n nodes).keys (keys_are_leaves nodes n schema within)
-
--- ---- names
-
--- a text that has a colon is what stands before the first, the colon, and what stands after it
-pub colon_found : (name : List ℕ) → position_or_len (λ b. b == 58) name < length name → name ≡ before_first (λ b. b == 58) name ++ 58 ∷ after_first (λ b. b == 58) name
-colon_found name h =
-    split_at_first (λ b. b == 58) name 0 h ∙ ap (λ b. before_first (λ c. c == 58) name ++ b ∷ after_first (λ c. c == 58) name) (eqb-true _ _ (passes_at_first (λ b. b == 58) name 0 h))
 
 -- ---- its paths
 

@@ -1,7 +1,7 @@
 -- What the JSON of one node says of it. Nothing is looked up.
 use Rattle.std.specs.Prelude.{ℕ, ◌+◌, ◌-◌, ◌==◌, ◌&&◌, ◌||◌, List, [], ◌∷◌, Bool, true, false, Option, Some, None, option_map, option_and_then, if◌then◌else◌, codes, nat_le}
-use Rattle.serde_json.specs.Data.{Data, Items, no_items, item, Members, no_members, member}
-use Rattle.serde_json.specs.Find.{get_member, as_bool, as_str, as_array, as_object}
+use Rattle.serde_json.specs.Data.{Data, Members, no_members, member}
+use Rattle.serde_json.specs.Find.{get_member, as_bool, as_array, as_object}
 use Rattle.yp_base.specs.Types.{same_text, are_distinct, are_names}
 use Rattle.yp_value.specs.Json.{text_member, texts_in}
 use Rattle.yp_base.specs.declared.leaf_type.LeafType.{LeafType}
@@ -12,9 +12,8 @@ use Rattle.yp_schema.specs.declared.stated.Shape.{Shape}
 use Rattle.yp_schema.specs.declared.stated.Shape.TheVariants as shapes
 use Rattle.yp_schema.specs.declared.stated.Body.{Body}
 use Rattle.yp_schema.specs.declared.stated.Stated.{Stated}
-use Rattle.yp_schema.specs.Enumerations.{in_byte_order}
-use Rattle.yp_schema.specs.Names.{Names, last, names_in, around_colon}
-use Rattle.yp_schema.specs.WellFormed.{is_name}
+use Rattle.yp_value.specs.Enumerations.{in_byte_order}
+use Rattle.yp_names.specs.Names.{Names, last, names_in, around_colon, is_name}
 
 -- ---- members
 
@@ -102,9 +101,6 @@ with_shape shape ms rest = if has_only shape ms then option_and_then rest (flag_
 
 abbrev pub container_in : Members → Option Body
 container_in ms = with_shape shapes.Container ms (λ deny_all. option_map (λ presence. body (container_kind presence) [] None deny_all) (flag_member (codes "presence") ms))
-
-abbrev pub tested : {X : Type 0} → (X → Bool) → X → Option X
-tested test x = if test x then Some x else None
 
 abbrev pub list_in : Members → Option Body
 list_in ms = with_shape shapes.List ms (λ deny_all. option_map (λ keys. body Listing keys None deny_all) (option_and_then (tested are_key_names) (texts_member (codes "keys") ms)))

@@ -1,5 +1,5 @@
 -- What each compiled schema keeps.
-use Rattle.std.specs.Prelude.{ℕ, ◌≡◌, ◌<◌, ◌≤◌, length, List, [], ◌∷◌, Bool, true, false, not, ◌&&◌, ◌||◌, ◌==◌, Option, Some, None, if◌then◌else◌, nat_lt, nat_le}
+use Rattle.std.specs.Prelude.{ℕ, ◌≡◌, ◌<◌, ◌≤◌, length, List, [], ◌∷◌, Bool, true, false, not, ◌&&◌, Option, Some, None, if◌then◌else◌, nat_lt}
 use Rattle.std.specs.Cmp.Lexicographic.{slice_cmp}
 use Rattle.std.specs.Ordering.{nat_cmp}
 use Rattle.std.specs.declared.cmp.Ordering.TheVariants.{Less}
@@ -10,29 +10,6 @@ use Rattle.yp_schema.specs.declared.schema.Kind.{Kind}
 use Rattle.yp_schema.specs.declared.schema.Kind.TheVariants.{Container, Presence, List as Listing, Leaf, LeafList}
 use Rattle.yp_base.specs.Paths.{same_number}
 use Rattle.yp_schema.specs.Nodes.{node_at, child_of, may_hold, qualified_name, is_in}
-
-abbrev pub is_letter : ℕ → Bool
-is_letter b = (nat_le 97 b && nat_le b 122) || (nat_le 65 b && nat_le b 90)
-
--- a letter or `_`
-abbrev pub begins_name : ℕ → Bool
-begins_name b = is_letter b || b == 95
-
--- a letter, a digit, `_`, `-` or `.`
-abbrev pub goes_on_name : ℕ → Bool
-goes_on_name b = begins_name b || (nat_le 48 b && nat_le b 57) || b == 45 || b == 46
-
-abbrev pub go_on_name : List ℕ → Bool
-go_on_name [] = true
-go_on_name (b ∷ bs) = goes_on_name b && go_on_name bs
-
-abbrev pub is_identifier : List ℕ → Bool
-is_identifier [] = false
-is_identifier (b ∷ bs) = begins_name b && go_on_name bs
-
--- the name of a module or node: an identifier (RFC 7950 section 6.2) of at most 64 bytes
-abbrev pub is_name : List ℕ → Bool
-is_name text = is_identifier text && nat_le (length text) 64
 
 -- a parent stands earlier and may have children
 abbrev pub is_parent_of : Option ℕ → ℕ → List SchemaNode → Bool

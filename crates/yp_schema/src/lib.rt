@@ -6,14 +6,9 @@
 //! `specs/Compiled.antt`, and `Schema::read` answers the first fault in the order of `specs/Rounds.antt`.
 #![tactic(auto)]
 
-mod enumeration;
 pub mod fault;
 mod index;
 mod listing;
-mod names;
 mod numbers;
-pub mod rule_path;
 pub mod schema;
 mod stated;
-
-pub use names::is_name;

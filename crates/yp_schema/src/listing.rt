@@ -3,7 +3,7 @@ ghost use Rattle.std.specs.BTreeMap.{insert_entry};
 ghost use Rattle.std.specs.Prelude.{◌≡◌, ◌++◌, ◌∷◌, [], IfOk, OnOk, MatchOption, Ok, Err, map, length, is_some, option_copied, option_map};
 ghost use Rattle.serde_json.specs.View.{view, items_view};
 ghost use Rattle.serde_json.specs.Find.{as_array};
-ghost use Rattle.yp_schema.specs.Names.{names_cmp, front};
+ghost use Rattle.yp_names.specs.Names.{names_cmp, front};
 ghost use Rattle.yp_schema.specs.Nodes.{may_hold};
 ghost use Rattle.yp_schema.specs.Reading.{Leaves, Reads, numbered};
 ghost use Rattle.yp_schema.specs.Rounds.{listed_at, parent_module, own_module, module_in, atoms_in, is_typed, placed, in_module, added, at_place, first_round, keys_there, may_be_key, keys_fit, checked, second_round, part_in, parts_in};
@@ -11,7 +11,6 @@ ghost use Rattle.yp_schema.specs.Stated.{node_in};
 ghost use Rattle.yp_schema.specs.WellFormed.{IsSchema};
 
 use crate::fault::{SchemaFault, SchemaKind};
-use crate::names::{front_of, with_name};
 use crate::schema::Kind;
 use crate::stated::{Body, Stated, read_node};
 use serde_json::Value as Json;
@@ -21,6 +20,7 @@ use std::marker::Model;
 use yp_base::leaf_type::{LeafType, Names};
 use yp_base::memory::{Duplicate, NoMemory};
 use yp_base::txt::Txt;
+use yp_names::names::{front_of, with_name};
 
 /// A node that was taken up: its module, its name, and what its part says of it.
 #[derive(Drop)]

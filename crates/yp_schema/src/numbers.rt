@@ -1,11 +1,10 @@
 //! The numbers of nodes: in pre-order, siblings in byte order of their member forms.
 ghost use Rattle.std.specs.Prelude.{◌≡◌, ◌<◌, ◌^◌, ◌++◌, ◌∷◌, [], length, IfOk, map};
-ghost use Rattle.yp_schema.specs.Names.{front, last};
+ghost use Rattle.yp_names.specs.Names.{front, last};
 ghost use Rattle.yp_schema.specs.WellFormed.{IsSchema};
 ghost use Rattle.yp_schema.specs.Reading.{numbers_from, number_of, key_numbers, numbered_node, numbered};
 
 use crate::listing::{Listed, Listing};
-use crate::names::{front_of, last_of, with_name};
 use crate::schema::SchemaNode;
 use std::alloc::Global;
 use std::collections::BTreeMap;
@@ -14,6 +13,7 @@ use yp_base::leaf_type::Names;
 use yp_base::memory::{Duplicate, NoMemory};
 use yp_base::series::Series;
 use yp_base::txt::{Txt, text_of};
+use yp_names::names::{front_of, last_of, with_name};
 
 /// The numbers of nodes, by the names on the way to them.
 #[derive(Drop)]

@@ -1,11 +1,10 @@
 //! What the JSON of one node says of it. Nothing is looked up.
 ghost use Rattle.std.specs.Prelude.{◌≡◌, ℕ, IfOk, option_map};
 ghost use Rattle.serde_json.specs.View.{view, members_view};
-ghost use Rattle.yp_schema.specs.Names.{around_colon};
-ghost use Rattle.yp_schema.specs.Stated.{may_have, is_own, has_only, flag_of, flag_member, texts_member, places_in, decimal_at, integer_in, type_in, all_names, are_key_names, container_kind, container_in, list_in, enumeration_in, typed_in, leaf_in, of_kind, body_in, form_of, form_in, stated_in, node_in, tested};
+ghost use Rattle.yp_names.specs.Names.{around_colon};
+ghost use Rattle.yp_base.specs.Results.{tested};
+ghost use Rattle.yp_schema.specs.Stated.{may_have, is_own, has_only, flag_of, flag_member, texts_member, places_in, decimal_at, integer_in, type_in, all_names, are_key_names, container_kind, container_in, list_in, enumeration_in, typed_in, leaf_in, of_kind, body_in, form_of, form_in, stated_in, node_in};
 
-use crate::enumeration::enumeration_names;
-use crate::names::{around_colon, is_name, last_of, read_path};
 use crate::schema::Kind;
 use serde_json::{Map, Value as Json};
 use std::alloc::Global;
@@ -13,6 +12,8 @@ use yp_base::leaf_type::{LeafType, Names};
 use yp_base::memory::NoMemory;
 use yp_base::series::Series;
 use yp_base::txt::{Txt, are_distinct, text_of};
+use yp_names::names::{around_colon, is_name, last_of, read_path};
+use yp_value::enumeration::enumeration_names;
 use yp_value::members::{member_in, read_texts, text_in};
 
 /// Which members a node may have, beside `path`, `kind` and `deny-all`.

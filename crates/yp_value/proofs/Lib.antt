@@ -1,3 +1,4 @@
+pub mod ByteOrder
 pub mod Digits
 pub mod Named
 pub mod Written

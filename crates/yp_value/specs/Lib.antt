@@ -1,4 +1,5 @@
 pub mod Coding
+pub mod Enumerations
 pub mod Json
 pub mod JsonLaws
 pub mod Payloads

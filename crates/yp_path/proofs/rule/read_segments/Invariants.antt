@@ -4,7 +4,7 @@ use denote.Shadow.{shadow}
 use Rattle.yp_path.specs.RulePaths.{pieces, rule_segments_in}
 use Rattle.yp_path.specs.declared.mark.Place.TheVariants.{Outside}
 use Rattle.std.specs.List.{All}
-use Rattle.yp_schema.specs.declared.rule_path.RuleSeg.{RuleSeg}
+use Rattle.yp_base.specs.declared.rule_path.RuleSeg.{RuleSeg}
 use Rattle.yp_path.proofs.RuleSegments.{behind}
 use Rattle.yp_path.proofs.rule.read_segments.Given as goal
 

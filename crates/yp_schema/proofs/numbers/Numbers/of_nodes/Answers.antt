@@ -2,7 +2,7 @@ use Rattle.std.proofs.Common.{◌≡◌, [], ◌∷◌, ◌++◌, sym, ap, ◌�
 use Rattle.std.specs.List.Sorted.{IsStrictlySortedBy}
 use Rattle.std.specs.Map.{keys_of}
 use Rattle.yp_schema.specs.declared.listing.Listed.{Listed}
-use Rattle.yp_schema.specs.Names.{Names, names_cmp}
+use Rattle.yp_names.specs.Names.{Names, names_cmp}
 use Rattle.yp_schema.proofs.Numbering.{path_last, length_more}
 use Rattle.yp_schema.proofs.numbers.Numbers.of_nodes.Goals as goal
 
