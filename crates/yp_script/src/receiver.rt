@@ -10,12 +10,13 @@ ghost use Rattle.yp_script.specs.Values.{is_receiver_name, is_user_name, is_new_
 
 use serde_json::Value as Json;
 use std::alloc::Global;
+use yp_base::txt::text_of;
 use yp_cause::cause::{Cause, Wrong};
 use yp_cause::excerpt::Excerpt;
 use yp_command::fault::Flaw;
 use yp_command::halt::{Halt, least};
 use yp_command::receivers::Receivers;
-use yp_command::words::{has_count, lacking_among, says, text_in, text_of, whole};
+use yp_command::words::{has_count, lacking_among, says, text_in, whole};
 use yp_journal::receiver::ReceiverInfo;
 use yp_value::json::member;
 
