@@ -224,7 +224,7 @@ fn read_object(
 fn path_of(alloc: Global, segments: &[Seg]) -> Result<Path, NoMemory>
     ensures { IfOk result (λ path. path ≡ segments.now) }
 {
-    let mut copies = Vec::new(alloc);
+    let mut copies = Vec::with_capacity(alloc, segments.len())?;
     for segment in segments {
         copies.push(segment.copy(alloc)?)?;
     }

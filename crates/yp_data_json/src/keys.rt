@@ -103,7 +103,7 @@ pub fn read_keys(
     requires { All (λ n. n < length schema.now) nodes.now }
     ensures { Gives result (keys_in schema.now nodes.now (members_view members.now.entries)) }
 {
-    let mut keys = Vec::new(alloc);
+    let mut keys = Vec::with_capacity(alloc, nodes.len())?;
     let mut first: Option<(u32, DataFault)> = None;
     for node in nodes {
         match read_key(alloc, schema, *node, members)? {

@@ -28,7 +28,7 @@ pub fn path_below(alloc: Global, path: &Path, node: u32, keys: Keys) -> Result<P
 pub fn only_key(alloc: Global, atom: Atom) -> Result<Keys, NoMemory>
     ensures { IfOk result (λ keys. keys ≡ atom ∷ []) }
 {
-    let mut keys = Vec::new(alloc);
+    let mut keys = Vec::with_capacity(alloc, 1)?;
     keys.push(atom)?;
     Ok(Series::from_vec(keys))
 }

@@ -90,7 +90,13 @@ fn report_by<L: Ledger>(alloc: Global, script: Script, blank: Blank) -> Result<S
     every_interleaving_is_heard();
     let mut steps = Steps::<L>::open(blank);
     let Ran { schema, run } = run_script(alloc, script)?;
-    let Run { replies, desks, .. } = run;
+    let Run {
+        worker,
+        replies,
+        desks,
+    } = run;
+    // The datastore goes before the report is written.
+    drop(worker);
     text_of(alloc, &schema, replies, desks, &mut steps)
 }
 

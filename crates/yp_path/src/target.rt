@@ -57,7 +57,7 @@ fn read_values(
     requires { All (λ node. node < length schema.now) asked.now }
     ensures { IfOk result (λ values. values ≡ values_read schema.now asked.now texts.now) }
 {
-    let mut values = Vec::new(alloc);
+    let mut values = Vec::with_capacity(alloc, asked.len())?;
     let mut rest = texts;
     for node in asked {
         match rest.split_first() {

@@ -10,7 +10,7 @@ loop-node-preserved c =
     let l = c.loop-node in
     let nodes = c.args.schema.now in
     let ms = members_view c.args.members.now.entries in
-    elim c.match-branch-2.branch [
+    elim c.match-branch-3.branch [
       | in-Ok+in_ok-push-in-Ok w ↦
           let step = step_key nodes l.first l.keys.items c.args.nodes.now l.node-index ms w.in-Ok.key (keys_found nodes c.args.nodes.now ms) c.loop-node-test.true (sym w.in-Ok.is ∙ c.in_ok-key.ensures.read) l.invariant.1 in
           rw (w.first-is, w.keys-is, w.in_ok-push-in-Ok.ensures.items) (l.invariant.0, step)
