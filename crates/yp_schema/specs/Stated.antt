@@ -3,6 +3,7 @@ use Rattle.std.specs.Prelude.{ℕ, ◌+◌, ◌-◌, ◌==◌, ◌&&◌, ◌||�
 use Rattle.serde_json.specs.Data.{Data, Members, no_members, member}
 use Rattle.serde_json.specs.Find.{get_member, as_bool, as_array, as_object}
 use Rattle.yp_base.specs.Types.{same_text, are_distinct, are_names}
+use Rattle.yp_base.specs.Results.{tested}
 use Rattle.yp_value.specs.Json.{text_member, texts_in}
 use Rattle.yp_base.specs.declared.leaf_type.LeafType.{LeafType}
 use Rattle.yp_base.specs.declared.leaf_type.LeafType.TheVariants.{Bool as Truth, Int, Uint, Dec, Text, Names as Enumeration, Empty}

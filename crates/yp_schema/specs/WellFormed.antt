@@ -9,6 +9,7 @@ use Rattle.yp_schema.specs.declared.schema.SchemaNode.{SchemaNode}
 use Rattle.yp_schema.specs.declared.schema.Kind.{Kind}
 use Rattle.yp_schema.specs.declared.schema.Kind.TheVariants.{Container, Presence, List as Listing, Leaf, LeafList}
 use Rattle.yp_base.specs.Paths.{same_number}
+use Rattle.yp_names.specs.Names.{is_name}
 use Rattle.yp_schema.specs.Nodes.{node_at, child_of, may_hold, qualified_name, is_in}
 
 -- a parent stands earlier and may have children
