@@ -11,8 +11,8 @@ not_refused None x y h = (refl, cc)
 not_refused (Some refusal) x y h = cc
 
 -- so it is where a call gives nothing
-pub nothing_refused : (refusal : Option Refused) → or_refused refusal tt ≡ Ok tt → refusal ≡ None
-nothing_refused refusal done = (not_refused refusal tt tt done).0
+pub nothing_refused : (refusal : Option Refused) → or_refused refusal (tt {0}) ≡ Ok (tt {0}) → refusal ≡ None
+nothing_refused refusal done = (not_refused refusal (tt {0}) (tt {0}) done).0
 
 passed : (holds : Bool) (refusal : Refused) (rest : Option Refused) → (if holds then Some refusal else rest) ≡ None → (holds ≡ false) × (rest ≡ None)
 passed true refusal rest h = cc
