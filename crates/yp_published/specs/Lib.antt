@@ -1,0 +1,4 @@
+pub mod Histories
+pub mod Reads
+pub mod Rules
+pub mod Views
