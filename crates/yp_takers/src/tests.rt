@@ -1,0 +1,108 @@
+//! Receivers that take what others send, and hear it.
+ghost use Rattle.std.specs.Prelude.{◌≡◌, ◌<◌, ◌∷◌, [], length};
+
+use crate::taker::{TakerJob, run_takers};
+use serde_json::Value as Json;
+use std::alloc::Global;
+use std::sync::Wait;
+use std::sync::atomic::{AtomicBool, AtomicU64, Ordering};
+use std::test::Fail;
+use std::thread::Threads;
+use yp_base::memory::NoMemory;
+use yp_base::txt::text_of;
+use yp_gate::{Gate, Moment};
+use yp_queue::packet::{Offered, Packet, PacketKind};
+use yp_queue_share::passes::{TakePass, shared};
+use yp_receiver::receiver::Receiver;
+use yp_schema::schema::Schema;
+
+// Ports with a name and an mtu.
+const PORTS: &str =
+    r#"[{"path":"/acme:port","kind":"list","keys":["name"]},{"path":"/acme:port/name","kind":"leaf","type":"string"},{"path":"/acme:port/mtu","kind":"leaf","type":"uint16"}]"#;
+
+const FULL: &str =
+    r#"{"ietf-restconf:notification":{"eventTime":"2026-01-01T00:00:00Z","ietf-yang-push:push-update":{"id":9,"datastore-contents":{"acme:port":[{"name":"lo","mtu":65535},{"name":"eth0"}]}}}}"#;
+
+const CHANGES: &str =
+    r#"{"ietf-restconf:notification":{"eventTime":"2026-01-01T00:00:00Z","ietf-yang-push:push-change-update":{"id":9,"datastore-changes":{"yang-patch":{"patch-id":"1","edit":[{"edit-id":"1","operation":"delete","target":"/acme:port=eth0"}]}}}}}"#;
+
+fn ports(alloc: Global) -> Result<Schema, Fail> {
+    let mut parts = Vec::new(alloc);
+    parts.push(Json::from_str(alloc, PORTS)?)?;
+    Ok(Schema::read(alloc, parts.as_slice())?)
+}
+
+// A packet of this line.
+fn packet(alloc: Global, line: &str) -> Result<Packet, NoMemory> {
+    Ok(Packet {
+        sub: 9,
+        position: 1,
+        kind: PacketKind::Full,
+        line: text_of(alloc, line)?,
+    })
+}
+
+// A receiver that took nothing.
+fn taker(alloc: Global, take: TakePass) -> TakerJob
+    requires { take.taken ≡ [] }
+    ensures { (result.worker ≡ 0) × (result.taken.items ≡ []) × (result.take ≡ take) × (result.heard ≡ []) }
+{
+    TakerJob {
+        receiver: 0,
+        worker: 0,
+        take,
+        taken: Vec::new(alloc),
+        heard: Receiver::new(alloc),
+        whole: false,
+    }
+}
+
+// How often it was called.
+#[derive(Drop)]
+struct Counting {
+    calls: AtomicU64,
+}
+
+impl Gate for Counting {
+    fn at(&self, _place: Moment) {
+        self.calls.fetch_add(1, Ordering::SeqCst);
+    }
+}
+
+// Runs one receiver until its worker has ended.
+fn run_one<T: Threads + Wait + Sync, G: Gate>(
+    rt: &T,
+    alloc: Global,
+    schema: &Schema,
+    gate: &G,
+    ended: &[AtomicBool],
+    take: TakePass,
+) -> Result<TakerJob, NoMemory>
+    requires fresh { take.taken ≡ [] }
+    requires some { 0 < length ended.now }
+{
+    let mut jobs = [taker(alloc, take)];
+    run_takers(rt, alloc, schema, gate, ended, &mut jobs);
+    let [job] = jobs;
+    Ok(job)
+}
+
+#[test]
+fn a_receiver_takes_and_hears_what_was_sent(rt: HostRuntime) -> Result<(), Fail> {
+    let alloc = rt.alloc();
+    let schema = ports(alloc)?;
+    let (mut send, take) = shared(alloc, 4)?;
+    for line in [FULL, CHANGES] {
+        assert!(rt; matches!(send.offer(&rt, packet(alloc, line)?), Offered::Took));
+    }
+    let gate = Counting {
+        calls: AtomicU64::new(0),
+    };
+    let ended = [AtomicBool::new(true)];
+    let job = run_one(&rt, alloc, &schema, &gate, &ended, take)?;
+    assert!(rt; job.whole);
+    assert_eq!(rt; job.taken.len(), 2);
+    assert_eq!(rt; job.heard.ids(alloc)?.as_slice(), [9].as_slice());
+    assert_eq!(rt; gate.calls.load(Ordering::SeqCst), 2);
+    Ok(())
+}
