@@ -56,7 +56,7 @@ where
 
 impl<J: Naming> Desk<J> {
     /// Takes a command of a seat's lane. The seat has one more call then, and what is published one more entry. After
-    /// `NoMemory` both are as they were, and nothing more may be published.
+    /// `NoMemory` both are as they were, and the desk may be spent: then it publishes nothing more.
     pub fn submit<W: Wait>(
         &mut self,
         rt: &W,
@@ -110,8 +110,9 @@ impl<J: Naming> Desk<J> {
         self.spent = false;
         Ok(Receipt { position, reply })
     }
+
     /// Ends what is published. The seats are all that there are, from lane 1 on. After want of memory they come back,
-    /// what is published stays as it was, and nothing more may be published.
+    /// what is published stays as it was, and the desk may be spent.
     pub fn finish<W: Wait>(
         &mut self,
         rt: &W,

@@ -33,7 +33,7 @@ impl<'a, J: Naming> SharedLog<'a, J> {
     }
 
     /// Takes a command of a seat's lane, and tells its position and reply. The seat has one more call then. After
-    /// `NoMemory` it has not, what is published stays as it was, and nothing more may be taken.
+    /// `NoMemory` it has not, what is published stays as it was, and the journal may be spent: it takes no more then.
     pub fn submit<W: Wait>(
         &self,
         rt: &W,
@@ -52,7 +52,7 @@ impl<'a, J: Naming> SharedLog<'a, J> {
     }
 
     /// Ends the journal. The seats are all that it has, from lane 1 on, so no entry follows. Where memory runs out
-    /// they come back, and nothing more may be taken.
+    /// they come back, and the journal may be spent.
     pub fn finish<W: Wait>(
         &self,
         rt: &W,

@@ -49,7 +49,7 @@ pub record Sending : Type 0 where
 abbrev pub one_refused : ℕ → ℕ
 one_refused refused = min (refused + 1) (2 ^ 64 - 1)
 
--- at one moment the queue held as many packets as it has places, the last of those that were sent
+-- as many packets as the queue has places could stand there, the last of those that were sent: so many at least were sent. That just these stood there at that moment no value keeps
 abbrev pub WasFull : Sending → Type 0
 WasFull sending = (items : List Packet) × (length items ≡ sending.places) × HoldsLast sending.sent items
 

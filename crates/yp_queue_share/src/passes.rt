@@ -105,7 +105,8 @@ impl SendPass {
 }
 
 impl TakePass {
-    /// Takes the oldest packet; `None` where the queue is empty at one moment of the call. It takes no memory.
+    /// Takes the oldest packet; `None` where the queue is empty at one moment of the call, which no clause says. It takes no
+    /// memory.
     pub fn take<R: Wait>(&mut self, rt: &R) -> Option<Packet>
         ensures one { self.new.queue ≡ self.old.queue }
         ensures taken { Takes self.old result self.new }
