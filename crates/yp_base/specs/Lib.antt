@@ -12,3 +12,4 @@ pub mod Results
 pub mod RowLaws
 pub mod Rows
 pub mod Types
+pub mod Ways

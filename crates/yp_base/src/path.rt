@@ -11,10 +11,11 @@ ghost use Rattle.yp_base.specs.Paths.{is_covered};
 
 use crate::atom::Keys;
 use crate::memory::{Duplicate, NoMemory};
-use crate::series::{Series, copies_of};
+use crate::series::copies_of;
 use std::alloc::Global;
 use std::cmp::Ordering;
 use std::marker::Model;
+use std::sync::Arc;
 
 /// A step of a path: a node of the schema, with its keys where it is a list entry, or its value where
 /// it is a leaf-list entry (RFC 8040 section 3.5.3).
@@ -40,21 +41,34 @@ impl Seg {
     }
 }
 
-/// The way from the top to a node, an entry or a leaf. The empty path is the whole datastore.
+/// Where the segments of a path lie.
+#[derive(Drop)]
+enum Way {
+    Own(Vec<Seg>),
+    /// The first so many of these.
+    Shared {
+        len: u32,
+        segments: Arc<Vec<Seg>, Global>,
+    },
+}
+
+/// The way from the top to a node, an entry or a leaf. The empty path is the whole datastore. Once a path is shared, a copy
+/// of it and a path above it take no memory.
 ///
 /// Contracts see the list of its segments.
 #[derive(Drop)]
 pub struct Path {
-    segments: Series<Seg>,
+    way: Way,
 }
 
 impl Model for Path {
     ghost use Rattle.std.specs.Prelude.{List};
+    ghost use Rattle.yp_base.specs.Ways.{way_segments};
     ghost use Rattle.yp_base.specs.declared.path.Seg.{Seg};
 
     ghost Value = { List Seg };
 
-    ghost view = { λ p. p.segments };
+    ghost view = { λ p. way_segments p.way };
 }
 
 impl Path {
@@ -63,18 +77,27 @@ impl Path {
         ensures { result ≡ segments.items }
     {
         Path {
-            segments: Series::from_vec(segments),
+            way: Way::Own(segments),
         }
     }
 
-    /// The same path, whose copies share its segments.
+    /// The same path, whose copies share its segments, and so do the paths above it. One of more segments than 32 bits count
+    /// stays as it is.
     pub fn share(self, alloc: Global) -> Result<Path, NoMemory>
         ensures { IfOk result (λ path. path ≡ self) }
     {
-        let Path { segments } = self;
-        Ok(Path {
-            segments: segments.share(alloc)?,
-        })
+        let Path { way } = self;
+        let way = match way {
+            Way::Own(segments) => match u32::try_from(segments.len()) {
+                Ok(len) => Way::Shared {
+                    len,
+                    segments: Arc::new(alloc, segments)?,
+                },
+                Err(_) => Way::Own(segments),
+            },
+            shared => shared,
+        };
+        Ok(Path { way })
     }
 
     /// The path of a node or an entry below this one, to be kept: its copies share its segments, and the
@@ -91,26 +114,41 @@ impl Path {
     pub fn first(&self, alloc: Global, count: usize) -> Result<Path, NoMemory>
         ensures { IfOk result (λ path. path ≡ take count self.now) }
     {
-        let segments = self.items();
-        let above = match segments.get(..count) {
-            Some(above) => above,
-            None => segments,
-        };
-        Path::from_vec(copies_of(alloc, above, 0)?).share(alloc)
+        match &self.way {
+            Way::Own(segments) => {
+                let first = match segments.get(..count) {
+                    Some(first) => first,
+                    None => segments.as_slice(),
+                };
+                Path::from_vec(copies_of(alloc, first, 0)?).share(alloc)
+            }
+            Way::Shared { len, segments } => Ok(Path {
+                way: Way::Shared {
+                    len: count.min(*len as usize) as u32,
+                    segments: segments.clone()?,
+                },
+            }),
+        }
     }
 
     /// Its segments.
     pub fn items(&self) -> &[Seg]
         ensures { result.now ≡ self.now }
     {
-        self.segments.items()
+        match &self.way {
+            Way::Own(segments) => segments.as_slice(),
+            Way::Shared { len, segments } => match segments.get(..*len as usize) {
+                Some(first) => first,
+                None => segments.as_slice(),
+            },
+        }
     }
 
     /// How many segments it has.
     pub fn len(&self) -> usize
         ensures { result ≡ length self.now }
     {
-        self.segments.len()
+        self.items().len()
     }
 }
 
@@ -166,9 +204,14 @@ impl Duplicate for Seg {
 
 impl Duplicate for Path {
     fn copy(&self, alloc: Global) -> Result<Path, NoMemory> {
-        Ok(Path {
-            segments: self.segments.copy(alloc)?,
-        })
+        let way = match &self.way {
+            Way::Own(segments) => Way::Own(copies_of(alloc, segments.as_slice(), 0)?),
+            Way::Shared { len, segments } => Way::Shared {
+                len: *len,
+                segments: segments.clone()?,
+            },
+        };
+        Ok(Path { way })
     }
 }
 
@@ -178,7 +221,7 @@ impl PartialEq for Path {
     ghost laws = { lists_per (partial_equiv_from_equiv (eq_by_cmp_equiv segments_total)) };
 
     fn eq(&self, other: &Path) -> bool {
-        self.segments == other.segments
+        self.items() == other.items()
     }
 }
 
@@ -192,7 +235,7 @@ impl PartialOrd for Path {
     ghost laws = { lists_po (partial_order_from_total segments_total) };
 
     fn partial_cmp(&self, other: &Path) -> Option<Ordering> {
-        self.segments.partial_cmp(&other.segments)
+        self.items().partial_cmp(other.items())
     }
 }
 
@@ -206,7 +249,7 @@ impl Ord for Path {
     ghost matches_eq = { λ x y. lists_ties segment_cmp (λ a b. refl) x y };
 
     fn cmp(&self, other: &Path) -> Ordering {
-        self.segments.cmp(&other.segments)
+        self.items().cmp(other.items())
     }
 }
 

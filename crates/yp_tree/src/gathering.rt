@@ -5,11 +5,13 @@ ghost use Rattle.yp_tree.specs.Gathered.{gathered_rows};
 
 use crate::rising::Rising;
 use crate::scattered::Scattered;
+use crate::sharing::share_paths;
 use std::alloc::Global;
 use std::marker::Model;
 use yp_base::memory::NoMemory;
 use yp_base::path::Path;
 use yp_base::row::{Row, Rows, Value};
+use yp_base::series::Series;
 
 /// How rows are kept.
 #[derive(Drop)]
@@ -119,14 +121,17 @@ impl Gathering {
         Ok(())
     }
 
-    /// The rows, in order, given away.
+    /// The rows, in order, given away. The path of each shares the segments of the next one, where this lies below it.
     pub fn into_rows(self, alloc: Global) -> Result<Rows, NoMemory>
         ensures { IfOk result (λ rows. rows ≡ self) }
     {
         let Gathering { kept } = self;
-        match kept {
-            Gathered::Rising(rows) => rows.into_rows(alloc),
-            Gathered::Scattered(rows) => rows.into_rows(alloc),
-        }
+        let rows = match kept {
+            Gathered::Rising(rows) => rows.into_rows(alloc)?,
+            Gathered::Scattered(rows) => rows.into_rows(alloc)?,
+        };
+        let mut rows = rows.into_vec(alloc)?;
+        share_paths(alloc, &mut rows)?;
+        Ok(Series::from_vec(rows))
     }
 }

@@ -15,4 +15,5 @@
 pub mod gathering;
 pub mod rising;
 mod scattered;
+mod sharing;
 pub mod tree;
