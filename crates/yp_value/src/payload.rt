@@ -14,60 +14,51 @@ use yp_base::txt::Txt;
 /// How deep arrays and objects may nest in a text that is read again.
 const MAX_DEPTH: u32 = 127;
 
-/// A JSON value that waits until it is asked for. Contracts see its data, so that copies are equal.
+/// A JSON value that waits until it is asked for, as its compact text, since a value takes many times as much room.
+/// Contracts see its data, so that copies are equal.
 #[derive(Drop)]
 pub struct Payload {
-    kept: Kept,
-}
-
-/// What a payload keeps: the compact text of its value, since a value takes many times as much room.
-/// A value that nests too deep to be read again is kept as it is.
-#[derive(Drop)]
-enum Kept {
-    Text(Txt),
-    All(Json),
+    text: Txt,
 }
 
 impl Model for Payload {
     ghost use Rattle.serde_json.specs.Data.{Data};
-    ghost use Rattle.yp_value.specs.Payloads.{IsReadable, kept_data};
+    ghost use Rattle.yp_value.specs.Payloads.{IsReadable, data_in};
     ghost use Rattle.yp_value.specs.Coding.{coded_data};
 
     ghost Value = { Data };
 
     ghost coded = { coded_data };
 
-    ghost view = { λ p. kept_data p.kept };
+    ghost view = { λ p. data_in p.text };
 
-    ghost invariant = { λ p. IsReadable p.kept };
+    ghost invariant = { λ p. IsReadable p.text };
 }
 
 impl Payload {
-    /// The payload of a JSON value.
+    /// The payload of a JSON value. One that nests deeper than a text that is read, which no reader gives, is refused as
+    /// for want of memory.
     pub fn from_json(alloc: Global, json: &Json) -> Result<Payload, NoMemory>
         ensures { IfOk result (λ payload. payload ≡ data_of json.now) }
     {
-        let kept = if nests_within(json, MAX_DEPTH) {
-            Kept::Text(text_of(alloc, json)?)
+        if nests_within(json, MAX_DEPTH) {
+            let text = text_of(alloc, json)?;
+            Ok(Payload { text })
         } else {
-            Kept::All(json.clone()?)
-        };
-        Ok(Payload { kept })
+            Err(NoMemory)
+        }
     }
 
-    /// The JSON value, made again. What is kept as text is read, and only memory can be missing for that.
+    /// The JSON value, made again: its text is read, and only memory can be missing for that.
     pub fn json(&self, alloc: Global) -> Result<Json, NoMemory>
         ensures { IfOk result (λ json. data_of json ≡ self.now) }
     {
-        match &self.kept {
-            Kept::Text(text) => match Json::from_str(alloc, text.as_str()) {
-                Ok(json) => Ok(json),
-                Err(error) => match error.classify() {
-                    Category::Memory => Err(NoMemory),
-                    _ => unreachable!(),
-                },
+        match Json::from_str(alloc, self.text.as_str()) {
+            Ok(json) => Ok(json),
+            Err(error) => match error.classify() {
+                Category::Memory => Err(NoMemory),
+                _ => unreachable!(),
             },
-            Kept::All(json) => Ok(json.clone()?),
         }
     }
 }
@@ -82,10 +73,8 @@ fn text_of(alloc: Global, json: &Json) -> Result<Txt, NoMemory>
 
 impl Duplicate for Payload {
     fn copy(&self, alloc: Global) -> Result<Payload, NoMemory> {
-        let kept = match &self.kept {
-            Kept::Text(text) => Kept::Text(text.copy(alloc)?),
-            Kept::All(json) => Kept::All(json.clone()?),
-        };
-        Ok(Payload { kept })
+        Ok(Payload {
+            text: self.text.copy(alloc)?,
+        })
     }
 }
