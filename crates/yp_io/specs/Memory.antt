@@ -1,7 +1,8 @@
 -- What one call of a source or a sink in memory does.
-use Rattle.std.specs.Prelude.{ℕ, zero, suc, ◌+◌, ◌-◌, ◌^◌, Bool, ◌&&◌, ◌||◌, not, List, ◌++◌, length, take, drop, min, if◌then◌else◌}
+use Rattle.std.specs.Prelude.{ℕ, zero, suc, ◌-◌, Bool, ◌&&◌, ◌||◌, not, List, ◌++◌, length, take, drop, min, if◌then◌else◌}
 use Rattle.std.specs.List.{list_any}
 use Rattle.std.specs.Prelude.{nat_eq}
+use Rattle.yp_base.specs.Counts.{one_more}
 use Rattle.yp_io.specs.declared.source.Got.{Got}
 use Rattle.yp_io.specs.declared.source.Got.TheVariants.{Bytes, End, Failed as ReadFailed}
 use Rattle.yp_io.specs.declared.sink.Put.{Put}
@@ -24,10 +25,6 @@ pub record Store : Type 0 where
   pub calls : ℕ
   pub failed : ℕ
 
--- one more, up to the last value of a count
-abbrev pub raised : ℕ → ℕ
-raised n = min (n + 1) (2 ^ 64 - 1)
-
 -- whether a call stands among those that fail
 abbrev pub is_among : ℕ → List ℕ → Bool
 is_among call failing = list_any (λ n. nat_eq n call) failing
@@ -42,17 +39,17 @@ got (suc n) = Bytes (suc n)
 
 -- what a read answers into so many places
 abbrev pub read_answer : Supply → ℕ → Got
-read_answer s fit = if is_among (raised s.calls) s.failing then ReadFailed else got (given s fit)
+read_answer s fit = if is_among (one_more s.calls) s.failing then ReadFailed else got (given s fit)
 
 -- and what is left after it
 abbrev pub after_read : Supply → ℕ → Supply
 after_read s fit =
-    if is_among (raised s.calls) s.failing then record s { calls = raised s.calls; failed = raised s.failed }
-    else record s { calls = raised s.calls; bytes = drop (given s fit) s.bytes }
+    if is_among (one_more s.calls) s.failing then record s { calls = one_more s.calls; failed = one_more s.failed }
+    else record s { calls = one_more s.calls; bytes = drop (given s fit) s.bytes }
 
 -- whether a write fails: its number is among those that fail, or there is a byte to write and no room
 abbrev pub refuses : Store → List ℕ → Bool
-refuses s piece = is_among (raised s.calls) s.failing || (nat_eq s.room 0 && not (nat_eq (length piece) 0))
+refuses s piece = is_among (one_more s.calls) s.failing || (nat_eq s.room 0 && not (nat_eq (length piece) 0))
 
 -- as many bytes as there are, as there is room for and as a call may take
 abbrev pub accepted : Store → List ℕ → ℕ
@@ -65,5 +62,5 @@ write_answer s piece = if refuses s piece then WriteFailed else Took (accepted s
 -- and what is written after it
 abbrev pub after_write : Store → List ℕ → Store
 after_write s piece =
-    if refuses s piece then record s { calls = raised s.calls; failed = raised s.failed }
-    else record s { calls = raised s.calls; bytes = s.bytes ++ take (accepted s piece) piece; room = s.room - accepted s piece }
+    if refuses s piece then record s { calls = one_more s.calls; failed = one_more s.failed }
+    else record s { calls = one_more s.calls; bytes = s.bytes ++ take (accepted s piece) piece; room = s.room - accepted s piece }

@@ -1,5 +1,5 @@
 -- What a reader of the published journal knows, and what it gets by a read.
-use Rattle.std.specs.Prelude.{◌≡◌, ℕ, ◌+◌, ◌-◌, ◌^◌, min, List, ◌++◌, length}
+use Rattle.std.specs.Prelude.{◌≡◌, ℕ, ◌+◌, List, ◌++◌, length}
 use Rattle.yp_journal.specs.declared.entry.Entry.{Entry}
 use Rattle.yp_published.specs.declared.published.View.{View}
 use Rattle.yp_published.specs.Histories.{Known}
@@ -13,10 +13,6 @@ pub record Sight : Type 0 where
 -- nothing was seen, and each read was given
 abbrev pub fresh_sight : Sight
 fresh_sight = record { view = blank; missed = 0 }
-
--- a read that was not given is counted, as far as the count goes
-abbrev pub one_missed : ℕ → ℕ
-one_missed missed = min (missed + 1) (2 ^ 64 - 1)
 
 -- what a reader knows: the entries that it got, and whether they are all; and what its handle knows
 pub record Reading : Type 0 where

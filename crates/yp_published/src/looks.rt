@@ -2,8 +2,9 @@
 //! are counted here, and nowhere else is such a count written.
 ghost use Rattle.std.specs.Prelude.{◌≡◌, ◌+◌, drop, length, All, IfOk, Err};
 ghost use Rattle.left_right.specs.Sides.{view as knows};
+ghost use Rattle.yp_base.specs.Counts.{one_more};
 ghost use Rattle.yp_published.specs.Histories.{Begins};
-ghost use Rattle.yp_published.specs.Reads.{fresh_sight, one_missed};
+ghost use Rattle.yp_published.specs.Reads.{fresh_sight};
 ghost use Rattle.yp_published.specs.Views.{SeesAll, known_by};
 ghost use Rattle.yp_published.specs.declared.looks.CatchFault.TheVariants.{NoRead};
 
@@ -105,7 +106,7 @@ impl<J: Naming> Looks<J> {
     ) -> Result<(Vec<Entry>, Front<J>), CatchFault>
         ensures read { IfOk result (λ got. SeesAll self.old.view got.1 self.new.view × (got.0.items ≡ drop position got.1.entries) × (self.new.missed ≡ self.old.missed)) }
         ensures more { Begins (known_by self.old.view) (known_by self.new.view) }
-        ensures missed { result ≡ Err NoRead → self.new ≡ record self.old { missed = one_missed self.old.missed } }
+        ensures missed { result ≡ Err NoRead → self.new ≡ record self.old { missed = one_more self.old.missed } }
     {
         let got = replace_with(
             &mut self.reader,

@@ -1,7 +1,8 @@
 //! Readers of the published journal, which take no lock and wait for nobody.
 ghost use Rattle.std.specs.Prelude.{◌≡◌, ◌+◌, ◌<◌, ◌++◌, [], false, length, map, All, IfOk, OnErr, Err};
+ghost use Rattle.yp_base.specs.Counts.{one_more};
 ghost use Rattle.yp_journal.specs.History.{IsLegal};
-ghost use Rattle.yp_published.specs.Reads.{IsCaughtInto, one_missed, fresh_reading, reading_of};
+ghost use Rattle.yp_published.specs.Reads.{IsCaughtInto, fresh_reading, reading_of};
 ghost use Rattle.yp_published.specs.declared.looks.CatchFault.TheVariants.{NoRead};
 
 use crate::board::Board;
@@ -44,7 +45,7 @@ impl<J: Naming> LogReader<J> {
     /// nobody. None come only where nothing more was published at this read.
     pub fn catch_up(&mut self, alloc: Global, into: &mut Vec<Entry>) -> Result<u64, CatchFault>
         ensures caught { IfOk result (λ count. IsCaughtInto self.old self.new into.old.items into.new.items count) }
-        ensures missed { result ≡ Err NoRead → self.new ≡ record self.old { missed = one_missed self.old.missed } }
+        ensures missed { result ≡ Err NoRead → self.new ≡ record self.old { missed = one_more self.old.missed } }
         ensures same { OnErr result ((into.new.items ≡ into.old.items) × (self.new.got ≡ self.old.got)) }
     {
         let (mut fresh, front) = self.looks.read(alloc, self.front.len() as usize)?;

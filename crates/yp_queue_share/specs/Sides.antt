@@ -1,8 +1,9 @@
 -- What each side of a queue between two threads knows, and what its calls tell.
-use Rattle.std.specs.Prelude.{◌≡◌, ℕ, ◌+◌, ◌-◌, ◌^◌, Bool, true, false, List, [], ◌∷◌, ◌++◌, length, Option, Some, None, min}
+use Rattle.std.specs.Prelude.{◌≡◌, ℕ, Bool, true, false, List, [], ◌∷◌, ◌++◌, length, Option, Some, None}
 use mathlib.Core.Option.{some}
 use lib.ListN.{get_elem?}
 use Rattle.atomic_table.specs.Seated.{TableId}
+use Rattle.yp_base.specs.Counts.{one_more}
 use Rattle.yp_queue.specs.declared.packet.Packet.{Packet}
 use Rattle.yp_queue.specs.declared.packet.Offered.{Offered}
 use Rattle.yp_queue.specs.declared.packet.Offered.TheVariants.{Took, Full}
@@ -45,10 +46,6 @@ pub record Sending : Type 0 where
   pub sent : List Packet
   pub refused : ℕ
 
--- a count of refused offers stands still at the last number that 64 bits hold
-abbrev pub one_refused : ℕ → ℕ
-one_refused refused = min (refused + 1) (2 ^ 64 - 1)
-
 -- as many packets as the queue has places could stand there, the last of those that were sent: so many at least were sent. That just these stood there at that moment no value keeps
 abbrev pub WasFull : Sending → Type 0
 WasFull sending = (items : List Packet) × (length items ≡ sending.places) × HoldsLast sending.sent items
@@ -56,7 +53,7 @@ WasFull sending = (items : List Packet) × (length items ≡ sending.places) × 
 -- what an offer tells
 abbrev pub Offers : Sending → Packet → Offered → Sending → Type 0
 Offers before packet Took after = after ≡ record before { sent = before.sent ++ packet ∷ [] }
-Offers before packet (Full back) after = (back ≡ packet) × (after ≡ record before { refused = one_refused before.refused }) × WasFull before
+Offers before packet (Full back) after = (back ≡ packet) × (after ≡ record before { refused = one_more before.refused }) × WasFull before
 
 -- ---- the taker's side
 
