@@ -67,6 +67,16 @@ pub legal_more : (nodes : List SchemaNode) (state : JournalState) (entries : Lis
 legal_more nodes state [] entry legal follows = (follows, tt)
 legal_more nodes state (first ∷ entries) entry legal follows = (legal.0, legal_more nodes (next_state nodes state first.command) entries entry legal.1 follows)
 
+-- the state after two lists of entries
+pub state_both : (nodes : List SchemaNode) (state : JournalState) (entries more : List Entry) → state_of nodes state (entries ++ more) ≡ state_of nodes (state_of nodes state entries) more
+state_both nodes state [] more = refl
+state_both nodes state (first ∷ entries) more = state_both nodes (next_state nodes state first.command) entries more
+
+-- two legal journals, of which the one goes on where the other ends, are one
+pub legal_both : (nodes : List SchemaNode) (state : JournalState) (entries more : List Entry) → IsLegal nodes state entries → IsLegal nodes (state_of nodes state entries) more → IsLegal nodes state (entries ++ more)
+legal_both nodes state [] more legal goes_on = goes_on
+legal_both nodes state (first ∷ entries) more legal goes_on = (legal.0, legal_both nodes (next_state nodes state first.command) entries more legal.1 goes_on)
+
 -- each entry of a legal journal may follow those before it
 pub legal_at : (nodes : List SchemaNode) (state : JournalState) (before : List Entry) (entry : Entry) (after : List Entry) → IsLegal nodes state (before ++ entry ∷ after) → MayFollow nodes (state_of nodes state before) entry
 legal_at nodes state [] entry after legal = legal.0

@@ -65,6 +65,16 @@ pub fn a_legal_journal_goes_on()
         → IsLegal nodes state entries → MayFollow nodes (state_of nodes state entries) entry → IsLegal nodes state (entries ++ entry ∷ []) }
 {}
 
+/// A journal that goes on from the state that another leaves is one with it: it leaves the same state, and is legal where
+/// both are.
+#[tactic(auto, using(crate::specs::JournalLaws::state_both, crate::specs::JournalLaws::legal_both))]
+pub fn a_journal_goes_on_where_another_ends()
+    ensures state { (nodes : List SchemaNode) (state : JournalState) (entries more : List Entry)
+        → state_of nodes state (entries ++ more) ≡ state_of nodes (state_of nodes state entries) more }
+    ensures legal { (nodes : List SchemaNode) (state : JournalState) (entries more : List Entry)
+        → IsLegal nodes state entries → IsLegal nodes (state_of nodes state entries) more → IsLegal nodes state (entries ++ more) }
+{}
+
 /// The rows that the first command finds, none, are a datastore of each schema, and each command leaves a
 /// datastore a datastore; so all entries do.
 pub fn a_journal_keeps_a_datastore()
