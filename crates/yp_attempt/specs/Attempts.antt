@@ -1,7 +1,7 @@
 -- The attempts that a journal makes with given answers, by recursion, and one receiver's part of them.
-use Rattle.std.specs.Prelude.{◌≡◌, ℕ, ◌==◌, List, [], ◌∷◌, ◌++◌, map, filter, Option, Some, None}
+use Rattle.std.specs.Prelude.{◌≡◌, ℕ, ◌≤◌, ◌==◌, false, List, [], ◌∷◌, ◌++◌, map, filter, length, Option, Some, None}
 use Rattle.yp_attempt.specs.Content.{Content}
-use Rattle.yp_attempt.specs.Tracks.{Track, Made, Attempt, Answer, Took, Full}
+use Rattle.yp_attempt.specs.Tracks.{Track, Made, Attempt, Answer, Took, Full, is_taken}
 use Rattle.yp_attempt.specs.Moments.{Moment}
 use Rattle.yp_attempt.specs.Runs.{Run, Found, first_run, waits, run_advanced, run_settled, Reaches}
 
@@ -100,6 +100,10 @@ if_taken Full notification later = later
 abbrev pub taken_of : List Attempt → List Notification
 taken_of [] = []
 taken_of (a ∷ attempts) = if_taken a.answer (notification_of a) (taken_of attempts)
+
+-- a queue of so many places was full only where at least as many notifications had been accepted before
+abbrev pub FillsFirst : ℕ → List Attempt → Type 0
+FillsFirst places offered = (before : List Attempt) (a : Attempt) (after : List Attempt) → offered ≡ before ++ a ∷ after → is_taken a.answer ≡ false → places ≤ length (taken_of before)
 
 -- what a receiver is sent by a journal, with the answers of its queue
 abbrev pub stream : Content → ℕ → List Moment → List Answer → List Notification
