@@ -7,8 +7,8 @@ use Rattle.yp_base.specs.declared.notice.Notice.{Notice}
 use Rattle.yp_queue.specs.declared.packet.Packet.{Packet}
 use Rattle.yp_queue.specs.declared.packet.Offered.TheVariants.{Took, Full}
 use Rattle.yp_queue.specs.Queues.{QueueState, has_room, offer_answer, offered, with_packets}
-use Rattle.yp_live.specs.declared.desk.Logged.{Logged}
-use Rattle.yp_live.specs.declared.desk.Logged.TheVariants as logs
+use Rattle.yp_offer_log.specs.declared.logged.Logged.{Logged}
+use Rattle.yp_offer_log.specs.declared.logged.Logged.TheVariants as logs
 use Rattle.yp_live.specs.Desks.{DeskState, desk_offered, desk_offered_by, desk_served}
 
 -- where it is accepted there is room

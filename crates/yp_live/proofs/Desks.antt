@@ -24,7 +24,8 @@ use Rattle.yp_promise.specs.Posts.{HasPost}
 use Rattle.yp_promise.specs.Received.{received}
 use Rattle.yp_promise.specs.Serving.{places_of, queueing_of, takes_itself}
 use Rattle.yp_promise.specs.Shown.{offered_to}
-use Rattle.yp_live.specs.Desks.{DeskState, desk_answer, desk_at, desk_offered, desk_offered_by, desk_took, desks_at, hears_all, logged}
+use Rattle.yp_live.specs.Desks.{DeskState, desk_answer, desk_at, desk_offered, desk_offered_by, desk_took, desks_at, hears_all}
+use Rattle.yp_offer_log.specs.Logs.{logged}
 use Rattle.yp_live.proofs.Taking.{drop_most, hears_received, notice_in, received_more, take_most}
 
 -- ---- what was accepted

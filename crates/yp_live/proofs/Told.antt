@@ -10,7 +10,8 @@ use Rattle.yp_hearing.specs.Hearing.{line_for}
 use Rattle.yp_receiver.specs.Held.{lines_heard}
 use Rattle.yp_promise.specs.Received.{CanBeShown, received}
 use Rattle.yp_promise.specs.Shown.{Shown, count_taken, got_by, offered_to, shown_before, shown_of}
-use Rattle.yp_live.specs.Desks.{DeskState, desk_text, desks_at, left_after, log_text, logged, logged_by, logged_text}
+use Rattle.yp_live.specs.Desks.{DeskState, desk_text, desks_at}
+use Rattle.yp_offer_log.specs.Logs.{left_after, log_text, logged, logged_by, logged_text}
 use Rattle.yp_live.specs.Report.{ReplyLine, receiver_reports, receiver_text, reply_lines, shown_text, tree_text}
 use Rattle.yp_live.specs.Runs.{replied_lines, replied_of}
 

@@ -2,10 +2,11 @@
 use Rattle.std.specs.Prelude.{ℕ, zero, suc, ◌+◌, ◌&&◌, List, [], ◌∷◌, ◌++◌, length, sum_by, count_by, Bool, true, false, codes, if◌then◌else◌}
 use Rattle.yp_live.specs.declared.counted.Counted.{Counted}
 use Rattle.yp_live.specs.declared.counted.Counted.TheVariants.{FullUpdates, ChangeUpdates, Notices, FullQueues}
-use Rattle.yp_live.specs.declared.desk.Logged.{Logged}
-use Rattle.yp_live.specs.declared.desk.Logged.TheVariants as logs
+use Rattle.yp_offer_log.specs.Logs.{left_after}
+use Rattle.yp_offer_log.specs.declared.logged.Logged.{Logged}
+use Rattle.yp_offer_log.specs.declared.logged.Logged.TheVariants as logs
 use Rattle.yp_live.specs.declared.run.Replied.{Replied}
-use Rattle.yp_live.specs.Desks.{DeskState, left_after}
+use Rattle.yp_live.specs.Desks.{DeskState}
 use Rattle.yp_live.specs.Summary.{Counts, count_line, counts_full_queues, is_counted, is_refusal}
 
 -- whether an entry of a log is told, where so many packets that were accepted are taken and not told yet

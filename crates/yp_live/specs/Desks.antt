@@ -17,8 +17,9 @@ use Rattle.yp_moment.specs.Notices.{notice_of}
 use Rattle.yp_receiver.specs.Held.{hears}
 use Rattle.yp_promise.specs.Received.{received}
 use Rattle.yp_promise.specs.Shown.{count_taken, got_by, kept_for, offered_to}
-use Rattle.yp_live.specs.declared.desk.Logged.{Logged}
-use Rattle.yp_live.specs.declared.desk.Logged.TheVariants as logs
+use Rattle.yp_offer_log.specs.Logs.{log_text, logged}
+use Rattle.yp_offer_log.specs.declared.logged.Logged.{Logged}
+use Rattle.yp_offer_log.specs.declared.logged.Logged.TheVariants as logs
 use Rattle.yp_live.specs.Report.{tree_text}
 
 -- what a desk has: the receiver's name and whether it takes each packet at once; of each offer the kind and the line that were accepted, or that the queue was full; how many packets it took; its queue, with the notifications of the packets there; and what it holds of each subscription
@@ -32,14 +33,6 @@ pub record DeskState : Type 0 where
   pub trees : List (ℕ × List Row)
 
 -- ---- by a serial run
-
--- what is logged of an attempt
-abbrev pub logged_by : Answer → List SchemaNode → ℕ → Attempt → Logged
-logged_by Took nodes start a = logs.Line (kind_of a.made.body) (line_of nodes start a.made.tick (notice_of a.sub a.made))
-logged_by Full nodes start a = logs.FullAt a.sub a.at
-
-abbrev pub logged : List SchemaNode → ℕ → Attempt → Logged
-logged nodes start a = logged_by a.answer nodes start a
 
 -- the desk of the receiver of a number where a serial run stands
 abbrev pub desk_at : List SchemaNode → ℕ → Served → ℕ → ReceiverInfo → DeskState
@@ -102,23 +95,6 @@ abbrev pub desk_answer : DeskState → Settled
 desk_answer desk = if has_room desk.queue then answers.Took else answers.Full
 
 -- ---- lines
-
--- what is told of an offer, where so many packets that were accepted are taken and not told yet: a packet that is taken, or that the queue was full
-abbrev pub logged_text : List ℕ → Logged → ℕ → List ℕ
-logged_text name (logs.Line kind line) zero = []
-logged_text name (logs.Line kind line) (suc taken) = codes "to " ++ name ++ codes " " ++ line ++ codes "\n"
-logged_text name (logs.FullAt sub position) taken = codes "full " ++ name ++ codes " " ++ decimal sub ++ codes " " ++ decimal position ++ codes "\n"
-
--- how many are taken and not told after it
-abbrev pub left_after : Logged → ℕ → ℕ
-left_after (logs.Line kind line) zero = zero
-left_after (logs.Line kind line) (suc taken) = taken
-left_after (logs.FullAt sub position) taken = taken
-
--- what is told of a log
-abbrev pub log_text : List ℕ → ℕ → List Logged → List ℕ
-log_text name taken [] = []
-log_text name taken (one ∷ log) = logged_text name one taken ++ log_text name (left_after one taken) log
 
 -- the lines of a desk: those of its log, and then what it holds
 abbrev pub desk_text : List SchemaNode → DeskState → List ℕ

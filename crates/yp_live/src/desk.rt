@@ -4,12 +4,13 @@ ghost use Rattle.yp_schema.specs.declared.schema.SchemaNode.{SchemaNode};
 ghost use Rattle.yp_promise.specs.Received.{CanBeShown};
 ghost use Rattle.yp_serial.specs.Serial.{first_served};
 ghost use Rattle.yp_live.specs.Counts.{count_desk, count_log, counts_entry, desk_rows, is_told};
-ghost use Rattle.yp_live.specs.Desks.{desk_answer, desk_at, desk_offered, desk_text, desk_took, left_after, log_text, logged_text};
+ghost use Rattle.yp_live.specs.Desks.{desk_answer, desk_at, desk_offered, desk_text, desk_took};
+ghost use Rattle.yp_offer_log.specs.Logs.{left_after};
 
 use crate::counted::Counted;
 use crate::trees::{count_rows, push_trees};
 use circular_buffer::HeapCircularBuffer;
-use std::alloc::{AllocError, Global};
+use std::alloc::Global;
 use std::marker::Model;
 use std::sync::ledger::Ledger;
 use yp_base::memory::{Duplicate, NoMemory};
@@ -17,21 +18,13 @@ use yp_base::notice::Notice;
 use yp_base::steps::Steps;
 use yp_base::txt::Txt;
 use yp_journal::receiver::ReceiverInfo;
+use yp_offer_log::logged::{Logged, log_text};
 use yp_queue::local::LocalQueue;
 use yp_queue::packet::{Offered, Packet, PacketKind};
 use yp_receiver::holdings::Holdings;
 use yp_schema::schema::Schema;
 use yp_slot::settling::Settled;
 use yp_worker::offering::Sent;
-
-/// What is kept of an offer.
-#[derive(Drop)]
-pub enum Logged {
-    /// A packet that the queue accepted: its kind and its line.
-    Line { kind: PacketKind, line: Txt },
-    /// The queue was full when something of a subscription was offered at a position.
-    FullAt { sub: u32, position: u64 },
-}
 
 /// What a receiver has: its name, whether it takes each packet at once, what is kept of the offers to it, how
 /// many packets it took, its queue, with the notifications of the packets there, and what it holds of each
@@ -57,44 +50,6 @@ impl Model for Desk {
 
     // A notification waits for each packet in the queue, and of each packet that was accepted there is a line.
     ghost invariant = { λ d. (length d.waiting.items ≡ length d.queue.packets) × (d.waiting.capacity ≡ d.queue.places) × (d.taken + length d.waiting.items ≤ length d.log.items) };
-}
-
-/// Adds what is told of an offer, and gives how many packets that were taken are not told yet.
-fn push_logged(
-    text: &mut String,
-    name: &str,
-    logged: &Logged,
-    taken: usize,
-) -> Result<usize, AllocError>
-    ensures left { IfOk result (λ left. left ≡ left_after logged.now taken) }
-    ensures text { OnOk result (string_bytes text.new ≡ string_bytes text.old ++ logged_text name.now logged.now taken) }
-{
-    match logged {
-        Logged::Line { line, .. } => {
-            if taken == 0 {
-                return Ok(0);
-            }
-            let line = line.as_str();
-            writeln!(text, "to {name} {line}")?;
-            Ok(taken - 1)
-        }
-        Logged::FullAt { sub, position } => {
-            writeln!(text, "full {name} {sub} {position}")?;
-            Ok(taken)
-        }
-    }
-}
-
-/// The lines of a log, of which so many packets were taken. Each is let go once it is told.
-fn log_text(alloc: Global, name: &str, log: Vec<Logged>, taken: usize) -> Result<String, AllocError>
-    ensures { IfOk result (λ text. string_bytes text ≡ log_text name.now taken log.items) }
-{
-    let mut text = String::new(alloc);
-    let mut left = taken;
-    for logged in log {
-        left = push_logged(&mut text, name, &logged, left)?;
-    }
-    Ok(text)
 }
 
 /// Whether what is kept of an offer is told, where so many packets that were taken are not told yet.

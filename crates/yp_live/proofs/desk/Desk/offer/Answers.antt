@@ -1,6 +1,6 @@
 use Rattle.std.proofs.Common.{◌≡◌, ◌∙◌, ◌++◌, ◌∷◌, [], Bool, sym, ap}
 use Rattle.yp_queue.specs.declared.packet.Packet.{Packet}
-use Rattle.yp_live.specs.declared.desk.Logged.TheVariants as logs
+use Rattle.yp_offer_log.specs.declared.logged.Logged.TheVariants as logs
 use Rattle.yp_live.specs.Desks.{DeskState, desk_offered, desk_served}
 use Rattle.yp_live.specs.contracts.desk.Desk.{the_view}
 use Rattle.yp_live.proofs.Accepting.{accepted}

@@ -1,7 +1,7 @@
 use Rattle.std.proofs.Common.{◌≡◌, ◌++◌, string_bytes}
 use Rattle.std.specs.Vec.Iter.{into_iter_items}
-use Rattle.yp_live.specs.Desks.{log_text}
-use Rattle.yp_live.proofs.desk.log_text.Given as goal
+use Rattle.yp_offer_log.specs.Logs.{log_text}
+use Rattle.yp_offer_log.proofs.logged.log_text.Given as goal
 
 -- the lines so far and those of what is left are all
 abbrev pub invariant-loop-logged : goal.invariant-loop-logged
