@@ -9,3 +9,5 @@ pub mod Examples
 pub mod ListLaws
 pub mod TrackLaws
 pub mod AttemptLaws
+pub mod ElementLaws
+pub mod RunLaws

@@ -3,7 +3,7 @@ pub mod CountLaws
 pub mod Desks
 pub mod Journals
 pub mod Promises
-pub mod Reached
+pub mod Receivers
 pub mod Results
 pub mod Running
 pub mod Taking

@@ -24,7 +24,8 @@ use Rattle.yp_promise.specs.Shown.{offered_to}
 use Rattle.yp_live.specs.Desks.{DeskState, desk_answer, desk_at, desk_offered, desks_at}
 use Rattle.yp_live.specs.Runs.{GoesOn, GoesOnIf, IsOnItsWay, IsOnSomeWay, IsThrough, desks_took, offers_left}
 use Rattle.yp_live.proofs.Desks.{desk_there, one_desk, other_desk, own_answer, own_desk, taking_desk}
-use Rattle.yp_live.proofs.Reached.{FindsFirst, found_for, numbers_below, position_is, receiver_there}
+use Rattle.yp_attempt.specs.RunLaws.{FindsFirst, found_for, numbers_below, position_is}
+use Rattle.yp_live.proofs.Receivers.{receiver_there}
 
 -- ---- what laws say
 
@@ -70,7 +71,7 @@ offered finds offers nodes start receivers entries served sent worker serving ha
     let by : IsSentBy nodes start served.run sent = offers nodes start receivers (all_numbers receivers) entries (answers_in served.run.done) sent worker has served.run serving.reaches in
     let count : ℕ = length receivers in
     let below : by.found.track.feed.receiver < count =
-    found_for (λ n. n < count) finds recorded (all_numbers receivers) (numbers_below count count (omega arith)) (moments_of nodes receivers entries) (answers_in served.run.done) served.run by.found serving.reaches by.waits in
+    found_for (λ n. n < count) finds recorded (all_numbers receivers) (numbers_below 0 1 count count (omega arith)) (moments_of nodes receivers entries) (answers_in served.run.done) served.run by.found serving.reaches by.waits in
     record { by = by; below = subst (λ (n : ℕ). n < count) (sym by.to) below }
 
 -- where the run stands

@@ -1,20 +1,19 @@
 -- Nothing happens exactly where an event can't be done, and then nothing changes; and an offer meets a full queue exactly where the queue holds its places.
-use Rattle.std.proofs.Common.{◌≡◌, ℕ, zero, suc, ◌+◌, ◌<◌, ◌≤◌, refl, sym, ap, ◌∙◌, Bool, true, false, not, List, [], ◌∷◌, length, Option, Some, None, arith}
-use Rattle.std.specs.Prelude.{if◌then◌else◌, ◌==◌, ◌%◌, ◌↔◌, ◌&&◌, nat_le, nat_lt}
+use Rattle.std.proofs.Common.{◌≡◌, ℕ, ◌+◌, ◌<◌, ◌≤◌, refl, sym, ap, ◌∙◌, Bool, true, false, List, [], ◌∷◌, length, Option, Some, None, arith}
+use Rattle.std.specs.Prelude.{if◌then◌else◌, ◌↔◌, nat_lt}
 use Rattle.std.proofs.lemmas.List.{length-map}
-use Rattle.std.specs.List.{AllByRecursion, slice_get}
+use Rattle.std.specs.List.{slice_get}
 use Rattle.std.proofs.lemmas.Bool.{ltb-true, lt-ltb}
 use Rattle.std.proofs.lemmas.Option.{slice_get_within}
 use Rattle.yp_attempt.specs.Attempts.{Notification, answers_in}
-use Rattle.yp_attempt.specs.ListLaws.{all_append}
-use Rattle.yp_attempt.specs.Moments.{Moment, Act, Quiet, Starts, Controls, Drops, IsUnused, MayFollow, last_stamp}
+use Rattle.yp_attempt.specs.Moments.{Moment, MayFollow}
 use Rattle.yp_attempt.specs.Runs.{Standing, Found, first_offer}
 use Rattle.yp_attempt.specs.Tracks.{Attempt, Answer, Took, Full}
-use Rattle.yp_attempt.specs.Workers.{numbers_of}
 use Rattle.yp_world.specs.Holding.{CanAbsorb, CanOffer, CanTake, CanBeDone, Holds, Serves, absorbed_by}
-use Rattle.yp_world.specs.World.{Delivery, World, Setup, Event, Append, Absorb, Offer, Take, Absorbed, Accepted, MetFull, Taken, Nothing, worker_of, receivers_of, is_unused, may_follow, append_if, absorb_next, absorb, queue_answer, attempt_of, comes_of, offer_to, offer_found, offer, take_first, take_from, step}
-use Rattle.yp_world.proofs.Belonging.{FindsFirst, all_its, found_belongs, run_belongs}
-use Rattle.yp_world.proofs.Elements.{get_below}
+use Rattle.yp_world.specs.World.{Delivery, World, Setup, Event, Append, Absorb, Offer, Take, Absorbed, Accepted, MetFull, Taken, Nothing, worker_of, receivers_of, may_follow, append_if, absorb_next, absorb, queue_answer, attempt_of, comes_of, offer_to, offer_found, offer, take_first, take_from, step}
+use Rattle.yp_attempt.specs.RunLaws.{FindsFirst, all_its, found_belongs, numbers_below, run_belongs}
+use Rattle.yp_attempt.specs.ElementLaws.{get_below}
+use Rattle.yp_world.specs.EventLaws.{may_tells}
 use Rattle.yp_world.proofs.Events.{may_is}
 
 -- ---- nothing changes
@@ -62,31 +61,7 @@ nothing_changes setup world (Absorb worker) e = still_worker setup world worker 
 nothing_changes setup world (Offer worker) e = still_offer setup world worker (slice_get world.standings worker) e
 nothing_changes setup world (Take receiver) e = still_take world receiver (slice_get world.deliveries receiver) e
 
--- ---- an entry that may come
-
-unused_tells : (past : List Moment) (act : Act) → IsUnused past act → is_unused past act ≡ true
-unused_tells past Quiet h = refl
-unused_tells past (Starts sub trigger configured names) h = ap not h
-unused_tells past (Controls sub control) h = refl
-unused_tells past (Drops sub) h = refl
-
-le_tells : (a b : ℕ) → a ≤ b → nat_le a b ≡ true
-le_tells a b h = grind (arith, h)
-
-pub may_tells : (past : List Moment) (m : Moment) → MayFollow past m → may_follow past m ≡ true
-may_tells past m may =
-    ap (λ (b : Bool). b && is_unused past m.act) (le_tells (last_stamp 0 past) m.stamp may.stamp) ∙ unused_tells past m.act may.unused
-
 -- ---- an offer comes to a queue
-
-one_below : (count most : ℕ) (b : Bool) → count < most → AllByRecursion (λ n. n < most) (if b then count ∷ [] else [])
-one_below count most true less = (less, tt)
-one_below count most false less = tt
-
-all_below : (worker workers most count : ℕ) → count < most + 1 → AllByRecursion (λ n. n < most) (numbers_of worker workers count)
-all_below worker workers most zero few = tt
-all_below worker workers most (suc count) few =
-    all_append (λ n. n < most) (numbers_of worker workers count) (if count % workers == worker then count ∷ [] else []) (all_below worker workers most count (omega (arith, few))) (one_below count most (count % workers == worker) (omega (arith, few)))
 
 module _ (finds : FindsFirst) (setup : Setup) (world : World) (h : Holds setup world) (worker : ℕ) (standing : Standing) (stands : slice_get world.standings worker ≡ Some standing)
     (found : Found) (offers : first_offer setup.content standing.stamp standing.tracks ≡ Some found) where
@@ -99,8 +74,8 @@ module _ (finds : FindsFirst) (setup : Setup) (world : World) (h : Holds setup w
   -- the receiver of what is found is there, and its worker's
   is_there : its_receiver < length setup.places
   is_there =
-      found_belongs (λ (r : ℕ). r < length setup.places) setup.content (receivers_of setup worker) (all_below worker setup.workers (length setup.places) (length setup.places) (omega arith)) standing.stamp standing.tracks found (finds setup.content standing.stamp standing.tracks found offers)
-      (run_belongs (λ (r : ℕ). r < length setup.places) setup.content (receivers_of setup worker) (all_below worker setup.workers (length setup.places) (length setup.places) (omega arith)) finds (absorbed_by world standing) (answers_in serves.done)
+      found_belongs (λ (r : ℕ). r < length setup.places) setup.content (receivers_of setup worker) (numbers_below worker setup.workers (length setup.places) (length setup.places) (omega arith)) standing.stamp standing.tracks found (finds setup.content standing.stamp standing.tracks found offers)
+      (run_belongs (λ (r : ℕ). r < length setup.places) setup.content (receivers_of setup worker) (numbers_below worker setup.workers (length setup.places) (length setup.places) (omega arith)) finds (absorbed_by world standing) (answers_in serves.done)
       (record { standing = standing; done = serves.done }) serves.reaches)
 
   is_its : worker_of setup its_receiver ≡ worker

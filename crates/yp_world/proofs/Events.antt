@@ -14,8 +14,8 @@ use Rattle.yp_attempt.specs.AttemptLaws.{answers_one_more, taken_append, own_mor
 use Rattle.yp_world.specs.Holding.{IsDeliveryOf, Serves, Holds, absorbed_by}
 use Rattle.yp_world.specs.World.{Delivery, World, Setup, Event, Append, Absorb, Offer, Take, first_delivery, first_world, worker_of, receivers_of, is_unused, may_follow, append_if, absorb_next, absorb, queue_answer, delivery_after, attempt_of, offer_to, offer_found, offer, take_first, take_from, step, after_events}
 use Rattle.yp_base.specs.Elements.{get_map}
-use Rattle.yp_world.proofs.Belonging.{FindsFirst, found_belongs, run_belongs, all_its}
-use Rattle.yp_world.proofs.Elements.{get_set_same, get_set_other, set_looks_same, take_one_more, get_replicate}
+use Rattle.yp_attempt.specs.RunLaws.{FindsFirst, found_belongs, run_belongs, all_its}
+use Rattle.yp_attempt.specs.ElementLaws.{get_set_same, get_set_other, set_looks_same, take_one_more, get_replicate}
 
 -- ---- legal journals
 

@@ -1,5 +1,3 @@
-pub mod Elements
-pub mod Belonging
 pub mod Events
 pub mod Doing
 pub mod Numbers

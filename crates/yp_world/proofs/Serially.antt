@@ -10,7 +10,7 @@ use Rattle.yp_attempt.specs.Attempts.{Notification, answers_in, notification_of,
 use Rattle.yp_attempt.specs.Content.{Content}
 use Rattle.yp_attempt.specs.ListLaws.{all_before}
 use Rattle.yp_attempt.specs.Moments.{Moment, MayFollow, AllMayFollow}
-use Rattle.yp_attempt.specs.Runs.{Found, Reaches, Run, Standing, advanced, advances, opened, settled, settles, waits}
+use Rattle.yp_attempt.specs.Runs.{Found, Reaches, Standing, advanced, settled, waits}
 use Rattle.yp_attempt.specs.Tracks.{Answer, Attempt, Took, Full, attempt}
 use Rattle.yp_attempt.specs.AttemptLaws.{own_more, other_more}
 use Rattle.yp_serial.specs.DueTicks.{GiveDueTicks, GivesDueTicks}
@@ -20,11 +20,12 @@ use Rattle.yp_serial.specs.Serial.{Served, Taking, all_offered, found_answer, of
 use Rattle.yp_serial.specs.Weights.{weights}
 use Rattle.yp_world.specs.Holding.{Holds, IsDeliveryOf}
 use Rattle.yp_world.specs.Serially.{HavePlaces, IsDeliveryIn, LeadTo, with_one_worker}
-use Rattle.yp_world.specs.World.{Absorb, Append, Delivery, Event, Offer, Setup, Take, World, absorb_next, after_events, delivery_after, queue_answer, append_if, first_delivery, first_world, offer_found, offer_to, post_of, receivers_of, step, take_first, take_from}
+use Rattle.yp_world.specs.World.{Absorb, Append, Delivery, Event, Offer, Setup, Take, World, absorb_next, after_events, delivery_after, queue_answer, append_if, first_delivery, first_world, offer_found, offer_to, post_of, receivers_of, take_first, take_from}
 use Rattle.yp_base.specs.Elements.{get_map}
-use Rattle.yp_world.proofs.Belonging.{FindsFirst}
-use Rattle.yp_world.proofs.Doing.{may_tells, queue_there}
-use Rattle.yp_world.proofs.Elements.{get_set_other, get_set_same}
+use Rattle.yp_attempt.specs.RunLaws.{FindsFirst, position_is}
+use Rattle.yp_world.specs.EventLaws.{after_both, may_tells}
+use Rattle.yp_world.proofs.Doing.{queue_there}
+use Rattle.yp_attempt.specs.ElementLaws.{get_set_other, get_set_same}
 use Rattle.yp_world.proofs.Events.{delivered, events_hold, first_holds, first_taken, room_by, self_is}
 
 -- ---- deliveries
@@ -64,10 +65,6 @@ record LeadOn (setup : Setup) (world : World) (journal : List Moment) (standing 
   pub deliveries : List Delivery
   pub lead : after_events setup world events ≡ with_one_worker journal standing deliveries
   pub have : HaveGot deliveries p done
-
-after_both : (setup : Setup) (world : World) (ones twos : List Event) → after_events setup world (ones ++ twos) ≡ after_events setup (after_events setup world ones) twos
-after_both setup world [] twos = refl
-after_both setup world (event ∷ ones) twos = after_both setup (step setup world event).0 ones twos
 
 then_leads : FindsFirst → (setup : Setup) (world : World) (journal : List Moment) (standing : Standing) (p : ℕ → Post) (done : List Attempt) (later : List Moment) (next : Standing) (r : ℕ → Post) (more : List Attempt) → Holds setup world → LeadOn setup world journal standing p done
     → ((deliveries : List Delivery) → Holds setup (with_one_worker journal standing deliveries) → HaveGot deliveries p done → LeadOn setup (with_one_worker journal standing deliveries) later next r more) → LeadOn setup world later next r more
@@ -371,11 +368,6 @@ module _ (finds : FindsFirst) (c : Content) (q : Queueing) (places : List ℕ) (
     pub reaches : (journal : List Moment) → AllMayFollow [] journal → GiveDueTicks journal
         → Reaches c (receivers_of setup 0) journal (answers_in (serial_run c (receivers_of setup 0) q takes journal).run.done) (serial_run c (receivers_of setup 0) q takes journal).run
 
-  reached_position : (past : List Moment) (answers : List Answer) (run : Run) → Reaches c (receivers_of setup 0) past answers run → run.standing.position ≡ length past
-  reached_position _ _ _ opened = refl
-  reached_position _ _ _ (advances past answers run m r may idle) = ap (λ (n : ℕ). n + 1) (reached_position past answers run r) ∙ sym (length-append past (m ∷ []))
-  reached_position _ _ _ (settles past answers run found answer r offers) = reached_position past answers run r
-
   module _ (takes : Taking) (laws : SerialLaws takes) where
     abbrev Run_of : List Moment → Served
     Run_of journal = serial_run c (receivers_of setup 0) q takes journal
@@ -402,7 +394,7 @@ module _ (finds : FindsFirst) (c : Content) (q : Queueing) (places : List ℕ) (
         (then_leads finds setup (first_world setup) past served.run.standing served.posts served.run.done (past ++ m ∷ []) end.run.standing end.posts end.run.done (first_holds setup) to
         (λ deliveries h have.
         then_leads finds setup (with_one_worker past served.run.standing deliveries) (past ++ m ∷ []) next.run.standing next.posts next.run.done (past ++ m ∷ []) end.run.standing end.posts end.run.done h
-        (entry_leads past m (first_may [] past m rest legal) takes served (laws.idle past due_past) (reached_position past (answers_in served.run.done) served.run reaches) deliveries h have)
+        (entry_leads past m (first_may [] past m rest legal) takes served (laws.idle past due_past) (position_is c (receivers_of setup 0) past (answers_in served.run.done) served.run reaches) deliveries h have)
         (λ others holds are. offers_lead (past ++ m ∷ []) (weights c next.run.standing.stamp next.run.standing.tracks) next others holds are)))
 
     goes_on : (past rest : List Moment) → AllMayFollow [] (past ++ rest) → GiveDueTicks (past ++ rest) → LeadsTo past → LeadsTo (past ++ rest)

@@ -20,7 +20,7 @@ use Rattle.yp_world.specs.Holding.{AreOf, Holds, IsDeliveryOf, absorbed_by}
 use Rattle.yp_world.specs.TakenLaws.{number_is, sub_parts}
 use Rattle.yp_world.specs.World.{Delivery, Setup, World, worker_of}
 use Rattle.yp_world.proofs.Copies.{CopyLaws, copies_begin_full, copies_selections, never_falls}
-use Rattle.yp_world.proofs.Elements.{get_below}
+use Rattle.yp_attempt.specs.ElementLaws.{get_below}
 use Rattle.yp_world.proofs.Parts.{RunLaws, its_delivery, own_attempts, own_part, own_reaches, own_replay}
 
 -- ---- the laws that are rested on

@@ -3,3 +3,4 @@ pub mod Holding
 pub mod Headline
 pub mod TakenLaws
 pub mod Serially
+pub mod EventLaws

@@ -1,12 +1,12 @@
--- The tracks of a run are those of its receivers.
-use Rattle.std.proofs.Common.{◌≡◌, ℕ, zero, suc, ◌+◌, refl, sym, subst, Bool, true, false, not, List, [], ◌∷◌, ◌++◌, map, Some}
+-- What follows of runs: each track is for one of the run's receivers, and the position is the number of entries.
+use Rattle.std.proofs.Common.{◌≡◌, ℕ, zero, suc, ◌+◌, ◌<◌, refl, sym, ap, subst, ◌∙◌, Bool, true, false, not, List, [], ◌∷◌, ◌++◌, map, length, Some, arith, length-append}
 use Rattle.std.specs.Prelude.{if◌then◌else◌, ◌==◌, ◌%◌, nat_lt}
 use Rattle.std.specs.List.{AllByRecursion, filter}
 use Rattle.std.proofs.lemmas.Bool.{eqb-true}
 use Rattle.yp_attempt.specs.Content.{Content}
 use Rattle.yp_attempt.specs.ListLaws.{all_append, all_before, all_rest, all_map, all_filter}
 use Rattle.yp_attempt.specs.Moments.{Moment, Act, Quiet, Starts, Controls, Drops, after_moment, is_kept_by, new_track}
-use Rattle.yp_attempt.specs.Runs.{Found, IsFirst, Run, Reaches, opened, advances, settles, first_offer, with_started}
+use Rattle.yp_attempt.specs.Runs.{Found, IsFirst, Run, Reaches, opened, advances, settles, first_offer, waits, with_started}
 use Rattle.yp_attempt.specs.TrackLaws.{moment_same, answer_same}
 use Rattle.yp_attempt.specs.Tracks.{Track, Answer, rebased, after_answer}
 use Rattle.yp_attempt.specs.Workers.{numbers_of}
@@ -55,6 +55,18 @@ module _ (Is : ℕ → Type 0) (c : Content) (receivers : List ℕ) (each : AllB
       all_append Belongs found.before ((if new.feed.ended then [] else new ∷ []) ++ found.after) (all_before Belongs found.before (found.track ∷ found.after) all)
       (left_belong new found.after new.feed.ended (subst Is (sym (answer_same c run.standing.position run.standing.stamp found.track found.item answer).1) rest.0) rest.1)
 
+-- and so does what a run offers
+pub found_for : (Is : ℕ → Type 0) → FindsFirst → (c : Content) (receivers : List ℕ) → AllByRecursion Is receivers → (past : List Moment) (answers : List Answer) (run : Run) (found : Found) → Reaches c receivers past answers run → waits c run ≡ Some found → Is found.track.feed.receiver
+found_for Is finds c receivers each past answers run found r offers =
+    found_belongs Is c receivers each run.standing.stamp run.standing.tracks found (finds c run.standing.stamp run.standing.tracks found offers) (run_belongs Is c receivers each finds past answers run r)
+
+-- ---- positions
+
+pub position_is : (c : Content) (receivers : List ℕ) (past : List Moment) (answers : List Answer) (run : Run) → Reaches c receivers past answers run → run.standing.position ≡ length past
+position_is c receivers _ _ _ opened = refl
+position_is c receivers _ _ _ (advances past answers run m r may idle) = ap (λ (n : ℕ). n + 1) (position_is c receivers past answers run r) ∙ sym (length-append past (m ∷ []))
+position_is c receivers _ _ _ (settles past answers run found answer r offers) = position_is c receivers past answers run r
+
 -- ---- the receivers of a worker
 
 one_is : (worker workers count : ℕ) (b : Bool) → (count % workers == worker) ≡ b → AllByRecursion (λ receiver. receiver % workers ≡ worker) (if b then count ∷ [] else [])
@@ -66,3 +78,14 @@ pub all_its : (worker workers count : ℕ) → AllByRecursion (λ receiver. rece
 all_its worker workers zero = tt
 all_its worker workers (suc count) =
     all_append (λ receiver. receiver % workers ≡ worker) (numbers_of worker workers count) (if count % workers == worker then count ∷ [] else []) (all_its worker workers count) (one_is worker workers count (count % workers == worker) refl)
+
+-- and are below their count
+one_below : (most count : ℕ) (b : Bool) → count < most → AllByRecursion (λ n. n < most) (if b then count ∷ [] else [])
+one_below most count true less = (less, tt)
+one_below most count false less = tt
+
+pub numbers_below : (worker workers most count : ℕ) → count < most + 1 → AllByRecursion (λ n. n < most) (numbers_of worker workers count)
+numbers_below worker workers most zero few = tt
+numbers_below worker workers most (suc count) few =
+    all_append (λ n. n < most) (numbers_of worker workers count) (if count % workers == worker then count ∷ [] else []) (numbers_below worker workers most count (omega (arith, few)))
+    (one_below most count (count % workers == worker) (omega (arith, few)))

@@ -1,0 +1,10 @@
+pub mod Appending
+pub mod Filling
+pub mod Following
+pub mod Runs
+pub mod Receivers
+pub mod Offering
+pub mod Working
+pub mod Workers
+pub mod Taking
+pub mod Tracing
