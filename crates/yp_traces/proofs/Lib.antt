@@ -8,3 +8,4 @@ pub mod Working
 pub mod Workers
 pub mod Taking
 pub mod Tracing
+pub mod Served

@@ -1,11 +1,16 @@
--- What workers did over a whole journal beside each other, as a list of events (RFC 8639 sections 2.4 and 2.7).
-use Rattle.std.specs.Prelude.{◌≡◌, ℕ, List, [], map, Some}
+-- What workers did over a whole journal beside each other, as a list of events, and what it promises receivers (RFC 8639 sections 2.4 and 2.7).
+use Rattle.std.specs.Prelude.{◌≡◌, ℕ, ◌<◌, ◌%◌, List, [], map, length, Some}
 use Rattle.std.specs.List.{slice_get}
+use Rattle.yp_schema.specs.declared.schema.SchemaNode.{SchemaNode}
+use Rattle.yp_journal.specs.declared.entry.Entry.{Entry}
+use Rattle.yp_journal.specs.declared.receiver.ReceiverInfo.{ReceiverInfo}
 use Rattle.yp_attempt.specs.Attempts.{FillsFirst, answers_in, of_receiver, taken_of}
 use Rattle.yp_attempt.specs.Moments.{Moment}
 use Rattle.yp_attempt.specs.Runs.{Reaches, Run}
 use Rattle.yp_attempt.specs.Tracks.{Attempt}
 use Rattle.yp_world.specs.World.{Delivery, Event, Setup, World, after_events, first_world, receivers_of, worker_of}
+use Rattle.yp_promise.specs.Interleaving.{AppendAll}
+use Rattle.yp_promise.specs.Promise.{Serves}
 
 -- what a worker did over a whole journal: the entries and the answers that it got lead to its run, and each queue of its receivers was full only where it could be
 pub record IsWorkOf (setup : Setup) (journal : List Moment) (worker : ℕ) (run : Run) : Type 0 where
@@ -28,3 +33,12 @@ pub record IsWorldOf (setup : Setup) (journal : List Moment) (runs : List Run) (
 pub record HasTrace (setup : Setup) (journal : List Moment) (runs : List Run) : Type 0 where
   pub events : List Event
   pub leads : IsWorldOf setup journal runs (after_events setup (first_world setup) events)
+
+-- ---- of a legal journal
+
+-- receivers are served by workers that followed a journal beside each other, as many as there are runs: some list of events does the same, and all that is promised of events holds of what each receiver's worker offered to it, all of which it took where its queue accepted it
+pub record AreServedBeside (nodes : List SchemaNode) (receivers : List ReceiverInfo) (entries : List Entry) (runs : List Run) : Type 0 where
+  pub events : List Event
+  pub append : AppendAll nodes receivers (length runs) entries events
+  pub serves : (receiver : ℕ) (run : Run) → receiver < length receivers → slice_get runs (receiver % length runs) ≡ Some run
+      → Serves nodes receivers entries receiver (of_receiver receiver run.done) (taken_of (of_receiver receiver run.done))

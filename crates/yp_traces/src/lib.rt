@@ -2,7 +2,7 @@
 //!
 //! Nothing runs here. Threads take no turns, so nobody knows in which order their events came. But what each worker did is
 //! known: its run, and the answers of its receivers' queues. `laws` says that some list of events does the same, so that
-//! what is said of every list of events (`yp_world`) is said of threads.
+//! what is promised of every list of events (`yp_promise`) is promised of threads.
 #![tactic(auto)]
 
 pub mod laws;
