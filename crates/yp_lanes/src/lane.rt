@@ -1,7 +1,7 @@
 //! Lanes that write a shared journal beside each other.
 ghost use Rattle.std.specs.Prelude.{◌≡◌, ℕ, ◌+◌, ◌<◌, ◌^◌, ◌++◌, length, true, All, slice_index_or};
 ghost use Rattle.yp_journal.specs.History.{MayCome};
-ghost use Rattle.yp_lanes.specs.Lanes.{commands_of, HasWritten};
+ghost use Rattle.yp_lanes.specs.Lanes.{commands_of, AreNumberedFrom, HasWritten};
 
 use std::alloc::Global;
 use std::sync::Wait;
@@ -36,6 +36,7 @@ fn write_all<J: Naming, W: Wait, G: Gate>(
     requires few { length seat.old.calls + length commands.now < 2 ^ 32 }
     ensures lane { seat.new.lane ≡ seat.old.lane }
     ensures all { result ≡ true → commands_of seat.new ≡ commands_of seat.old ++ commands.now }
+    ensures numbered { AreNumberedFrom 1 seat.old.calls → AreNumberedFrom 1 seat.new.calls }
 {
     for command in commands {
         let lane = seat.lane();
@@ -71,7 +72,8 @@ fn run_lane<J: Naming, W: Wait, G: Gate>(
 }
 
 /// Runs lanes beside each other, each by a thread of its own where there is one, and else one after another. A lane that
-/// is whole had all its commands accepted, in order, after those that it had before.
+/// is whole had all its commands accepted, in order, after those that it had before. The calls of each are numbered one
+/// after another, where they were so before.
 pub fn run_lanes<J: Naming + Send + Sync, T: Threads + Wait + Sync, G: Gate>(
     rt: &T,
     alloc: Global,

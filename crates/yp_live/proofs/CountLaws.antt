@@ -13,14 +13,15 @@ use Rattle.yp_receiver.specs.Held.{lines_heard}
 use Rattle.yp_promise.specs.Received.{received}
 use Rattle.yp_promise.specs.Shown.{Shown, Got, FullAt, count_taken, got_by, offered_to, shown_before, shown_of}
 use Rattle.yp_hearing.specs.Hearing.{line_for}
+use Rattle.yp_offer_log.specs.Logs.{logged, logged_by}
+use Rattle.yp_report.specs.declared.replied.Replied.{Replied}
+use Rattle.yp_report.specs.Replies.{replied_of}
+use Rattle.yp_report.specs.Report.{ReceiverReport, ReplyLine, reply_lines}
 use Rattle.yp_live.specs.declared.counted.Counted.{Counted}
 use Rattle.yp_live.specs.declared.counted.Counted.TheVariants.{FullUpdates, ChangeUpdates, Notices, FullQueues}
-use Rattle.yp_live.specs.declared.run.Replied.{Replied}
 use Rattle.yp_live.specs.Counts.{count_desk, count_log, counts_from, desk_rows, summary_from}
 use Rattle.yp_live.specs.Desks.{DeskState, desk_at, desks_at}
-use Rattle.yp_offer_log.specs.Logs.{logged, logged_by}
-use Rattle.yp_live.specs.Report.{ReceiverReport, ReplyLine, receiver_report, receiver_reports, reply_lines, report_of}
-use Rattle.yp_live.specs.Runs.{replied_of}
+use Rattle.yp_live.specs.Report.{receiver_report, receiver_reports, report_of}
 use Rattle.yp_live.specs.Summary.{count_line, counts_of, counts_text, is_refusal, shows, summary_text}
 
 -- one that is counted, or not, before others

@@ -1,13 +1,10 @@
 pub mod Accepting
 pub mod CountLaws
 pub mod Desks
-pub mod Journals
 pub mod Promises
 pub mod Receivers
 pub mod Results
 pub mod Running
 pub mod Taking
 pub mod Told
-pub mod TurnLaws
 pub mod Turning
-pub mod Interleaved

@@ -8,9 +8,9 @@ use Rattle.yp_schema.specs.WellFormed.{IsSchema}
 use Rattle.yp_time.specs.Instants.{IsStart}
 use Rattle.yp_journal.specs.declared.entry.Entry.{Entry}
 use Rattle.yp_journal.specs.declared.receiver.ReceiverInfo.{ReceiverInfo}
-use Rattle.yp_journal.specs.History.{first_state, IsLegal}
+use Rattle.yp_journal.specs.History.{JournalState, first_state, IsLegal}
 use Rattle.yp_script.specs.declared.script.Script.{Script}
-use Rattle.yp_script.specs.Script.{AreReceivers, IsReceiver, script_in}
+use Rattle.yp_script.specs.Script.{AreReceivers, IsReceiver, count_commands, script_in}
 use Rattle.yp_serial.specs.Serial.{Served}
 use Rattle.yp_receiver.specs.Held.{lines_heard}
 use Rattle.yp_promise.specs.Interleaving.{EachInterleavingServes, OneIsTheSerialRun}
@@ -22,21 +22,18 @@ use Rattle.yp_promise.specs.Shown.{got_by, offered_to}
 use Rattle.yp_texts.specs.Commands.{CommandHasUtf8, ScriptHasUtf8}
 use Rattle.yp_hearing.specs.Hearing.{CanBeTold, IsHeardAsMade, LinesMirror, line_for}
 use Rattle.yp_hearing.specs.Interleaving.{EachInterleavingIsHeard}
+use Rattle.yp_report.specs.Report.{reply_lines, reply_text}
+use Rattle.yp_turns.specs.Journal.{IsJournalOf, turn_of}
+use Rattle.yp_turns.specs.JournalLaws.{journal_has}
+use Rattle.yp_turns.specs.Turns.{entries_from, journal_of}
 use Rattle.yp_live.specs.declared.run.Run.{Run}
 use Rattle.yp_live.specs.declared.script.Ran.{Ran}
-use Rattle.yp_live.specs.declared.turns.Turn.{Turn}
 use Rattle.yp_live.specs.Counts.{summary_from}
-use Rattle.yp_live.specs.Journal.{IsJournalOf}
 use Rattle.yp_live.specs.Promise.{IsServed, Sums, Tells}
 use Rattle.yp_live.specs.Desks.{DeskState, desk_text, desks_at}
-use Rattle.yp_live.specs.Report.{reply_lines, reply_text}
 use Rattle.yp_live.specs.Runs.{IsRun, IsRunOf, CanBeWritten, text_from}
-use Rattle.yp_live.specs.Turns.{entries_from, journal_of}
 use Rattle.yp_live.proofs.CountLaws.{summary_is}
-use Rattle.yp_live.proofs.Interleaved.{journal_has, same_length}
-use Rattle.yp_live.proofs.Journals.{journal_is}
-use Rattle.yp_live.proofs.Told.{desks_told, desks_writable, replies_told}
-use Rattle.yp_live.proofs.TurnLaws.{OfCommand, of_entries, of_script, of_turns}
+use Rattle.yp_live.proofs.Told.{ReportLaws, desks_told, desks_writable}
 
 -- what laws say of the serial run of a legal journal
 abbrev pub AreServed : Type 0
@@ -75,37 +72,35 @@ AreCopies = (nodes : List SchemaNode) (receivers : List ReceiverInfo) (entries :
     → CanBeTold nodes receivers entries → receiver < length receivers → IsStart start
     → LinesMirror nodes receivers entries receiver start (got_by receiver (run_of nodes receivers entries))
 
+-- what laws say of the journals of a script
+pub record JournalLaws : Type 0 where
+  pub serial : (script : Script) → IsJournalOf script (journal_of script)
+  pub turns : (nodes : List SchemaNode) (state : JournalState) (entries : List Entry) → IsLegal nodes state entries → entries ≡ entries_from nodes state (map turn_of entries)
+  pub many : (script : Script) (entries : List Entry) → IsJournalOf script entries → length entries ≡ count_commands script
+
 -- the texts of a script's commands are UTF-8
 abbrev pub HaveUtf8 : Type 0
 HaveUtf8 = (bytes : List ℕ) (script : Script) → script_in bytes ≡ Ok script → ScriptHasUtf8 script
 
 -- the run of a script that was read
-module _ (serves : AreServed) (interleaved : AreInterleaved) (interleaving : AreInterleavings) (hears : AreHeard) (copies : AreCopies) (ends : EndLaws) (utf8 : HaveUtf8) (script : Script) (bytes : List ℕ) (ran : Ran) (read : script_in bytes ≡ Ok script) (is : IsRunOf script ran) where
+module _ (serves : AreServed) (interleaved : AreInterleaved) (interleaving : AreInterleavings) (hears : AreHeard) (copies : AreCopies) (ends : EndLaws) (journals : JournalLaws) (utf8 : HaveUtf8) (script : Script) (bytes : List ℕ) (ran : Ran) (read : script_in bytes ≡ Ok script) (is : IsRunOf script ran) where
   abbrev served : Served
   served = run_of script.schema script.receivers is.entries
 
-  -- all of its journal can be told in lines
-  can_be_told : CanBeTold script.schema script.receivers is.entries
-  can_be_told =
-      let u = utf8 bytes script read in
-      let followed = is.is.worker.followed in
-      record {
-        schema = followed.schema;
-        legal = followed.legal;
-        texts =
-            of_entries CommandHasUtf8 is.entries
-            (subst (λ (turns : List Turn). AllByRecursion (OfCommand CommandHasUtf8) turns) (sym is.turns) (of_script CommandHasUtf8 script.before script.lanes script.after u.before u.lanes u.after));
-        few = is.few;
-      }
+  -- its entries are the journal of the script
+  are_serial : is.entries ≡ journal_of script
+  are_serial =
+      let state = first_state script.receivers in
+      journals.turns script.schema state is.entries is.is.worker.followed.legal ∙ ap (entries_from script.schema state) is.turns
 
-  all_heard : (receiver : ℕ) → receiver < length script.receivers → lines_heard script.schema [] (map (line_for script.schema script.start) (got_by receiver served)) ≡ received [] (got_by receiver served)
-  all_heard receiver less = hears script.schema script.receivers is.entries receiver script.start can_be_told less is.start
+  are_its : IsJournalOf script is.entries
+  are_its = subst (λ (those : List Entry). IsJournalOf script those) (sym are_serial) (journals.serial script)
 
-  -- so can each journal of the script
-  each_can : (journal : List Entry) → IsJournalOf script journal → IsJournalOf script is.entries → IsLegal script.schema (first_state script.receivers) journal → CanBeTold script.schema script.receivers journal
-  each_can journal of its legal =
+  -- each journal of the script can be told in lines
+  each_can : (journal : List Entry) → IsJournalOf script journal → IsLegal script.schema (first_state script.receivers) journal → CanBeTold script.schema script.receivers journal
+  each_can journal of legal =
       let u = utf8 bytes script read in
-      let many : length journal ≡ length is.entries = same_length script journal is.entries of its in
+      let many : length journal ≡ length is.entries = journals.many script journal of ∙ sym (journals.many script is.entries are_its) in
       record {
         schema = is.is.worker.followed.schema;
         legal = legal;
@@ -113,16 +108,20 @@ module _ (serves : AreServed) (interleaved : AreInterleaved) (interleaving : Are
         few = subst (λ (n : ℕ). n < 2 ^ 32) (sym many) is.few;
       }
 
-  -- its entries are the journal of the script
+  -- so can that of the run
+  can_be_told : CanBeTold script.schema script.receivers is.entries
+  can_be_told = each_can is.entries are_its is.is.worker.followed.legal
+
+  all_heard : (receiver : ℕ) → receiver < length script.receivers → lines_heard script.schema [] (map (line_for script.schema script.start) (got_by receiver served)) ≡ received [] (got_by receiver served)
+  all_heard receiver less = hears script.schema script.receivers is.entries receiver script.start can_be_told less is.start
+
+  -- and they are served
   is_served : IsServed script is.entries
   is_served =
       let followed = is.is.worker.followed in
-      let state = first_state script.receivers in
-      let journal : is.entries ≡ journal_of script = of_turns script.schema state is.entries followed.legal ∙ ap (entries_from script.schema state) is.turns in
-      let its : IsJournalOf script is.entries = subst (λ (those : List Entry). IsJournalOf script those) (sym journal) (journal_is script) in
       record {
-        journal = its;
-        serial = journal;
+        journal = are_its;
+        serial = are_serial;
         legal = followed.legal;
         complete = ends.complete script.schema script.receivers is.entries followed.schema followed.legal;
         posts = ends.posts script.schema script.receivers is.entries;
@@ -130,13 +129,13 @@ module _ (serves : AreServed) (interleaved : AreInterleaved) (interleaving : Are
         serves = λ receiver less. serves script.schema script.receivers is.entries receiver followed.schema followed.legal less;
         mirrored = λ receiver less. copies script.schema script.receivers is.entries receiver script.start can_be_told less is.start;
         interleaved = λ journal of legal. interleaved script.schema script.receivers journal followed.schema legal;
-        lines = λ journal of legal. ends.lines script.schema script.receivers journal script.start (each_can journal of its legal) is.start;
+        lines = λ journal of legal. ends.lines script.schema script.receivers journal script.start (each_can journal of legal) is.start;
         interleaving = interleaving script.schema script.receivers is.entries followed.schema followed.legal;
       }
 
   -- the text of the report tells of it
-  pub tells : (text : List ℕ) → text ≡ text_from script.schema ran.run.replies.items ran.run.desks.items → Tells bytes text
-  tells text told =
+  pub tells : ReportLaws → (text : List ℕ) → text ≡ text_from script.schema ran.run.replies.items ran.run.desks.items → Tells bytes text
+  tells laws text told =
       let nodes = script.schema in
       let receivers = script.receivers in
       record {
@@ -147,8 +146,8 @@ module _ (serves : AreServed) (interleaved : AreInterleaved) (interleaving : Are
         report =
             told
             ∙ ((λ i. text_from nodes (is.is.replies i) (is.is.desks i))
-            ∙ ((λ i. flat_map reply_text (replies_told 1 is.entries i) ++ (flat_map (desk_text nodes) (desks_at nodes script.start served 0 receivers) ++ codes "end\n"))
-            ∙ ap (λ (lines : List ℕ). flat_map reply_text (reply_lines 1 is.entries) ++ (lines ++ codes "end\n")) (sym (desks_told nodes script.start served (length receivers) 0 receivers (omega arith) all_heard))));
+            ∙ ((λ i. flat_map reply_text (laws.replies 1 is.entries i) ++ (flat_map (desk_text nodes) (desks_at nodes script.start served 0 receivers) ++ codes "end\n"))
+            ∙ ap (λ (lines : List ℕ). flat_map reply_text (reply_lines 1 is.entries) ++ (lines ++ codes "end\n")) (sym (desks_told laws nodes script.start served (length receivers) 0 receivers (omega arith) all_heard))));
       }
 
   -- and the text of what it comes to is that of the report

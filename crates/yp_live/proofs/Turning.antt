@@ -16,10 +16,11 @@ use Rattle.yp_worker.specs.declared.worker.Worker.{Worker}
 use Rattle.yp_worker.specs.Workers.{IsWorkerOf}
 use Rattle.yp_promise.specs.Posts.{HavePosts}
 use Rattle.yp_promise.specs.Serving.{IsServing, all_numbers, run_entered, run_of, taken_by}
-use Rattle.yp_live.specs.declared.run.Replied.{Replied}
+use Rattle.yp_report.specs.declared.replied.Replied.{Replied}
+use Rattle.yp_report.specs.Replies.{replied_of}
 use Rattle.yp_live.specs.declared.run.Run.{Run}
 use Rattle.yp_live.specs.Desks.{DeskState, desk_at, desk_took, desks_at}
-use Rattle.yp_live.specs.Runs.{IsOnItsWay, IsRun, IsThrough, desks_took, replied_of}
+use Rattle.yp_live.specs.Runs.{IsOnItsWay, IsRun, IsThrough, desks_took}
 use Rattle.yp_live.proofs.Desks.{desks_length}
 use Rattle.yp_live.proofs.Running.{Positions, desks_taken}
 use Rattle.yp_live.proofs.Taking.{took_none}

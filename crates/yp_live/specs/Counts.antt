@@ -1,11 +1,11 @@
 -- What a run comes to, as it is kept: in replies, logs and what desks hold.
 use Rattle.std.specs.Prelude.{ℕ, zero, suc, ◌+◌, ◌&&◌, List, [], ◌∷◌, ◌++◌, length, sum_by, count_by, Bool, true, false, codes, if◌then◌else◌}
-use Rattle.yp_live.specs.declared.counted.Counted.{Counted}
-use Rattle.yp_live.specs.declared.counted.Counted.TheVariants.{FullUpdates, ChangeUpdates, Notices, FullQueues}
 use Rattle.yp_offer_log.specs.Logs.{left_after}
 use Rattle.yp_offer_log.specs.declared.logged.Logged.{Logged}
 use Rattle.yp_offer_log.specs.declared.logged.Logged.TheVariants as logs
-use Rattle.yp_live.specs.declared.run.Replied.{Replied}
+use Rattle.yp_report.specs.declared.replied.Replied.{Replied}
+use Rattle.yp_live.specs.declared.counted.Counted.{Counted}
+use Rattle.yp_live.specs.declared.counted.Counted.TheVariants.{FullUpdates, ChangeUpdates, Notices, FullQueues}
 use Rattle.yp_live.specs.Desks.{DeskState}
 use Rattle.yp_live.specs.Summary.{Counts, count_line, counts_full_queues, is_counted, is_refusal}
 

@@ -1,18 +1,16 @@
 -- The desk of a receiver: what was offered to it, what stands in its queue, and what it holds.
-use Rattle.std.specs.Prelude.{ℕ, zero, suc, ◌+◌, min, List, [], ◌∷◌, ◌++◌, length, map, take, drop, Bool, true, false, codes, decimal, if◌then◌else◌}
+use Rattle.std.specs.Prelude.{ℕ, ◌+◌, min, List, [], ◌∷◌, ◌++◌, length, map, take, drop, Bool, true, false, if◌then◌else◌}
 use Rattle.std.specs.List.{flat_map}
 use Rattle.yp_base.specs.declared.notice.Notice.{Notice}
 use Rattle.yp_base.specs.declared.row.Row.{Row}
 use Rattle.yp_schema.specs.declared.schema.SchemaNode.{SchemaNode}
-use Rattle.yp_encode.specs.Lines.{line_of}
 use Rattle.yp_journal.specs.declared.receiver.ReceiverInfo.{ReceiverInfo}
 use Rattle.yp_queue.specs.declared.packet.Packet.{Packet}
 use Rattle.yp_queue.specs.Queues.{QueueState, has_room, with_packets}
 use Rattle.yp_slot.specs.declared.settling.Settled.{Settled}
 use Rattle.yp_slot.specs.declared.settling.Settled.TheVariants as answers
-use Rattle.yp_attempt.specs.Tracks.{Answer, Took, Full, Attempt}
 use Rattle.yp_serial.specs.Serial.{Served}
-use Rattle.yp_worker.specs.Packets.{kind_of, packet_of}
+use Rattle.yp_worker.specs.Packets.{packet_of}
 use Rattle.yp_moment.specs.Notices.{notice_of}
 use Rattle.yp_receiver.specs.Held.{hears}
 use Rattle.yp_promise.specs.Received.{received}
@@ -20,7 +18,7 @@ use Rattle.yp_promise.specs.Shown.{count_taken, got_by, kept_for, offered_to}
 use Rattle.yp_offer_log.specs.Logs.{log_text, logged}
 use Rattle.yp_offer_log.specs.declared.logged.Logged.{Logged}
 use Rattle.yp_offer_log.specs.declared.logged.Logged.TheVariants as logs
-use Rattle.yp_live.specs.Report.{tree_text}
+use Rattle.yp_report.specs.Report.{tree_text}
 
 -- what a desk has: the receiver's name and whether it takes each packet at once; of each offer the kind and the line that were accepted, or that the queue was full; how many packets it took; its queue, with the notifications of the packets there; and what it holds of each subscription
 pub record DeskState : Type 0 where

@@ -12,10 +12,11 @@ use Rattle.yp_promise.specs.Serving.{IsComplete, run_of}
 use Rattle.yp_promise.specs.Shown.{got_by, offered_to}
 use Rattle.yp_hearing.specs.Hearing.{IsHeardAsMade, LinesMirror}
 use Rattle.yp_hearing.specs.Interleaving.{EachInterleavingIsHeard}
-use Rattle.yp_live.specs.Journal.{IsJournalOf}
-use Rattle.yp_live.specs.Report.{report_of, report_text}
+use Rattle.yp_report.specs.Report.{report_text}
+use Rattle.yp_turns.specs.Journal.{IsJournalOf}
+use Rattle.yp_turns.specs.Turns.{journal_of}
+use Rattle.yp_live.specs.Report.{report_of}
 use Rattle.yp_live.specs.Summary.{summary_text}
-use Rattle.yp_live.specs.Turns.{journal_of}
 
 -- the entries are the journal of a script's serial run
 pub record IsServed (script : Script) (entries : List Entry) : Type 0 where

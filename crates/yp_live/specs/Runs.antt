@@ -16,17 +16,14 @@ use Rattle.yp_worker.specs.Workers.{IsIdleWorkerOf, IsWorkerOf}
 use Rattle.yp_promise.specs.Posts.{HavePosts}
 use Rattle.yp_promise.specs.Received.{CanBeShown}
 use Rattle.yp_promise.specs.Serving.{IsServing, all_numbers, run_of, taken_by}
-use Rattle.yp_live.specs.declared.run.Replied.{Replied}
+use Rattle.yp_report.specs.declared.replied.Replied.{Replied}
+use Rattle.yp_report.specs.Replies.{replied_lines, replied_of}
+use Rattle.yp_report.specs.Report.{reply_text}
+use Rattle.yp_turns.specs.Journal.{turn_of}
+use Rattle.yp_turns.specs.Turns.{serial_turns}
 use Rattle.yp_live.specs.declared.run.Run.{Run}
 use Rattle.yp_live.specs.declared.script.Ran.{Ran}
 use Rattle.yp_live.specs.Desks.{DeskState, desk_text, desk_took, desks_at}
-use Rattle.yp_live.specs.Journal.{turn_of}
-use Rattle.yp_live.specs.Report.{ReplyLine, reply_text}
-use Rattle.yp_live.specs.Turns.{serial_turns}
-
--- the reply of an entry, with its lane and its number there
-abbrev pub replied_of : Entry → Replied
-replied_of entry = record { lane = entry.lane; index = entry.index; reply = entry.reply }
 
 -- ---- between two turns
 
@@ -95,11 +92,6 @@ pub record IsRunOf (script : Script) (ran : Ran) : Type 0 where
   pub is : IsRun script.schema script.start script.receivers entries ran.run
 
 -- ---- what is told in the end
-
--- the lines of replies, the first of which has this position
-abbrev pub replied_lines : ℕ → List Replied → List ReplyLine
-replied_lines n [] = []
-replied_lines n (replied ∷ replies) = record { position = n; lane = replied.lane; index = replied.index; reply = replied.reply } ∷ replied_lines (n + 1) replies
 
 -- the text of replies and of desks
 abbrev pub text_from : List SchemaNode → List Replied → List DeskState → List ℕ

@@ -6,9 +6,9 @@ use Rattle.yp_queue.specs.declared.packet.PacketKind.{PacketKind}
 use Rattle.yp_queue.specs.declared.packet.PacketKind.TheVariants as kinds
 use Rattle.yp_worker.specs.Packets.{kind_of}
 use Rattle.yp_promise.specs.Shown.{Shown, Got, FullAt}
+use Rattle.yp_report.specs.Report.{Report}
 use Rattle.yp_live.specs.declared.counted.Counted.{Counted}
 use Rattle.yp_live.specs.declared.counted.Counted.TheVariants.{FullUpdates, ChangeUpdates, Notices, FullQueues}
-use Rattle.yp_live.specs.Report.{Report}
 
 -- ---- the numbers
 

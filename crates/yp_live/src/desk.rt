@@ -1,5 +1,5 @@
 //! The desk of a receiver.
-ghost use Rattle.std.specs.Prelude.{◌≡◌, ◌≤◌, ◌++◌, ℕ, List, length, sum_by, IfOk, OnOk, string_bytes};
+ghost use Rattle.std.specs.Prelude.{◌≡◌, ◌≤◌, ℕ, List, length, IfOk, OnOk, string_bytes};
 ghost use Rattle.yp_schema.specs.declared.schema.SchemaNode.{SchemaNode};
 ghost use Rattle.yp_promise.specs.Received.{CanBeShown};
 ghost use Rattle.yp_serial.specs.Serial.{first_served};
@@ -8,7 +8,7 @@ ghost use Rattle.yp_live.specs.Desks.{desk_answer, desk_at, desk_offered, desk_t
 ghost use Rattle.yp_offer_log.specs.Logs.{left_after};
 
 use crate::counted::Counted;
-use crate::trees::{count_rows, push_trees};
+use crate::trees::count_rows;
 use circular_buffer::HeapCircularBuffer;
 use std::alloc::Global;
 use std::marker::Model;
@@ -20,8 +20,9 @@ use yp_base::txt::Txt;
 use yp_journal::receiver::ReceiverInfo;
 use yp_offer_log::logged::{Logged, log_text};
 use yp_queue::local::LocalQueue;
-use yp_queue::packet::{Offered, Packet, PacketKind};
+use yp_queue::packet::{Offered, Packet};
 use yp_receiver::holdings::Holdings;
+use yp_report::trees::push_trees;
 use yp_schema::schema::Schema;
 use yp_slot::settling::Settled;
 use yp_worker::offering::Sent;

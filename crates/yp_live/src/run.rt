@@ -6,34 +6,26 @@ ghost use Rattle.yp_journal.specs.declared.entry.Entry.{Entry};
 ghost use Rattle.yp_journal.specs.declared.receiver.ReceiverInfo.{ReceiverInfo as Declared};
 ghost use Rattle.yp_journal.specs.History.{MayCome};
 ghost use Rattle.yp_serial.specs.Serial.{Served, first_served};
+ghost use Rattle.yp_turns.specs.Journal.{turn_of};
+ghost use Rattle.yp_turns.specs.Turns.{MayTake};
 ghost use Rattle.yp_live.specs.Desks.{desks_at};
-ghost use Rattle.yp_live.specs.Journal.{turn_of};
 ghost use Rattle.yp_live.specs.Runs.{GoesOnIf, IsOnItsWay, IsOnSomeWay, IsRun, IsSomeRun, IsThrough, desks_took};
-ghost use Rattle.yp_live.specs.Turns.{MayTake};
 
 use crate::desk::Desk;
 use crate::setting::Setting;
-use crate::turns::Turn;
 use std::alloc::Global;
 use yp_attempt::laws::the_first_offer_is_found;
 use yp_base::memory::NoMemory;
 use yp_journal::command::Command;
 use yp_journal::laws::a_journal_goes_on_entry_by_entry;
 use yp_journal::receiver::ReceiverInfo;
-use yp_journal::reply::Reply;
 use yp_promise::laws::{a_serial_run_goes_on_entry_by_entry, a_serial_run_goes_on_offer_by_offer};
 use yp_promise::posts::queues_hold_what_was_not_taken;
+use yp_report::replied::Replied;
 use yp_schema::schema::Schema;
+use yp_turns::turns::Turn;
 use yp_worker::laws::a_worker_offers_what_its_run_offers;
 use yp_worker::worker::Worker;
-
-/// The reply to a command, with the lane by which this came, and its number there.
-#[derive(Drop)]
-pub struct Replied {
-    pub lane: u32,
-    pub index: u32,
-    pub reply: Reply,
-}
 
 /// How far a run has come: the worker that serves all receivers, the replies so far, and each receiver's desk.
 #[derive(Drop)]

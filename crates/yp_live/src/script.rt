@@ -9,7 +9,6 @@ use crate::run::{Run, run_turns};
 use crate::setting::Setting;
 use crate::summary::summary_text;
 use crate::text::text_of;
-use crate::turns::serial_turns;
 use std::alloc::Global;
 use std::marker::Brand;
 use std::sync::ledger::{Blank, Ledger};
@@ -26,9 +25,18 @@ use yp_promise::laws::{
     a_serial_run_is_complete, what_a_serial_run_makes_serves, what_receivers_hold_can_be_shown,
 };
 use yp_promise::posts::queues_hold_what_was_not_taken;
+use yp_report::laws::{
+    the_lines_of_a_log_are_those_of_what_is_shown, the_lines_of_replies_are_those_of_entries,
+};
 use yp_schema::schema::Schema;
 use yp_script::script::Script;
 use yp_texts::laws::a_scripts_commands_have_utf8;
+use yp_turns::laws::{
+    a_journal_of_a_script_has_as_many_entries, a_legal_journal_is_that_of_its_turns,
+    a_script_has_as_many_turns_as_commands, each_turn_of_a_script_may_come,
+    the_serial_turns_make_a_journal_of_the_script,
+};
+use yp_turns::turns::serial_turns;
 
 /// A run of a script's commands, and the schema of the script.
 #[derive(Drop)]
@@ -45,6 +53,8 @@ fn run_script(alloc: Global, script: Script) -> Result<Ran, NoMemory>
     requires count { count_commands script ≤ line_limit }
     ensures { IfOk result (IsRunOf script) }
 {
+    each_turn_of_a_script_may_come();
+    a_script_has_as_many_turns_as_commands();
     let Script {
         start,
         schema,
@@ -88,6 +98,11 @@ fn report_by<L: Ledger>(alloc: Global, script: Script, blank: Blank) -> Result<S
     queues_hold_what_was_not_taken();
     each_line_is_heard_as_its_notification();
     every_interleaving_is_heard();
+    the_serial_turns_make_a_journal_of_the_script();
+    a_legal_journal_is_that_of_its_turns();
+    a_journal_of_a_script_has_as_many_entries();
+    the_lines_of_a_log_are_those_of_what_is_shown();
+    the_lines_of_replies_are_those_of_entries();
     let mut steps = Steps::<L>::open(blank);
     let Ran { schema, run } = run_script(alloc, script)?;
     let Run {
@@ -121,6 +136,9 @@ fn summary_by<L: Ledger>(alloc: Global, script: Script, blank: Blank) -> Result<
     queues_hold_what_was_not_taken();
     each_line_is_heard_as_its_notification();
     every_interleaving_is_heard();
+    the_serial_turns_make_a_journal_of_the_script();
+    a_legal_journal_is_that_of_its_turns();
+    a_journal_of_a_script_has_as_many_entries();
     let mut steps = Steps::<L>::open(blank);
     let Ran { run, .. } = run_script(alloc, script)?;
     let Run { replies, desks, .. } = run;

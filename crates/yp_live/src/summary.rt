@@ -5,12 +5,12 @@ ghost use Rattle.yp_live.specs.Summary.{count_line, is_refusal};
 
 use crate::counted::Counted;
 use crate::desk::Desk;
-use crate::run::Replied;
 use std::alloc::{AllocError, Global};
 use std::sync::ledger::Ledger;
 use yp_base::memory::NoMemory;
 use yp_base::steps::Steps;
 use yp_journal::reply::Reply;
+use yp_report::replied::Replied;
 
 /// The sum of two numbers. There is no memory for more than can be counted.
 pub fn sum(one: usize, other: usize) -> Result<usize, NoMemory>

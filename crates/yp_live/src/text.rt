@@ -1,17 +1,19 @@
 //! The text of a run.
 ghost use Rattle.std.specs.Prelude.{◌≡◌, ◌^◌, ◌<◌, ◌++◌, length, IfOk, OnOk, codes, string_bytes};
 ghost use Rattle.std.specs.List.{flat_map};
+ghost use Rattle.yp_report.specs.Replies.{replied_lines};
+ghost use Rattle.yp_report.specs.Report.{reply_text};
 ghost use Rattle.yp_live.specs.Desks.{desk_text};
-ghost use Rattle.yp_live.specs.Report.{reply_text};
-ghost use Rattle.yp_live.specs.Runs.{CanBeWritten, replied_lines, text_from};
+ghost use Rattle.yp_live.specs.Runs.{CanBeWritten, text_from};
 
 use crate::desk::Desk;
-use crate::replies::push_replies;
-use crate::run::Replied;
 use std::alloc::{AllocError, Global};
 use std::sync::ledger::Ledger;
 use yp_base::memory::NoMemory;
 use yp_base::steps::Steps;
+use yp_report::replied::Replied;
+use yp_report::replies::push_replies;
+use yp_report::texts::join_texts;
 use yp_schema::schema::Schema;
 
 /// The lines of replies.
@@ -41,21 +43,6 @@ fn push_desks<L: Ledger>(
     Ok(())
 }
 
-/// Parts, one after another, in room of just their size. Each is let go once it is taken over.
-fn join(alloc: Global, parts: Vec<String>) -> Result<String, AllocError>
-    ensures { IfOk result (λ text. string_bytes text ≡ flat_map string_bytes parts.items) }
-{
-    let mut room = 0usize;
-    for part in parts.as_slice() {
-        room = room.saturating_add(part.len());
-    }
-    let mut text = String::with_capacity(alloc, room)?;
-    for part in parts {
-        text.push_str(part.as_str())?;
-    }
-    Ok(text)
-}
-
 /// The text of replies and of what is told of desks.
 pub fn text_of<L: Ledger>(
     alloc: Global,
@@ -72,6 +59,6 @@ pub fn text_of<L: Ledger>(
     parts.push(replies_text(alloc, replies)?)?;
     push_desks(alloc, schema, desks, &mut parts, steps)?;
     parts.push(String::from_str(alloc, "end\n")?)?;
-    let text = join(alloc, parts)?;
+    let text = join_texts(alloc, parts)?;
     Ok(text)
 }

@@ -1,6 +1,6 @@
 //! Receivers that take beside each other.
-ghost use Rattle.std.specs.Prelude.{◌≡◌, ℕ, ◌<◌, length, true, All, OnOk, slice_index_or};
-ghost use Rattle.yp_takers.specs.Takers.{HasTakenOn, IsHeard};
+ghost use Rattle.std.specs.Prelude.{◌≡◌, ℕ, ◌<◌, length, All, is_ok, slice_index_or};
+ghost use Rattle.yp_takers.specs.Takers.{HasTakenOn};
 
 use std::alloc::Global;
 use std::sync::Wait;
@@ -14,8 +14,8 @@ use yp_receiver::receiver::Receiver;
 use yp_schema::schema::Schema;
 
 /// A receiver that takes: its number, the number of the worker that sends to it, the side of its queue that takes, the
-/// packets that it took, in order, what it holds by their lines, and whether it took and heard all that was sent before its
-/// worker had ended.
+/// packets that it took, in order, what it holds, and whether it took and heard all that was sent before its worker had
+/// ended.
 #[derive(Drop)]
 pub struct TakerJob {
     pub receiver: u32,
@@ -31,23 +31,19 @@ fn take_one<R: Wait>(
     rt: &R,
     alloc: Global,
     schema: &Schema,
-    take: &mut TakePass,
-    taken: &mut Vec<Packet>,
-    heard: &mut Receiver,
+    job: &mut TakerJob,
 ) -> Result<bool, NoMemory>
-    requires kept { taken.old.items ≡ take.old.taken }
-    requires heard { IsHeard schema.now taken.old.items heard.old }
-    ensures queue { take.new.queue ≡ take.old.queue }
-    ensures kept { taken.new.items ≡ take.new.taken }
-    ensures heard { OnOk result (IsHeard schema.now taken.new.items heard.new) }
+    requires kept { job.old.taken.items ≡ job.old.take.taken }
+    ensures { HasTakenOn schema.now job.old (record job.new { whole = is_ok result }) }
 {
-    taken.reserve(1)?;
-    let packet = match take.take(rt) {
+    job.taken.reserve(1)?;
+    let packet = match job.take.take(rt) {
         Some(packet) => packet,
         None => return Ok(false),
     };
-    let told = heard.take_line(alloc, schema, packet.line.as_str().as_bytes());
-    taken.push_reserved(packet);
+    let bytes = packet.line.as_str().as_bytes();
+    let told = job.heard.take_line(alloc, schema, bytes);
+    job.taken.push_reserved(packet);
     match told {
         Ok(()) => Ok(true),
         Err(_) => Err(NoMemory),
@@ -64,22 +60,11 @@ fn take_on<R: Wait, G: Gate>(
     job: &mut TakerJob,
 ) -> bool
     requires kept { job.old.taken.items ≡ job.old.take.taken }
-    requires heard { IsHeard schema.now job.old.taken.items job.old.heard }
-    ensures receiver { (job.new.receiver ≡ job.old.receiver) × (job.new.worker ≡ job.old.worker) }
-    ensures queue { job.new.take.queue ≡ job.old.take.queue }
-    ensures kept { job.new.taken.items ≡ job.new.take.taken }
-    ensures heard { result ≡ true → IsHeard schema.now job.new.taken.items job.new.heard }
+    ensures { HasTakenOn schema.now job.old (record job.new { whole = result }) }
 {
     for _ in rt.forever() {
         let last = ended.load(Ordering::SeqCst);
-        match take_one(
-            rt,
-            alloc,
-            schema,
-            &mut job.take,
-            &mut job.taken,
-            &mut job.heard,
-        ) {
+        match take_one(rt, alloc, schema, job) {
             Ok(true) => {
                 let receiver = job.receiver;
                 let count = job.taken.len() as u64;
@@ -108,7 +93,6 @@ fn run_taker<R: Wait, G: Gate>(
 )
     requires worker { job.old.worker < length ended.now }
     requires kept { job.old.taken.items ≡ job.old.take.taken }
-    requires heard { IsHeard schema.now job.old.taken.items job.old.heard }
     ensures { HasTakenOn schema.now job.old job.new }
 {
     let worker = job.worker;
@@ -116,7 +100,7 @@ fn run_taker<R: Wait, G: Gate>(
 }
 
 /// Runs receivers beside each other, each by a thread of its own where there is one, and else one after another, until the
-/// worker of each has ended (`ended`, by its number) and its queue is empty.
+/// worker of each has ended (`ended`, by its number) and its queue is empty. A receiver goes on from what it holds.
 pub fn run_takers<T: Threads + Wait + Sync, G: Gate>(
     rt: &T,
     alloc: Global,
@@ -127,7 +111,6 @@ pub fn run_takers<T: Threads + Wait + Sync, G: Gate>(
 )
     requires workers { All (λ job. job.worker < length ended.now) jobs.old }
     requires kept { All (λ job. job.taken.items ≡ job.take.taken) jobs.old }
-    requires heard { All (λ job. IsHeard schema.now job.taken.items job.heard) jobs.old }
     ensures { (place : ℕ) (none : _) → place < length jobs.old → HasTakenOn schema.now (slice_index_or jobs.old place none) (slice_index_or jobs.new place none) }
 {
     let threads = jobs.len();
@@ -139,7 +122,6 @@ pub fn run_takers<T: Threads + Wait + Sync, G: Gate>(
             &|_, job: &mut TakerJob|
                 requires worker { job.now.worker < length ended.now }
                 requires kept { job.now.taken.items ≡ job.now.take.taken }
-                requires heard { IsHeard schema.now job.now.taken.items job.now.heard }
                 ensures { HasTakenOn schema.entry.now job.entry.now job.exit.now }
             { run_taker(rt, alloc, schema, gate, ended, job) },
         );

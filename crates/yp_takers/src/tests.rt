@@ -1,5 +1,5 @@
 //! Receivers that take what others send, and hear it.
-ghost use Rattle.std.specs.Prelude.{◌≡◌, ◌<◌, ◌∷◌, [], length};
+ghost use Rattle.std.specs.Prelude.{◌≡◌, ◌<◌, [], length};
 
 use crate::taker::{TakerJob, run_takers};
 use serde_json::Value as Json;
@@ -19,6 +19,10 @@ use yp_schema::schema::Schema;
 // Ports with a name and an mtu.
 const PORTS: &str =
     r#"[{"path":"/acme:port","kind":"list","keys":["name"]},{"path":"/acme:port/name","kind":"leaf","type":"string"},{"path":"/acme:port/mtu","kind":"leaf","type":"uint16"}]"#;
+
+// What the receiver was told before it takes on.
+const BEFORE: &str =
+    r#"{"ietf-restconf:notification":{"eventTime":"2026-01-01T00:00:00Z","ietf-yang-push:push-update":{"id":8,"datastore-contents":{"acme:port":[{"name":"lo"}]}}}}"#;
 
 const FULL: &str =
     r#"{"ietf-restconf:notification":{"eventTime":"2026-01-01T00:00:00Z","ietf-yang-push:push-update":{"id":9,"datastore-contents":{"acme:port":[{"name":"lo","mtu":65535},{"name":"eth0"}]}}}}"#;
@@ -42,17 +46,18 @@ fn packet(alloc: Global, line: &str) -> Result<Packet, NoMemory> {
     })
 }
 
-// A receiver that took nothing.
-fn taker(alloc: Global, take: TakePass) -> TakerJob
+// A receiver that holds this, and took nothing of its queue.
+fn taker(alloc: Global, take: TakePass, heard: Receiver) -> TakerJob
     requires { take.taken ≡ [] }
-    ensures { (result.worker ≡ 0) × (result.taken.items ≡ []) × (result.take ≡ take) × (result.heard ≡ []) }
+    ensures worker { result.worker ≡ 0 }
+    ensures kept { result.taken.items ≡ result.take.taken }
 {
     TakerJob {
         receiver: 0,
         worker: 0,
         take,
         taken: Vec::new(alloc),
-        heard: Receiver::new(alloc),
+        heard,
         whole: false,
     }
 }
@@ -76,21 +81,23 @@ fn run_one<T: Threads + Wait + Sync, G: Gate>(
     schema: &Schema,
     gate: &G,
     ended: &[AtomicBool],
-    take: TakePass,
-) -> Result<TakerJob, NoMemory>
-    requires fresh { take.taken ≡ [] }
-    requires some { 0 < length ended.now }
+    job: TakerJob,
+) -> TakerJob
+    requires worker { job.worker < length ended.now }
+    requires kept { job.taken.items ≡ job.take.taken }
 {
-    let mut jobs = [taker(alloc, take)];
+    let mut jobs = [job];
     run_takers(rt, alloc, schema, gate, ended, &mut jobs);
     let [job] = jobs;
-    Ok(job)
+    job
 }
 
 #[test]
-fn a_receiver_takes_and_hears_what_was_sent(rt: HostRuntime) -> Result<(), Fail> {
+fn a_receiver_goes_on_from_what_it_holds(rt: HostRuntime) -> Result<(), Fail> {
     let alloc = rt.alloc();
     let schema = ports(alloc)?;
+    let mut heard = Receiver::new(alloc);
+    heard.take_line(alloc, &schema, BEFORE.as_bytes())?;
     let (mut send, take) = shared(alloc, 4)?;
     for line in [FULL, CHANGES] {
         assert!(rt; matches!(send.offer(&rt, packet(alloc, line)?), Offered::Took));
@@ -99,10 +106,11 @@ fn a_receiver_takes_and_hears_what_was_sent(rt: HostRuntime) -> Result<(), Fail>
         calls: AtomicU64::new(0),
     };
     let ended = [AtomicBool::new(true)];
-    let job = run_one(&rt, alloc, &schema, &gate, &ended, take)?;
+    let job = taker(alloc, take, heard);
+    let job = run_one(&rt, alloc, &schema, &gate, &ended, job);
     assert!(rt; job.whole);
     assert_eq!(rt; job.taken.len(), 2);
-    assert_eq!(rt; job.heard.ids(alloc)?.as_slice(), [9].as_slice());
+    assert_eq!(rt; job.heard.ids(alloc)?.as_slice(), [8, 9].as_slice());
     assert_eq!(rt; gate.calls.load(Ordering::SeqCst), 2);
     Ok(())
 }

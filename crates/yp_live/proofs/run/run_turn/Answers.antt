@@ -3,9 +3,10 @@ use Rattle.std.proofs.lemmas.List.{length-append}
 use Rattle.yp_journal.specs.declared.command.Command.{Command}
 use Rattle.yp_attempt.specs.Attempts.{answers_in}
 use Rattle.yp_promise.specs.Serving.{all_numbers, run_entered, run_of}
-use Rattle.yp_live.specs.declared.run.Replied.{Replied}
+use Rattle.yp_report.specs.declared.replied.Replied.{Replied}
+use Rattle.yp_report.specs.Replies.{replied_of}
 use Rattle.yp_live.specs.Desks.{DeskState}
-use Rattle.yp_live.specs.Runs.{IsOnItsWay, desks_took, replied_of}
+use Rattle.yp_live.specs.Runs.{IsOnItsWay, desks_took}
 use Rattle.yp_live.proofs.Results.{when_ok}
 use Rattle.yp_live.proofs.Turning.{entered, run_length, turned}
 use Rattle.yp_live.proofs.run.run_turn.Goals as goal

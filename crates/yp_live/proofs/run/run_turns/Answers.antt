@@ -2,9 +2,9 @@ use Rattle.std.proofs.Common.{◌≡◌, ◌∙◌, ◌++◌, ◌∷◌, [], Lis
 use Rattle.std.specs.List.{AllByRecursion}
 use Rattle.std.proofs.lemmas.List.{append-nil, append_assoc, map-append, nil_from_length}
 use Rattle.std.specs.Vec.Iter.{into_iter_items}
-use Rattle.yp_live.specs.declared.turns.Turn.{Turn}
-use Rattle.yp_live.specs.Journal.{turn_of}
-use Rattle.yp_live.specs.Turns.{MayTake}
+use Rattle.yp_turns.specs.declared.turns.Turn.{Turn}
+use Rattle.yp_turns.specs.Journal.{turn_of}
+use Rattle.yp_turns.specs.Turns.{MayTake}
 use Rattle.yp_live.proofs.run.run_turns.Goals as goal
 
 pub loop-turn-preserved : goal.loop-turn-preserved

@@ -2,9 +2,9 @@ use Rattle.std.proofs.Common.{◌≡◌, ◌+◌, ◌++◌, List, length, map}
 use Rattle.std.specs.List.{AllByRecursion}
 use Rattle.std.specs.Vec.Iter.{into_iter_items}
 use Rattle.yp_journal.specs.declared.entry.Entry.{Entry}
-use Rattle.yp_live.specs.Journal.{turn_of}
+use Rattle.yp_turns.specs.Journal.{turn_of}
+use Rattle.yp_turns.specs.Turns.{MayTake}
 use Rattle.yp_live.specs.Runs.{IsRun}
-use Rattle.yp_live.specs.Turns.{MayTake}
 use Rattle.yp_live.proofs.run.run_turns.Given as goal
 
 -- the turns so far and those that are left are all

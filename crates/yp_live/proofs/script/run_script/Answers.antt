@@ -4,13 +4,12 @@ use Rattle.std.specs.List.{AllByRecursion}
 use Rattle.yp_time.specs.Instants.{IsStart}
 use Rattle.yp_journal.specs.declared.entry.Entry.{Entry}
 use Rattle.yp_journal.specs.declared.receiver.ReceiverInfo.{ReceiverInfo}
+use Rattle.yp_turns.specs.declared.turns.Turn.{Turn}
+use Rattle.yp_turns.specs.Journal.{turn_of}
+use Rattle.yp_turns.specs.Turns.{serial_turns, MayTake}
 use Rattle.yp_live.specs.declared.run.Run.{Run}
-use Rattle.yp_live.specs.declared.turns.Turn.{Turn}
-use Rattle.yp_live.specs.Journal.{turn_of}
 use Rattle.yp_live.specs.Runs.{IsRun}
-use Rattle.yp_live.specs.Turns.{serial_turns, MayTake}
 use Rattle.yp_live.proofs.Promises.{have_places}
-use Rattle.yp_live.proofs.TurnLaws.{may_take, turns_length}
 use Rattle.yp_live.proofs.script.run_script.Goals as goal
 
 pub run_turns-requires-clause-places : goal.run_turns-requires-clause-places
@@ -21,7 +20,7 @@ pub run_turns-requires-clause-may : goal.run_turns-requires-clause-may
 run_turns-requires-clause-may c =
     let script = c.args.script in
     subst (λ (turns : List Turn). AllByRecursion (MayTake script.schema c.items.result.now) turns) (sym c.in_ok-turns.ensures)
-    (subst (λ (receivers : List ReceiverInfo). AllByRecursion (MayTake script.schema receivers) (serial_turns script.before script.lanes script.after)) (sym (c.items.ensures ∙ c.in_ok-receivers.ensures)) (may_take script c.requires.commands))
+    (subst (λ (receivers : List ReceiverInfo). AllByRecursion (MayTake script.schema receivers) (serial_turns script.before script.lanes script.after)) (sym (c.items.ensures ∙ c.in_ok-receivers.ensures)) (c.each_turn_of_a_script_may_come.ensures script c.requires.commands))
 
 pub returns : goal.returns
 returns c =
@@ -34,7 +33,7 @@ returns c =
       schema = refl;
       start = subst IsStart c.second-second.ensures.value c.second-second.ensures.within;
       entries = entries;
-      few = omega (arith, same, turns_length script, c.requires.count);
+      few = omega (arith, same, c.a_script_has_as_many_turns_as_commands.ensures script, c.requires.count);
       turns = turns;
       is = subst (λ (receivers : List ReceiverInfo). IsRun script.schema script.start receivers entries run) (c.items.ensures ∙ c.in_ok-receivers.ensures) c.in_ok-run.ensures.1.1;
     }

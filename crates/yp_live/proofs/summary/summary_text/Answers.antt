@@ -1,6 +1,6 @@
 use Rattle.std.proofs.Common.{◌∙◌, ◌++◌, ℕ, List, length, ap, string_bytes}
 use Rattle.std.specs.Prelude.{codes, count_by, sum_by}
-use Rattle.yp_live.specs.declared.run.Replied.{Replied}
+use Rattle.yp_report.specs.declared.replied.Replied.{Replied}
 use Rattle.yp_live.specs.Counts.{desk_rows, told_lines}
 use Rattle.yp_live.specs.Summary.{count_line, is_refusal}
 use Rattle.yp_live.proofs.CountLaws.{added_four}

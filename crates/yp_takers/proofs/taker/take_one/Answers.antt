@@ -1,16 +1,57 @@
-use Rattle.std.proofs.Common.{ℕ, List, [], ◌∷◌, ◌++◌, ap, sym, subst, ◌∙◌}
-use Rattle.yp_queue.specs.declared.packet.Packet.{Packet}
-use Rattle.yp_receiver.specs.Held.{IsTaken}
-use Rattle.yp_takers.specs.Takers.{IsHeard}
-use Rattle.yp_takers.proofs.Takers.{one_more}
+use Rattle.std.proofs.Common.{[], ◌∷◌, refl, ◌∙◌}
+use Rattle.yp_takers.proofs.Takers.{line_heard_so, none_kept, none_more, one_kept, one_more}
 use Rattle.yp_takers.proofs.taker.take_one.Goals as goal
 
-pub returns-in-Ok-clause-heard : goal.returns-in-Ok-clause-heard
-returns-in-Ok-clause-heard g c =
-    let nodes = c.args.schema.now in
+pub returns-in_err-reserve : goal.returns-in_err-reserve
+returns-in_err-reserve g c =
+    let job = c.args.job.now in
+    let room = c.reserve.new.self.items in
+    let same = c.reserve.ensures.items in
+    record { receiver = refl; worker = refl; queue = refl; kept = none_kept job.taken.items room job.take job.take same c.requires.kept refl; more = []; took = none_more job.taken.items room same; heard = λ whole. cc }
+
+pub returns-in-None : goal.returns-in-None
+returns-in-None g c =
+    let job = c.args.job.now in
+    let room = c.reserve.new.self.items in
+    let same = c.reserve.ensures.items in
+    record {
+      receiver = refl;
+      worker = refl;
+      queue = c.take.ensures.one;
+      kept = none_kept job.taken.items room job.take c.take.new.self same c.requires.kept c.in-None.ensures.taken;
+      more = [];
+      took = none_more job.taken.items room same;
+      heard = λ _. refl;
+    }
+
+pub returns-in-Ok : goal.returns-in-Ok
+returns-in-Ok g c =
+    let job = c.args.job.now in
     let packet = c.in-Some.packet in
-    let before = c.args.heard.now in
-    let after = c.take_line-told.new.self in
-    let told = subst (λ (line : List ℕ). IsTaken nodes line before after) (c.as_bytes.ensures.value ∙ c.as_str.ensures) c.in-Ok.ensures.taken in
-    let kept = c.push_reserved.ensures.items ∙ ap (λ (packets : List Packet). packets ++ packet ∷ []) c.in_ok-reserve.ensures.items in
-    subst (λ (packets : List Packet). IsHeard nodes packets after) (sym kept) (one_more nodes c.args.taken.now.items packet before after c.requires.heard told)
+    let now = c.push_reserved.new.self.items in
+    let took = one_more job.taken.items c.reserve.new.self.items now packet c.reserve.ensures.items c.push_reserved.ensures.items in
+    record {
+      receiver = refl;
+      worker = refl;
+      queue = c.take.ensures.one;
+      kept = one_kept job.taken.items now packet job.take c.take.new.self took c.requires.kept c.in-Some.ensures.taken;
+      more = packet ∷ [];
+      took = took;
+      heard = λ _. line_heard_so c.args.schema.now packet.line c.as_bytes-bytes.result.now job.heard c.take_line-told.new.self (c.as_bytes-bytes.ensures.value ∙ c.as_str.ensures) c.in-Ok.ensures.taken;
+    }
+
+pub returns-in-Err : goal.returns-in-Err
+returns-in-Err g c =
+    let job = c.args.job.now in
+    let packet = c.in-Some.packet in
+    let now = c.push_reserved.new.self.items in
+    let took = one_more job.taken.items c.reserve.new.self.items now packet c.reserve.ensures.items c.push_reserved.ensures.items in
+    record {
+      receiver = refl;
+      worker = refl;
+      queue = c.take.ensures.one;
+      kept = one_kept job.taken.items now packet job.take c.take.new.self took c.requires.kept c.in-Some.ensures.taken;
+      more = packet ∷ [];
+      took = took;
+      heard = λ whole. cc;
+    }
