@@ -16,6 +16,4 @@ mod offering;
 mod opening;
 mod seat;
 mod taking;
-#[cfg(test)]
-mod tests;
 pub mod world;

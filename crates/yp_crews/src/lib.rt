@@ -7,5 +7,3 @@
 
 pub mod crew;
 pub mod crews;
-#[cfg(test)]
-mod tests;

@@ -9,5 +9,3 @@
 
 pub mod follower;
 pub mod outbox;
-#[cfg(test)]
-mod tests;

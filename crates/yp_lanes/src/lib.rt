@@ -5,5 +5,3 @@
 #![tactic(auto)]
 
 pub mod lane;
-#[cfg(test)]
-mod tests;

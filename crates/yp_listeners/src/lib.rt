@@ -8,5 +8,3 @@
 pub mod laws;
 pub mod listener;
 pub mod serving;
-#[cfg(test)]
-mod tests;

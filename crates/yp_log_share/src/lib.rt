@@ -12,5 +12,3 @@ pub mod log;
 pub mod opening;
 pub mod seat;
 pub mod settle;
-#[cfg(test)]
-mod tests;

@@ -15,5 +15,3 @@ pub mod holding;
 pub mod holdings;
 pub mod laws;
 pub mod receiver;
-#[cfg(test)]
-mod tests;

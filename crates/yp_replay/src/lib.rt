@@ -9,9 +9,5 @@
 pub mod fault;
 mod hearing;
 pub mod laws;
-#[cfg(test)]
-mod line_tests;
 pub mod replay;
-#[cfg(test)]
-mod tests;
 mod trees;

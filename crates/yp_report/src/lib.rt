@@ -8,7 +8,5 @@
 pub mod laws;
 pub mod replied;
 pub mod replies;
-#[cfg(test)]
-mod tests;
 pub mod texts;
 pub mod trees;

@@ -6,5 +6,3 @@
 #![tactic(auto)]
 
 pub mod taker;
-#[cfg(test)]
-mod tests;

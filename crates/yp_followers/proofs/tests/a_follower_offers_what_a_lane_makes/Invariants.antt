@@ -1,7 +1,0 @@
-use Rattle.yp_followers.proofs.tests.a_follower_offers_what_a_lane_makes.Given as goal
-
-abbrev pub ghosts-life-J-Ledger : goal.ghosts-life-J-Ledger
-ghosts-life-J-Ledger g a = record { name = a.blank.name; parts = a.blank.parts }
-
-abbrev pub ghosts-life-J-Naming : goal.ghosts-life-J-Naming
-ghosts-life-J-Naming g a = record { book = a.opened.seen.book; nodes = a.setting.now.schema.now; opening = a.state }
