@@ -21,7 +21,7 @@ use yp_journal::laws::a_journal_goes_on_entry_by_entry;
 use yp_journal::receiver::ReceiverInfo;
 use yp_promise::laws::{a_serial_run_goes_on_entry_by_entry, a_serial_run_goes_on_offer_by_offer};
 use yp_promise::posts::queues_hold_what_was_not_taken;
-use yp_report::replied::Replied;
+use yp_report::replied::{Replied, replied_by};
 use yp_schema::schema::Schema;
 use yp_turns::turns::Turn;
 use yp_worker::laws::a_worker_offers_what_its_run_offers;
@@ -137,11 +137,7 @@ fn run_turn(alloc: Global, setting: &Setting, turn: Turn, run: &mut Run) -> Resu
     let entry = run
         .worker
         .accept(alloc, setting.schema, lane, index, command)?;
-    run.replies.push(Replied {
-        lane: entry.lane,
-        index: entry.index,
-        reply: entry.reply,
-    })?;
+    run.replies.push(replied_by(entry))?;
     answer_all(alloc, setting.schema, run)
 }
 

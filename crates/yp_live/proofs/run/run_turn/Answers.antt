@@ -4,7 +4,6 @@ use Rattle.yp_journal.specs.declared.command.Command.{Command}
 use Rattle.yp_attempt.specs.Attempts.{answers_in}
 use Rattle.yp_promise.specs.Serving.{all_numbers, run_entered, run_of}
 use Rattle.yp_report.specs.declared.replied.Replied.{Replied}
-use Rattle.yp_report.specs.Replies.{replied_of}
 use Rattle.yp_live.specs.Desks.{DeskState}
 use Rattle.yp_live.specs.Runs.{IsOnItsWay, desks_took}
 use Rattle.yp_live.proofs.Results.{when_ok}
@@ -56,7 +55,7 @@ returns-clause-run c =
         λ i. record { lane = c.in_ok-entry.ensures.lane i; index = c.in_ok-entry.ensures.index i; command = c.in_ok-entry.ensures.command i },
         turned nodes start receivers entries entry c.args.run.now c.answer_all.new.run is
             (through start receivers (entries ++ entry ∷ []) (run_entered nodes receivers entries entry) way)
-            (ap (λ (those : Vec Replied Global). those.items) c.answer_all.ensures.replies ∙ c.in_ok-push.ensures.items),
+            (ap (λ (those : Vec Replied Global). those.items) c.answer_all.ensures.replies ∙ (c.in_ok-push.ensures.items ∙ ap (λ (one : Replied). c.args.run.now.replies.items ++ one ∷ []) c.replied_by.ensures)),
       ),
     ))
 
@@ -66,4 +65,4 @@ returns-clause-count c =
     when_ok c.answer_all.result c.answer_all.ensures.through
     (λ through.
     ap (λ (those : Vec Replied Global). length those.items) c.answer_all.ensures.replies
-    ∙ (ap (λ (those : List Replied). length those) c.in_ok-push.ensures.items ∙ length-append before (replied_of c.in_ok-entry.entry ∷ [])))
+    ∙ (ap (λ (those : List Replied). length those) c.in_ok-push.ensures.items ∙ length-append before (c.replied_by.result ∷ [])))
