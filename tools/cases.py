@@ -1,13 +1,14 @@
 """Runs the built program on each case and compares what it wrote, byte for byte.
 
-In cases/ each NAME.jsonl is a script, and a stream to replay in cases/streams/. Beside it stands NAME.txt, the
+In cases/ each NAME.jsonl is a script, which is run by threads in cases/live/, and a stream to replay in
+cases/streams/. Beside it stands NAME.txt, the
 text that the program writes, or NAME.fault, which has the line on standard error and then the exit status. Where NAME.lines stands beside
 them, the script is run once for each line of that file, with that line after it, and each run ends so.
 The scripts that are too large to be kept are made by large_cases.py, random ones with policies by
 access_cases.py, with filters and periods by subscription_cases.py, and with queues that fill by queue_cases.py;
 feed_cases.py has a short one for each rule of feeds and queues, lifetime_cases.py those of calls about
 subscriptions that are there, and owed_cases.py one for each event in each state of a feed. Streams to replay are
-made by stream_cases.py.
+made by stream_cases.py. What is run is also run by threads, and scripts with lanes are, as live_cases.py says.
 Nothing here comes of a run: each expected text is worked out from the rules of the guides in docs/.
 """
 
@@ -24,15 +25,17 @@ from access_cases import access_cases
 from feed_cases import feed_cases
 from large_cases import large_cases, wide_entry
 from lifetime_cases import lifetime_cases
+from live_cases import told_live
 from owed_cases import owed_cases
 from queue_cases import queue_cases
 from stream_cases import endings, stream_cases
 from subscription_cases import subscription_cases
 
 BAD_ARGUMENTS: list[list[str]] = [
-    [], [""], ["Run"], ["RUN"], [" run"], ["run "], ["runs"], ["ru"], ["start"], ["--run"], ["live"], ["help"], ["run", ""],
+    [], [""], ["Run"], ["RUN"], [" run"], ["run "], ["runs"], ["ru"], ["start"], ["--run"], ["lives"], ["help"], ["run", ""],
     ["run", "run"], ["run", "--workers", "9"], ["run", "--workers"], ["gen", "--seed", "4294967296"], ["gen", "--seed=-1"],
     ["trial", "--size", "0"], ["trial", "--size", "10001"], ["trial", "--size", "7", "--size", "7"], ["x" * 100_000]]
+WORDS = {"streams": ("replay",), "live": ("live",)}
 REQUESTS: list[list[str]] = [["--help"], ["-h"], ["--version"], ["run", "--help"]]
 SMALLEST = b'{"start":"2026-01-01T00:00:00Z"}\n{"schema":[]}\n'
 STACKS = range(64, 8_193, 32)
@@ -55,7 +58,7 @@ def kept_cases(folder: pathlib.Path) -> Iterator[Case | str]:
     for file in sorted(folder.rglob("*.jsonl")):
         name = f"{folder.name}/{file.relative_to(folder).with_suffix('')}"
         report, fault = file.with_suffix(".txt"), file.with_suffix(".fault")
-        words = ("replay",) if file.parent.name == "streams" else ("run",)
+        words = WORDS.get(file.parent.name, ("run",))
         if report.is_file() == fault.is_file():
             yield f"{name}: either NAME.txt or NAME.fault stands beside it"
             continue
@@ -94,20 +97,34 @@ def made_cases() -> Iterator[Case]:
         yield Case(f"made: {name}", stream, *endings(wanted), words=("replay",))
 
 
+def by_threads(case: Case, number: int) -> Iterator[Case]:
+    """The case by threads too, with one of 1 to 8 workers, if it has one report there."""
+    told = told_live(case.script, case.status, case.out, case.error) if case.words == ("run",) else None
+    if told is not None:
+        status, out, error = told
+        yield Case(f"{case.name}, live", case.script, out, error, status, ("live", "--workers", str(number % 8 + 1)))
+
+
 def wrong_cases(program: pathlib.Path, folder: pathlib.Path) -> Iterator[str]:
     """What is wrong with the cases, and how many there are."""
     count = 0
-    for case in itertools.chain(kept_cases(folder), made_cases()):
-        if isinstance(case, str):
-            yield case
+    for found in itertools.chain(kept_cases(folder), made_cases()):
+        if isinstance(found, str):
+            yield found
             continue
         count += 1
-        ran = subprocess.run([str(program), *case.words], input=case.script, capture_output=True, check=False)
-        if ran.returncode != case.status or ran.stderr != case.error:
-            yield f"{case.name}: status {ran.returncode} and '{ran.stderr.decode(errors='replace').strip()}'"
-        elif ran.stdout != case.out:
-            yield f"{case.name}: {first_difference(ran.stdout, case.out)}"
+        for case in itertools.chain([found], by_threads(found, count)):
+            yield from wrong_case(program, case)
     print(f"check_repository: {count} scripts and streams were run, of cases/, large ones and random ones")
+
+
+def wrong_case(program: pathlib.Path, case: Case) -> Iterator[str]:
+    """What is wrong with how the program ends and with what it writes."""
+    ran = subprocess.run([str(program), *case.words], input=case.script, capture_output=True, check=False)
+    if ran.returncode != case.status or ran.stderr != case.error:
+        yield f"{case.name}: status {ran.returncode} and '{ran.stderr.decode(errors='replace').strip()}'"
+    elif ran.stdout != case.out:
+        yield f"{case.name}: {first_difference(ran.stdout, case.out)}"
 
 
 def wrong_endings(program: pathlib.Path) -> Iterator[str]:

@@ -1,2 +1,3 @@
+pub mod ManualLaws
 pub mod StatusLaws
 pub mod TopLaws

@@ -1,5 +1,5 @@
 -- What a status says of what was asked for, the source and the sink.
-use Rattle.std.specs.Prelude.{◌≡◌, ℕ, ◌+◌, List, [], ◌++◌, drop, Bool, true, false, Option, None, Some, IfSome, Result, Ok, Err}
+use Rattle.std.specs.Prelude.{◌≡◌, ℕ, ◌+◌, List, ◌++◌, drop, Bool, true, false, Option, None, Some, IfSome, Result, Ok, Err}
 use Rattle.yp_io.specs.Causes.{Rose}
 use Rattle.yp_io.specs.Whole.{AppendsPrefix}
 use Rattle.yp_replay.specs.declared.fault.ReplayFault.{ReplayFault}
@@ -10,10 +10,10 @@ use Rattle.yp_script.specs.Faults.{LineFault}
 use Rattle.yp_script.specs.Lines.{byte_limit}
 use Rattle.yp_script.specs.Script.{script_in}
 use Rattle.push_program.specs.declared.job.Job.{Job}
-use Rattle.push_program.specs.declared.job.Job.TheVariants.{Run, Replay, Gen, Trial}
+use Rattle.push_program.specs.declared.job.Job.TheVariants.{Run, Live, Replay, Gen, Trial}
 use Rattle.push_program.specs.declared.top.Status.{Status}
-use Rattle.push_program.specs.declared.top.Status.TheVariants.{Done, BadWords, BadScript, BadStream, ReadFault, WriteFault, NoMemory}
-use Rattle.push_program.specs.Jobs.{HasScriptFault, HasStreamFault, IsTextOf, reads}
+use Rattle.push_program.specs.declared.top.Status.TheVariants.{Done, BadWords, BadScript, BadStream, Manual, ReadFault, WriteFault, NoMemory}
+use Rattle.push_program.specs.Jobs.{HasManual, HasScriptFault, HasStreamFault, IsTextOf, first_manual, reads}
 
 -- ---- the streams
 
@@ -53,6 +53,7 @@ WritesPrefix job left before after = (text : List ℕ) × (IsTextOf job left tex
 -- what a job reads before it writes
 abbrev pub ReadsFor : Job → Streams → Type 0
 ReadsFor Run s = ReadsAll s
+ReadsFor (Live workers) s = ReadsAll s
 ReadsFor Replay s = ReadsAll s
 ReadsFor (Gen seed size) s = ReadsNothing s
 ReadsFor (Trial seed size) s = ReadsNothing s
@@ -60,6 +61,7 @@ ReadsFor (Trial seed size) s = ReadsNothing s
 -- where memory ran out no read failed, and a job that doesn't read left the source as it was
 abbrev pub ReadsSome : Job → Streams → Type 0
 ReadsSome Run s = s.read_faults_after ≡ s.read_faults_before
+ReadsSome (Live workers) s = s.read_faults_after ≡ s.read_faults_before
 ReadsSome Replay s = s.read_faults_after ≡ s.read_faults_before
 ReadsSome (Gen seed size) s = ReadsNothing s
 ReadsSome (Trial seed size) s = ReadsNothing s
@@ -70,6 +72,7 @@ AnswersJob job s Done = ReadsFor job s × WritesText job s.left_before s.written
 AnswersJob job s BadWords = ⊥
 AnswersJob job s (BadScript line kind) = (reads job ≡ true) × ReadsAll s × IfSome s.left_before (λ bytes. HasScriptFault job bytes line kind) × WritesNothing s
 AnswersJob job s (BadStream line kind) = (job ≡ Replay) × ReadsAll s × IfSome s.left_before (λ bytes. HasStreamFault job bytes line kind) × WritesNothing s
+AnswersJob job s (Manual name) = (workers : ℕ) × (job ≡ Live workers) × ReadsAll s × IfSome s.left_before (λ bytes. HasManual job bytes name) × WritesNothing s
 AnswersJob job s ReadFault = (reads job ≡ true) × Rose s.read_faults_before s.read_faults_after × WritesNothing s
 AnswersJob job s WriteFault = ReadsFor job s × WritesPrefix job s.left_before s.written_before s.written_after × Rose s.write_faults_before s.write_faults_after
 AnswersJob job s NoMemory = ReadsSome job s × WritesNothing s
@@ -80,6 +83,7 @@ Answers None s Done = ⊥
 Answers None s BadWords = ReadsNothing s × WritesNothing s
 Answers None s (BadScript line kind) = ⊥
 Answers None s (BadStream line kind) = ⊥
+Answers None s (Manual name) = ⊥
 Answers None s ReadFault = ⊥
 Answers None s WriteFault = ⊥
 Answers None s NoMemory = ReadsNothing s × WritesNothing s
@@ -93,6 +97,7 @@ TellsWords Done asked = (job : Job) × (asked ≡ Some job)
 TellsWords BadWords asked = asked ≡ None
 TellsWords (BadScript line kind) asked = (job : Job) × (asked ≡ Some job) × (reads job ≡ true)
 TellsWords (BadStream line kind) asked = asked ≡ Some Replay
+TellsWords (Manual name) asked = (workers : ℕ) × (asked ≡ Some (Live workers))
 TellsWords ReadFault asked = (job : Job) × (asked ≡ Some job) × (reads job ≡ true)
 TellsWords WriteFault asked = (job : Job) × (asked ≡ Some job)
 TellsWords NoMemory asked = Unit {0}
@@ -103,6 +108,7 @@ tells_whole_reading Done = true
 tells_whole_reading BadWords = false
 tells_whole_reading (BadScript line kind) = true
 tells_whole_reading (BadStream line kind) = true
+tells_whole_reading (Manual name) = true
 tells_whole_reading ReadFault = false
 tells_whole_reading WriteFault = true
 tells_whole_reading NoMemory = false
@@ -113,6 +119,7 @@ TellsReading Done before now = now ≡ before
 TellsReading BadWords before now = now ≡ before
 TellsReading (BadScript line kind) before now = now ≡ before
 TellsReading (BadStream line kind) before now = now ≡ before
+TellsReading (Manual name) before now = now ≡ before
 TellsReading ReadFault before now = Rose before now
 TellsReading WriteFault before now = now ≡ before
 TellsReading NoMemory before now = now ≡ before
@@ -123,6 +130,7 @@ TellsWriting Done before now = now ≡ before
 TellsWriting BadWords before now = now ≡ before
 TellsWriting (BadScript line kind) before now = now ≡ before
 TellsWriting (BadStream line kind) before now = now ≡ before
+TellsWriting (Manual name) before now = now ≡ before
 TellsWriting ReadFault before now = now ≡ before
 TellsWriting WriteFault before now = Rose before now
 TellsWriting NoMemory before now = now ≡ before
@@ -133,6 +141,7 @@ tells_no_writing Done = false
 tells_no_writing BadWords = true
 tells_no_writing (BadScript line kind) = true
 tells_no_writing (BadStream line kind) = true
+tells_no_writing (Manual name) = true
 tells_no_writing ReadFault = true
 tells_no_writing WriteFault = false
 tells_no_writing NoMemory = true
@@ -151,6 +160,15 @@ FitsScript (Err fault) (BadScript line kind) = fault ≡ record { line = line; k
 FitsScript (Err fault) NoMemory = Unit {0}
 FitsScript read status = ⊥
 
+-- the same of a script that was to be run by threads; where one of its receivers takes by command, the first of these was told, and nothing was run
+abbrev pub FitsLive : Result Script LineFault → Status → Type 0
+FitsLive (Ok script) Done = first_manual script.receivers ≡ None
+FitsLive (Ok script) (Manual name) = first_manual script.receivers ≡ Some name
+FitsLive (Ok script) NoMemory = Unit {0}
+FitsLive (Err fault) (BadScript line kind) = fault ≡ record { line = line; kind = kind }
+FitsLive (Err fault) NoMemory = Unit {0}
+FitsLive read status = ⊥
+
 -- the same of a stream that was replayed
 abbrev pub FitsReplay : Result (List ℕ) ReplayFault → Status → Type 0
 FitsReplay (Ok text) Done = Unit {0}
@@ -168,6 +186,7 @@ IsDone status = ⊥
 
 abbrev pub Fits : Job → Option (List ℕ) → Status → Type 0
 Fits Run left status = IfSome left (λ bytes. FitsScript (script_in bytes) status)
+Fits (Live workers) left status = IfSome left (λ bytes. FitsLive (script_in bytes) status)
 Fits Replay left status = IfSome left (λ bytes. FitsReplay (replayed bytes) status)
 Fits (Gen seed size) left status = IsDone status
 Fits (Trial seed size) left status = IsDone status

@@ -9,6 +9,8 @@ use yp_words::words::{Mode, Words};
 pub enum Job {
     /// Run a script, and write the report of its run.
     Run,
+    /// Run the lanes, the receivers and so many workers of a script by threads, and write the report of that run.
+    Live { workers: u32 },
     /// Make trees of the lines of a saved stream, and write these.
     Replay,
     /// Write the script that is drawn from a seed, with so many drawn commands, from 1 to 10,000.
@@ -23,12 +25,13 @@ pub fn job_of(words: Words) -> Job
 {
     let Words {
         mode,
+        workers,
         seed,
         size,
-        ..
     } = words;
     match mode {
         Mode::Run => Job::Run,
+        Mode::Live => Job::Live { workers },
         Mode::Replay => Job::Replay,
         Mode::Gen => Job::Gen { seed, size },
         Mode::Trial => Job::Trial { seed, size },
@@ -42,6 +45,7 @@ impl Job {
     {
         match self {
             Job::Run => true,
+            Job::Live { .. } => true,
             Job::Replay => true,
             Job::Gen { .. } => false,
             Job::Trial { .. } => false,

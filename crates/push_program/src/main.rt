@@ -1,7 +1,9 @@
 //! The program: its words, standard input and standard output.
 #![tactic(auto)]
 
+mod fault;
 pub mod job;
+mod manual;
 #[cfg(test)]
 mod tests;
 mod texts;
@@ -11,7 +13,10 @@ use crate::top::{Status, push_main};
 use std::env::{Env, FillError};
 use std::io;
 use std::process::ExitCode;
+use std::sync::Wait;
+use std::thread::Threads;
 use yp_base::txt::Txt;
+use yp_gate::NoGate;
 use yp_io::persistent::Persistent;
 use yp_io::streams::{StdSink, StdSource};
 use yp_words::help::help_text;
@@ -33,6 +38,11 @@ fn tell(rt: &HostRuntime, status: Status) -> anyhow::Result<u8> {
             let kind = kind.number();
             eprintln!(rt; "push: stream line {line}: fault {kind}")?;
             4
+        }
+        Status::Manual { receiver } => {
+            let name = receiver.as_str();
+            eprintln!(rt; "push: receiver {name} takes by command")?;
+            5
         }
         Status::ReadFault => {
             eprintln!(rt; "push: reading failed")?;
@@ -107,30 +117,34 @@ fn words_of(rt: &HostRuntime) -> Result<Vec<Txt>, Status> {
     Ok(words)
 }
 
-/// Does what the words ask for, with standard input and standard output.
-fn run_program(rt: &HostRuntime, words: &[Txt]) -> Status {
+/// Does what the words ask for, with standard input and standard output, and with threads by a handle on them.
+fn run_program<T: Threads + Wait + Sync>(rt: &HostRuntime, threads: &T, words: &[Txt]) -> Status {
     let mut source = StdSource::new(Persistent::reader(rt.reader()));
     let mut sink = StdSink::new(Persistent::writer(io::writer(rt)));
-    push_main(rt.alloc(), words, &mut source, &mut sink)
+    push_main(threads, rt.alloc(), words, &mut source, &mut sink, &NoGate)
 }
 
 /// Shows the help or the version, where the words ask for it, or does what they ask for; and gives the exit
 /// code.
-fn answer(rt: &HostRuntime, words: &[Txt]) -> anyhow::Result<u8> {
+fn answer<T: Threads + Wait + Sync>(
+    rt: &HostRuntime,
+    threads: &T,
+    words: &[Txt],
+) -> anyhow::Result<u8> {
     match help_text(rt.alloc(), words) {
         Ok(Some(text)) => {
             let text = text.as_str();
             print!(rt; "{text}")?;
             Ok(0)
         }
-        Ok(None) => tell(rt, run_program(rt, words)),
+        Ok(None) => tell(rt, run_program(rt, threads, words)),
         Err(_) => tell(rt, Status::NoMemory),
     }
 }
 
 fn main(rt: HostRuntime) -> anyhow::Result<ExitCode> {
     let code = match words_of(&rt) {
-        Ok(words) => answer(&rt, words.as_slice())?,
+        Ok(words) => answer(&rt, &rt, words.as_slice())?,
         Err(status) => tell(&rt, status)?,
     };
     Ok(ExitCode::from(code))

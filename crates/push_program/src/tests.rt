@@ -2,10 +2,13 @@
 //! Whole scripts, each with its report, stand in the folder `cases` at the top; the built program runs them.
 use crate::top::{Status, push_main};
 use std::alloc::Global;
+use std::sync::Wait;
 use std::test::Fail;
+use std::thread::Threads;
 use yp_base::memory::NoMemory;
 use yp_base::txt::Txt;
 use yp_command::fault::ScriptKind;
+use yp_gate::NoGate;
 use yp_io::memory::{MemSink, MemSource};
 use yp_io::source::{Got, Source};
 use yp_replay::fault::StreamKind;
@@ -54,12 +57,18 @@ fn script(alloc: Global) -> Result<Vec<u8>, NoMemory> {
 
 // How a run ends whose source gives at most so many bytes at a call and fails at a call, and whether
 // the whole report was written, or nothing where it fails.
-fn reads(alloc: Global, most: usize, failing: u64, want: Status) -> Result<bool, NoMemory> {
+fn reads<T: Threads + Wait + Sync>(
+    rt: &T,
+    alloc: Global,
+    most: usize,
+    failing: u64,
+    want: Status,
+) -> Result<bool, NoMemory> {
     let failing = vec![in alloc; failing]?;
     let mut source = MemSource::new(script(alloc)?, most.max(1), failing);
     let mut sink = MemSink::with_room(alloc, 1000, 1000, Vec::new(alloc))?;
     let words = run_words(alloc)?;
-    let status = push_main(alloc, words.as_slice(), &mut source, &mut sink);
+    let status = push_main(rt, alloc, words.as_slice(), &mut source, &mut sink, &NoGate);
     let whole = if want == Status::Done { REPORT } else { "" };
     Ok(status == want && sink.bytes() == whole.as_bytes())
 }
@@ -69,7 +78,7 @@ fn pieces_of_any_length_make_the_same_script(rt: HostRuntime) -> Result<(), Fail
     let alloc = rt.alloc();
     for most in [1, 2, 3, 31, 760, 761, 5000] {
         assert!(rt;
-            reads(alloc, most, 10_000, Status::Done)?,
+            reads(&rt, alloc, most, 10_000, Status::Done)?,
             "{most} bytes at a call"
         );
     }
@@ -83,30 +92,48 @@ fn a_read_that_fails_is_told_before_the_script_and_nothing_is_written(
     let alloc = rt.alloc();
     assert_eq!(rt; script(alloc)?.len(), 761);
     for call in 1..=9 {
-        assert!(rt; reads(alloc, 100, call, Status::ReadFault)?, "call {call}");
+        assert!(rt;
+            reads(&rt, alloc, 100, call, Status::ReadFault)?,
+            "call {call}"
+        );
     }
-    assert!(rt; reads(alloc, 100, 10, Status::Done)?);
-    assert!(rt; reads(alloc, 761, 2, Status::ReadFault)?);
-    assert!(rt; reads(alloc, 761, 3, Status::Done)?);
-    assert!(rt; reads(alloc, 1, 762, Status::ReadFault)?);
-    assert!(rt; reads(alloc, 1, 763, Status::Done)?);
+    assert!(rt; reads(&rt, alloc, 100, 10, Status::Done)?);
+    assert!(rt; reads(&rt, alloc, 761, 2, Status::ReadFault)?);
+    assert!(rt; reads(&rt, alloc, 761, 3, Status::Done)?);
+    assert!(rt; reads(&rt, alloc, 1, 762, Status::ReadFault)?);
+    assert!(rt; reads(&rt, alloc, 1, 763, Status::Done)?);
     let words = run_words(alloc)?;
     let text = joined(alloc, &["x\n", START])?;
     let mut source = MemSource::new(text.into_bytes(), 4096, vec![in alloc; 2u64]?);
     let mut sink = MemSink::with_room(alloc, 0, 10, Vec::new(alloc))?;
-    let status = push_main(alloc, words.as_slice(), &mut source, &mut sink);
-    assert_eq!(rt; status, Status::ReadFault);
+    let status = push_main(
+        &rt,
+        alloc,
+        words.as_slice(),
+        &mut source,
+        &mut sink,
+        &NoGate,
+    );
+    assert!(rt; status == Status::ReadFault);
     let text = joined(alloc, &[START, "x\n"])?;
     let mut source = MemSource::new(text.into_bytes(), 4096, Vec::new(alloc));
-    let status = push_main(alloc, words.as_slice(), &mut source, &mut sink);
+    let status = push_main(
+        &rt,
+        alloc,
+        words.as_slice(),
+        &mut source,
+        &mut sink,
+        &NoGate,
+    );
     let kind = ScriptKind::NotJson;
-    assert_eq!(rt; status, Status::BadScript { line: 2, kind });
+    assert!(rt; status == Status::BadScript { line: 2, kind });
     Ok(())
 }
 
 // How a run ends whose sink takes at most so many bytes at a call and fails at a call, and whether so
 // many bytes of the report were written.
-fn writes(
+fn writes<T: Threads + Wait + Sync>(
+    rt: &T,
     alloc: Global,
     most: usize,
     failing: u64,
@@ -117,17 +144,22 @@ fn writes(
     let failing = vec![in alloc; failing]?;
     let mut sink = MemSink::with_room(alloc, 1000, most.max(1), failing)?;
     let words = run_words(alloc)?;
-    let status = push_main(alloc, words.as_slice(), &mut source, &mut sink);
+    let status = push_main(rt, alloc, words.as_slice(), &mut source, &mut sink, &NoGate);
     let bytes = sink.bytes();
     Ok(status == want && bytes.len() == written && REPORT.as_bytes().starts_with(bytes))
 }
 
 // How a run ends whose sink has room for so many bytes.
-fn fits(alloc: Global, room: usize, want: Status) -> Result<bool, NoMemory> {
+fn fits<T: Threads + Wait + Sync>(
+    rt: &T,
+    alloc: Global,
+    room: usize,
+    want: Status,
+) -> Result<bool, NoMemory> {
     let mut source = MemSource::new(script(alloc)?, 4096, Vec::new(alloc));
     let mut sink = MemSink::with_room(alloc, room, 1000, Vec::new(alloc))?;
     let words = run_words(alloc)?;
-    let status = push_main(alloc, words.as_slice(), &mut source, &mut sink);
+    let status = push_main(rt, alloc, words.as_slice(), &mut source, &mut sink, &NoGate);
     let bytes = sink.bytes();
     Ok(status == want && bytes.len() == room && REPORT.as_bytes().starts_with(bytes))
 }
@@ -138,32 +170,36 @@ fn a_write_that_fails_or_finds_no_room_is_told_after_a_prefix_of_the_report(
 ) -> Result<(), Fail> {
     let alloc = rt.alloc();
     assert_eq!(rt; REPORT.len(), 204);
-    assert!(rt; writes(alloc, 40, 3, Status::WriteFault, 80)?);
+    assert!(rt; writes(&rt, alloc, 40, 3, Status::WriteFault, 80)?);
     for (call, written) in [(1, 0), (2, 40), (3, 80), (4, 120), (5, 160), (6, 200)] {
         assert!(rt;
-            writes(alloc, 40, call, Status::WriteFault, written)?,
+            writes(&rt, alloc, 40, call, Status::WriteFault, written)?,
             "call {call}"
         );
     }
-    assert!(rt; writes(alloc, 40, 7, Status::Done, 204)?);
-    assert!(rt; writes(alloc, 1, 204, Status::WriteFault, 203)?);
-    assert!(rt; writes(alloc, 1, 205, Status::Done, 204)?);
-    assert!(rt; fits(alloc, 0, Status::WriteFault)?);
-    assert!(rt; fits(alloc, 3, Status::WriteFault)?);
-    assert!(rt; fits(alloc, 203, Status::WriteFault)?);
-    assert!(rt; fits(alloc, 204, Status::Done)?);
+    assert!(rt; writes(&rt, alloc, 40, 7, Status::Done, 204)?);
+    assert!(rt; writes(&rt, alloc, 1, 204, Status::WriteFault, 203)?);
+    assert!(rt; writes(&rt, alloc, 1, 205, Status::Done, 204)?);
+    assert!(rt; fits(&rt, alloc, 0, Status::WriteFault)?);
+    assert!(rt; fits(&rt, alloc, 3, Status::WriteFault)?);
+    assert!(rt; fits(&rt, alloc, 203, Status::WriteFault)?);
+    assert!(rt; fits(&rt, alloc, 204, Status::Done)?);
     Ok(())
 }
 
 // Whether arguments are refused, with nothing read and nothing written.
-fn are_bad(alloc: Global, texts: &[&str]) -> Result<bool, NoMemory> {
+fn are_bad<T: Threads + Wait + Sync>(
+    rt: &T,
+    alloc: Global,
+    texts: &[&str],
+) -> Result<bool, NoMemory> {
     let mut words = Vec::new(alloc);
     for text in texts {
         words.push(Txt::from_string(String::from_str(alloc, *text)?))?;
     }
     let mut source = MemSource::new(script(alloc)?, 4096, Vec::new(alloc));
     let mut sink = MemSink::with_room(alloc, 1000, 1000, Vec::new(alloc))?;
-    let status = push_main(alloc, words.as_slice(), &mut source, &mut sink);
+    let status = push_main(rt, alloc, words.as_slice(), &mut source, &mut sink, &NoGate);
     let mut first = [0u8; 9];
     let unread = source.read(&mut first) == Got::Bytes(9)
         && first.as_slice() == b"{\"start\":".as_slice();
@@ -173,22 +209,24 @@ fn are_bad(alloc: Global, texts: &[&str]) -> Result<bool, NoMemory> {
 #[test]
 fn other_arguments_are_refused_and_nothing_is_read(rt: HostRuntime) -> Result<(), Fail> {
     let alloc = rt.alloc();
-    assert!(rt; are_bad(alloc, &[])?);
-    assert!(rt; are_bad(alloc, &["run", "--workers", "9"])?);
-    assert!(rt; are_bad(alloc, &["run", "run"])?);
-    assert!(rt; are_bad(alloc, &["--help"])?);
-    assert!(rt; are_bad(alloc, &["trial", "--size", "0"])?);
-    assert!(rt; are_bad(alloc, &["run", ""])?);
+    assert!(rt; are_bad(&rt, alloc, &[])?);
+    assert!(rt; are_bad(&rt, alloc, &["run", "--workers", "9"])?);
+    assert!(rt; are_bad(&rt, alloc, &["live", "--workers", "0"])?);
+    assert!(rt; are_bad(&rt, alloc, &["run", "run"])?);
+    assert!(rt; are_bad(&rt, alloc, &["--help"])?);
+    assert!(rt; are_bad(&rt, alloc, &["trial", "--size", "0"])?);
+    assert!(rt; are_bad(&rt, alloc, &["run", ""])?);
     for word in [
-        "", "Run", "RUN", " run", "run ", "runs", "ru", "start", "--run",
+        "", "Run", "RUN", " run", "run ", "runs", "ru", "lives", "start", "--run",
     ] {
-        assert!(rt; are_bad(alloc, &[word])?, "{word}");
+        assert!(rt; are_bad(&rt, alloc, &[word])?, "{word}");
     }
     Ok(())
 }
 
 // How a run of these words ends on this input, and what it writes.
-fn ends(
+fn ends<T: Threads + Wait + Sync>(
+    rt: &T,
     alloc: Global,
     texts: &[&str],
     input: &[&str],
@@ -202,7 +240,7 @@ fn ends(
     let bytes = joined(alloc, input)?.into_bytes();
     let mut source = MemSource::new(bytes, 4096, Vec::new(alloc));
     let mut sink = MemSink::with_room(alloc, 10_000, 1000, Vec::new(alloc))?;
-    let status = push_main(alloc, words.as_slice(), &mut source, &mut sink);
+    let status = push_main(rt, alloc, words.as_slice(), &mut source, &mut sink, &NoGate);
     Ok(status == want && sink.bytes() == written.as_bytes())
 }
 
@@ -222,15 +260,14 @@ end
 fn streams_are_replayed_and_told_their_first_fault(rt: HostRuntime) -> Result<(), Fail> {
     let alloc = rt.alloc();
     let replay = ["replay"];
-    let done = Status::Done;
-    assert!(rt; ends(alloc, &replay, &[SCHEMA, CHANGES], done, TREE)?);
-    assert!(rt; ends(alloc, &replay, &[SCHEMA], done, "end\n")?);
+    assert!(rt; ends(&rt, alloc, &replay, &[SCHEMA, CHANGES], Status::Done, TREE)?);
+    assert!(rt; ends(&rt, alloc, &replay, &[SCHEMA], Status::Done, "end\n")?);
     let kind = StreamKind::Member;
     let faulty = Status::BadStream { line: 3, kind };
-    assert!(rt; ends(alloc, &replay, &[SCHEMA, CHANGES, MERGE], faulty, "")?);
+    assert!(rt; ends(&rt, alloc, &replay, &[SCHEMA, CHANGES, MERGE], faulty, "")?);
     let kind = ScriptKind::Order;
     let unread = Status::BadScript { line: 1, kind };
-    assert!(rt; ends(alloc, &replay, &[START, SCHEMA], unread, "")?);
+    assert!(rt; ends(&rt, alloc, &replay, &[START, SCHEMA], unread, "")?);
     Ok(())
 }
 
@@ -248,6 +285,82 @@ end
 fn a_trial_reads_nothing_and_comes_to_what_was_worked_out(rt: HostRuntime) -> Result<(), Fail> {
     let alloc = rt.alloc();
     let words = ["--size=1", "trial", "--seed=1"];
-    assert!(rt; ends(alloc, &words, &["x"], Status::Done, TRIAL)?);
+    assert!(rt; ends(&rt, alloc, &words, &["x"], Status::Done, TRIAL)?);
+    Ok(())
+}
+
+#[test]
+fn threads_write_the_report_of_a_run(rt: HostRuntime) -> Result<(), Fail> {
+    let alloc = rt.alloc();
+    let input = [START, SCHEMA, RECEIVER, ESTABLISH];
+    for words in [
+        &["live"][..],
+        &["live", "--workers", "1"],
+        &["--workers=8", "live"],
+    ] {
+        assert!(rt; ends(&rt, alloc, words, &input, Status::Done, REPORT)?);
+    }
+    Ok(())
+}
+
+const BY_COMMAND: &str = r#"{"receiver":{"name":"r2","user":"bob","queue":1,"take":"command"}}
+"#;
+
+const LATER: &str = r#"{"receiver":{"name":"r3","user":"ann","queue":1,"take":"command"}}
+"#;
+
+// The status that tells a receiver.
+fn manual(alloc: Global, name: &str) -> Result<Status, NoMemory> {
+    Ok(Status::Manual {
+        receiver: Txt::from_string(String::from_str(alloc, name)?),
+    })
+}
+
+#[test]
+fn the_first_receiver_that_takes_by_command_is_told_where_threads_were_to_run(
+    rt: HostRuntime,
+) -> Result<(), Fail> {
+    let alloc = rt.alloc();
+    let input = [START, SCHEMA, RECEIVER, BY_COMMAND, LATER, ESTABLISH];
+    let told = manual(alloc, "r2")?;
+    assert!(rt; ends(&rt, alloc, &["live"], &input, told, "")?);
+    let told = manual(alloc, "r3")?;
+    assert!(rt;
+        ends(
+            &rt,
+            alloc,
+            &["live"],
+            &[START, SCHEMA, LATER, BY_COMMAND],
+            told,
+            ""
+        )?
+    );
+    assert!(rt; ends(&rt, alloc, &["run"], &input, Status::Done, REPORT)?);
+    let kind = ScriptKind::NotJson;
+    let faulty = Status::BadScript { line: 4, kind };
+    assert!(rt;
+        ends(
+            &rt,
+            alloc,
+            &["live"],
+            &[START, SCHEMA, BY_COMMAND, "x\n"],
+            faulty,
+            ""
+        )?
+    );
+    let text = joined(alloc, &[START, SCHEMA, BY_COMMAND])?;
+    let mut source = MemSource::new(text.into_bytes(), 4096, vec![in alloc; 2u64]?);
+    let mut sink = MemSink::with_room(alloc, 0, 10, Vec::new(alloc))?;
+    let mut words = Vec::new(alloc);
+    words.push(Txt::from_string(String::from_str(alloc, "live")?))?;
+    let status = push_main(
+        &rt,
+        alloc,
+        words.as_slice(),
+        &mut source,
+        &mut sink,
+        &NoGate,
+    );
+    assert!(rt; status == Status::ReadFault);
     Ok(())
 }

@@ -1,12 +1,16 @@
 -- What some words say, by computing it.
 use Rattle.std.proofs.Common.{◌≡◌, [], ◌∷◌, Some, None, codes, refl}
 use Rattle.clap.proofs.OnLiterals.{clap_on_literals}
-use Rattle.yp_words.specs.declared.words.Mode.TheVariants.{Run, Trial}
+use Rattle.yp_words.specs.declared.words.Mode.TheVariants.{Run, Live, Trial}
 use Rattle.yp_words.specs.Words.{words_in}
 
 pub mode_alone : words_in (codes "run" ∷ []) ≡ Some (record { mode = Run; workers = 2; seed = 1; size = 100 })
 unfolding clap_on_literals
 mode_alone = refl
+
+pub with_workers : words_in (codes "live" ∷ codes "--workers" ∷ codes "8" ∷ []) ≡ Some (record { mode = Live; workers = 8; seed = 1; size = 100 })
+unfolding clap_on_literals
+with_workers = refl
 
 pub options_around : words_in (codes "--size=1" ∷ codes "trial" ∷ codes "--seed=1" ∷ []) ≡ Some (record { mode = Trial; workers = 2; seed = 1; size = 1 })
 unfolding clap_on_literals
@@ -24,7 +28,7 @@ pub no_words : words_in [] ≡ None
 unfolding clap_on_literals
 no_words = refl
 
-pub no_mode : words_in (codes "live" ∷ []) ≡ None
+pub no_mode : words_in (codes "lives" ∷ []) ≡ None
 unfolding clap_on_literals
 no_mode = refl
 

@@ -9,7 +9,7 @@ use Rattle.clap.specs.ValueTests.{accepts}
 use Rattle.clap.specs.Walk.{Row, Rule, Text, first_of, one_of}
 use Rattle.clap.specs.declared.builder.value_parser.ValueParser.TheVariants as vp
 use Rattle.yp_words.specs.declared.words.Mode.{Mode}
-use Rattle.yp_words.specs.declared.words.Mode.TheVariants.{Run, Replay, Gen, Trial}
+use Rattle.yp_words.specs.declared.words.Mode.TheVariants.{Run, Live, Replay, Gen, Trial}
 use Rattle.yp_words.specs.declared.words.Words.{Words}
 
 -- ---- the command
@@ -21,7 +21,7 @@ pub record NumberOption : Type 0 where
   pub most : ℕ
   pub default : ℕ
 
--- `--workers N`: how many workers
+-- `--workers N`: how many workers follow the journal of a live run
 abbrev pub workers_option : NumberOption
 workers_option = record { name = codes "workers"; least = 1; most = 8; default = 2 }
 
@@ -59,9 +59,10 @@ push_app = with_rule (with_rule (with_rule (with_rule (on_top push_settings (new
 abbrev pub mode_named : Text → Option Mode
 mode_named name =
     if pointwise nat_eq name (codes "run") then Some Run else
+    (if pointwise nat_eq name (codes "live") then Some Live else
     (if pointwise nat_eq name (codes "replay") then Some Replay else
     (if pointwise nat_eq name (codes "gen") then Some Gen else
-    (if pointwise nat_eq name (codes "trial") then Some Trial else None)))
+    (if pointwise nat_eq name (codes "trial") then Some Trial else None))))
 
 -- the number that a text is, within bounds: decimal digits, with or without a plus before them
 abbrev pub number_within : ℕ → ℕ → Text → Option ℕ

@@ -12,11 +12,12 @@ const VERSION: &str = "0.1.0";
 const ABOUT: &str = "A YANG-Push publisher (RFC 8641) with its receivers, run by a script";
 
 const MODE: &str = "run: reads a script, writes the report of its run{n}\
+    live: reads a script, runs its lanes, workers and receivers by threads, writes the report of that run{n}\
     replay: reads a schema and a receiver's notifications, writes the trees that they make{n}\
     gen: writes a script that is drawn from the seed{n}\
     trial: runs such a script, writes a summary";
 
-const WORKERS: &str = "How many workers, 1 to 8; no mode uses it yet [default: 2]";
+const WORKERS: &str = "How many workers live runs, 1 to 8 [default: 2]";
 
 const SEED: &str = "From which number gen and trial draw, 0 to 4294967295 [default: 1]";
 

@@ -16,14 +16,17 @@ fn words_of(alloc: Global, line: &str) -> Result<Vec<Txt>, AllocError> {
 }
 
 // A line, and the mode, the workers, the seed and the size that it says.
-const GOOD: [(&str, Mode, u32, u32, u32); 14] = [
+const GOOD: [(&str, Mode, u32, u32, u32); 17] = [
     ("run", Mode::Run, 2, 1, 100),
+    ("live", Mode::Live, 2, 1, 100),
     ("replay", Mode::Replay, 2, 1, 100),
     ("gen", Mode::Gen, 2, 1, 100),
     ("trial", Mode::Trial, 2, 1, 100),
     ("-- trial", Mode::Trial, 2, 1, 100),
     ("run --workers 2 --seed 5 --size 7", Mode::Run, 2, 5, 7),
     ("--size=1 trial --seed=1", Mode::Trial, 2, 1, 1),
+    ("live --workers 8", Mode::Live, 8, 1, 100),
+    ("--workers=+01 --seed 5 live", Mode::Live, 1, 5, 100),
     ("--workers=1 --size 10000 replay", Mode::Replay, 1, 1, 10000),
     (
         "--seed 4294967295 gen --workers 8",
@@ -45,9 +48,10 @@ const GOOD: [(&str, Mode, u32, u32, u32); 14] = [
     ),
 ];
 
-const BAD: [&str; 32] = [
+const BAD: [&str; 35] = [
     "",
-    "live",
+    "lives",
+    "Live",
     "Run",
     "run ",
     "help",
@@ -55,10 +59,12 @@ const BAD: [&str; 32] = [
     "-- --help",
     "run run",
     "run gen",
+    "run live",
     "--run",
     "-x run",
     "run --other",
     "run --workers 9",
+    "live --workers 0",
     "run --workers 0",
     "run --workers=",
     "run --workers 1 --workers 2",
@@ -129,10 +135,12 @@ fn help_names_each_mode_and_option(rt: HostRuntime) -> Result<(), Fail> {
     let parts = [
         "Usage: push [OPTIONS] <MODE>",
         "run:",
+        "live:",
         "replay:",
         "gen:",
         "trial:",
         "--workers <N>",
+        "How many workers live runs, 1 to 8 [default: 2]",
         "--seed <N>",
         "--size <N>",
     ];

@@ -15,6 +15,8 @@ use yp_base::txt::Txt;
 pub enum Mode {
     /// Reads a script, and writes the report of its run.
     Run,
+    /// Runs the lanes, workers and receivers of a script by threads, and writes the report of that run.
+    Live,
     /// Reads a schema and the notifications of a receiver, and writes the trees that they make.
     Replay,
     /// Writes a script that is drawn from a seed.
@@ -50,6 +52,7 @@ fn mode_of(name: &str) -> Option<Mode>
 {
     match name {
         "run" => Some(Mode::Run),
+        "live" => Some(Mode::Live),
         "replay" => Some(Mode::Replay),
         "gen" => Some(Mode::Gen),
         "trial" => Some(Mode::Trial),

@@ -1,6 +1,6 @@
 use Rattle.push_program.specs.Answers.{Streams}
 use Rattle.push_program.specs.Jobs.{job_in}
-use Rattle.push_program.proofs.StatusLaws.{words_told, unread_told, aside_told, done_told, end_told, read_told, script_told, stream_told, reading_told, writing_told, front_told, unwritten_told, complete_told}
+use Rattle.push_program.proofs.StatusLaws.{words_told, unread_told, aside_told, done_told, end_told, read_told, script_told, stream_told, manual_told, reading_told, writing_told, front_told, unwritten_told, complete_told}
 use Rattle.push_program.proofs.top.push_main.Goals as goal
 
 pub returns-clause-words : goal.returns-clause-words
@@ -114,6 +114,20 @@ returns-clause-stream g c =
       write_faults_after = g.K.Sink.faults c.answer_words.new.sink;
     } in
     stream_told (job_in c.args.words.now) s c.answer_words.result c.answer_words.ensures
+
+pub returns-clause-manual : goal.returns-clause-manual
+returns-clause-manual g c =
+    let s : Streams = record {
+      left_before = g.S.Source.left c.args.source.now;
+      left_after = g.S.Source.left c.answer_words.new.source;
+      written_before = g.K.Sink.written c.args.sink.now;
+      written_after = g.K.Sink.written c.answer_words.new.sink;
+      read_faults_before = g.S.Source.faults c.args.source.now;
+      read_faults_after = g.S.Source.faults c.answer_words.new.source;
+      write_faults_before = g.K.Sink.faults c.args.sink.now;
+      write_faults_after = g.K.Sink.faults c.answer_words.new.sink;
+    } in
+    manual_told (job_in c.args.words.now) s c.answer_words.result c.answer_words.ensures
 
 pub returns-clause-reading : goal.returns-clause-reading
 returns-clause-reading g c =

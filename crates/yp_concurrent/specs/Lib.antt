@@ -1,0 +1,4 @@
+pub mod Promise
+pub mod Report
+pub mod Running
+pub mod Texts

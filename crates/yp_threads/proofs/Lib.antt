@@ -1,0 +1,5 @@
+pub mod Crossing
+pub mod Interleaving
+pub mod Lists
+pub mod Starting
+pub mod Writing
