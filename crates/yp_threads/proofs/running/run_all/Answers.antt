@@ -21,9 +21,22 @@ join-served-requires-send-F g c κs within =
     (record { mir = named 6; lft = κs.1.1.1.1.1.1.0 }) (record { mir = named 7; lft = κs.1.1.1.1.1.1.1.0 }) (record { mir = named 8; lft = κs.1.1.1.1.1.1.1.1.0 })
     (record { mir = named 9; lft = κs.1.1.1.1.1.1.1.1.1.0 }) (record { mir = named 10; lft = κs.1.1.1.1.1.1.1.1.1.1.0 }) in
     let name = lts.name-57 g.row.J g.row.T g.row.G g.J.laws g.T.laws g.G.laws g.J.Naming g.J.Naming-dict g.J.Ledger g.J.Ledger-dict g.T.Threads g.T.Threads-dict g.T.Wait g.T.Wait-dict g.G.Gate g.G.Gate-dict in
-    let each : AllSend parts =
-    (shr_send _ _ _ c.type_bounds.sync-T, (heap.the_send, (shr_send _ _ _ schema.the_sync, (shr_send _ _ _ c.type_bounds.sync-G, (search (crosses, sendable) depth 60 fits 20000,
-    (search (crosses, sendable) depth 60 fits 20000, (jobs_send (param 0 g.row.J) g.J.Naming g.J.Ledger, tt))))))) in
+    let each : AllSend parts = (
+      shr_send _ _ _ c.type_bounds.sync-T,
+      (
+        heap.the_send,
+        (
+          shr_send _ _ _ schema.the_sync,
+          (
+            shr_send _ _ _ c.type_bounds.sync-G,
+            (
+              search (crosses, sendable) depth 60 fits 20000,
+              (search (crosses, sendable) depth 60 fits 20000, (jobs_send (param 0 g.row.J) g.J.Naming g.J.Ledger, tt)),
+            ),
+          ),
+        ),
+      ),
+    ) in
     param_send _ _ (arg_send _ no _ (recorded_send (field_at name parts).row _ _ (type_at name parts).to_one (struct_send (shape (type_at name parts)) each)))
 
 pub join-served-requires-send-A : goal.join-served-requires-send-A
