@@ -1,7 +1,5 @@
-//! Lanes, workers and receivers by threads.
+//! A script that threads run.
 #![tactic(auto)]
 
-#[cfg(test)]
-mod beside;
 #[cfg(test)]
 mod report;
