@@ -4,7 +4,7 @@ use case_frame::given::{self, part};
 use case_frame::shown::{Answer, Told};
 use serde_json::Value as Json;
 use std::alloc::Global;
-use yp_base::atom::Keys;
+use yp_base::keys::Keys;
 use yp_base::memory::Duplicate;
 use yp_base::notice::{Change, ChangeKind, Changes, Notice};
 use yp_base::series::Series;

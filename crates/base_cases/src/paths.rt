@@ -49,9 +49,9 @@ fn copied_rows(alloc: Global, json: &Json) -> OrFault<String> {
     shown::rows(alloc, &copy)
 }
 
-/// The path below a shared one.
+/// The path below another.
 fn below(alloc: Global, arguments: &Json) -> OrFault<String> {
-    let above = given::path(alloc, part(arguments, "path")?)?.share(alloc)?;
+    let above = given::path(alloc, part(arguments, "path")?)?;
     let segment = given::segment(alloc, part(arguments, "segment")?)?;
     shown::path(alloc, &above.below(alloc, segment)?)
 }
@@ -60,7 +60,7 @@ fn below(alloc: Global, arguments: &Json) -> OrFault<String> {
 fn first(alloc: Global, arguments: &Json) -> OrFault<String> {
     let path = given::path(alloc, part(arguments, "path")?)?;
     let count = given::size(part(arguments, "count")?)?;
-    shown::path(alloc, &path.first(alloc, count)?)
+    shown::path(alloc, &path.first(count)?)
 }
 
 /// How two paths compare.

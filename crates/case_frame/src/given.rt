@@ -2,12 +2,13 @@
 use crate::fault::{CaseFault, OrFault};
 use serde_json::Value as Json;
 use std::alloc::Global;
-use yp_base::atom::{Atom, Keys};
+use yp_base::atom::Atom;
+use yp_base::keys::Keys;
 use yp_base::notice::Kinds;
 use yp_base::path::{Path, Seg};
 use yp_base::row::{Row, Rows, Value};
 use yp_base::series::Series;
-use yp_base::txt::Txt;
+use yp_base::txt::{Txt, text_of};
 use yp_value::json::member;
 
 /// The argument of a name.
@@ -61,7 +62,7 @@ pub fn pair(json: &Json) -> OrFault<(&Json, &Json)> {
 
 /// The text of an argument, kept.
 pub fn txt(alloc: Global, json: &Json) -> OrFault<Txt> {
-    Ok(Txt::from_string(String::from_str(alloc, text(json)?)?))
+    Ok(text_of(alloc, text(json)?)?)
 }
 
 /// A value that stands alone: `true`, `7`, `"lo"`, `{"int":-7}` or `{"dec":[-50,2]}`.
@@ -95,7 +96,7 @@ pub fn keys(alloc: Global, json: &[Json]) -> OrFault<Keys> {
     for each in json {
         keys.push(atom(alloc, each)?)?;
     }
-    Ok(Series::from_vec(keys))
+    Ok(Keys::from_vec(alloc, keys)?)
 }
 
 /// A segment: the number of its node, and its keys.
@@ -112,7 +113,7 @@ pub fn path(alloc: Global, json: &Json) -> OrFault<Path> {
     for each in items(json)? {
         segments.push(segment(alloc, each)?)?;
     }
-    Ok(Path::from_vec(segments))
+    Ok(Path::from_vec(alloc, segments)?)
 }
 
 /// What a row holds: an atom, `["member"]`, `["empty"]` or `["present"]`.

@@ -2,7 +2,8 @@
 use crate::fault::{CaseFault, OrFault};
 use serde_json::Value as Json;
 use std::alloc::{AllocError, Global};
-use yp_base::atom::{Atom, Keys};
+use yp_base::atom::Atom;
+use yp_base::keys::Keys;
 use yp_base::leaf_type::{LeafType, Names};
 use yp_base::path::{Path, Seg};
 use yp_base::row::{Rows, Value};

@@ -32,7 +32,7 @@ fn place(alloc: Global, schema: &Schema, text: &str) -> OrFault<Path>
     ensures { IfOk result (λ path. is_place schema.now path ≡ true) }
 {
     if text.is_empty() {
-        return Ok(Path::from_vec(Vec::new(alloc)));
+        return or_bad(Path::top(alloc));
     }
     let path = or_bad(read_target(alloc, schema, text))?;
     if schema.ends_in_key(&path) {

@@ -6,6 +6,7 @@ use std::alloc::Global;
 use yp_base::memory::NoMemory;
 use yp_base::path::Path;
 use yp_cause::paths::{member_text, path_text};
+use yp_cause::values::value_text;
 use yp_data_json::at_path::read_payload;
 use yp_data_json::fault::{DataError, DataFault};
 use yp_patch::patch::{Edit, EditOp};
@@ -54,6 +55,11 @@ fn value_cause(alloc: Global, schema: &Schema, error: &DataError) -> Result<Stri
     let fault = error.fault;
     if fault == DataFault::Memory {
         return Err(NoMemory);
+    }
+    if fault == DataFault::InvalidValue {
+        if let Some(text) = value_text(alloc, schema, error.node)? {
+            return Ok(format!(in alloc; "{fault}: {text}")?);
+        }
     }
     let at = member_text(schema, error.node);
     Ok(match &error.member {
@@ -114,7 +120,9 @@ fn escaped(alloc: Global, schema: &Schema, target: &str) -> Result<Option<String
         let whole = format!(in alloc; "{front}={written}")?;
         match read_target(alloc, schema, whole.as_str()) {
             Ok(_) => {
-                return Ok(Some(format!(in alloc; "; a `/` in a key is escaped: write `{whole}`")?));
+                return Ok(Some(format!(in alloc;
+                    "; if the `/` belongs to the key, write `{whole}`"
+                )?));
             }
             Err(error) => {
                 if error.fault == PathFault::Memory {

@@ -95,7 +95,12 @@ fn word_at(rt: &HostRuntime, number: usize) -> Result<Option<Txt>, Status> {
     let mut room = ROOM;
     for _ in 0..usize::BITS {
         match word_within(rt, number, room)? {
-            Fetched::Word(word) => return Ok(Some(Txt::from_string(word))),
+            Fetched::Word(word) => {
+                return match Txt::from_string(rt.alloc(), word) {
+                    Ok(word) => Ok(Some(word)),
+                    Err(_) => Err(Status::NoMemory),
+                };
+            }
             Fetched::Longer => room = room.saturating_mul(2),
             Fetched::Nothing => return Ok(None),
         }

@@ -6,7 +6,7 @@ use std::sync::Wait;
 use std::test::Fail;
 use std::thread::Threads;
 use yp_base::memory::NoMemory;
-use yp_base::txt::Txt;
+use yp_base::txt::{Txt, text_of};
 use yp_command::fault::ScriptKind;
 use yp_gate::NoGate;
 use yp_io::memory::{MemSink, MemSource};
@@ -44,7 +44,7 @@ fn joined(alloc: Global, lines: &[&str]) -> Result<String, NoMemory> {
 
 // The one argument `run`.
 fn run_words(alloc: Global) -> Result<Vec<Txt>, NoMemory> {
-    let word = Txt::from_string(String::from_str(alloc, "run")?);
+    let word = text_of(alloc, "run")?;
     let mut words = Vec::new(alloc);
     words.push(word)?;
     Ok(words)
@@ -195,7 +195,7 @@ fn are_bad<T: Threads + Wait + Sync>(
 ) -> Result<bool, NoMemory> {
     let mut words = Vec::new(alloc);
     for text in texts {
-        words.push(Txt::from_string(String::from_str(alloc, *text)?))?;
+        words.push(text_of(alloc, *text)?)?;
     }
     let mut source = MemSource::new(script(alloc)?, 4096, Vec::new(alloc));
     let mut sink = MemSink::with_room(alloc, 1000, 1000, Vec::new(alloc))?;
@@ -235,7 +235,7 @@ fn ends<T: Threads + Wait + Sync>(
 ) -> Result<bool, NoMemory> {
     let mut words = Vec::new(alloc);
     for text in texts {
-        words.push(Txt::from_string(String::from_str(alloc, *text)?))?;
+        words.push(text_of(alloc, *text)?)?;
     }
     let bytes = joined(alloc, input)?.into_bytes();
     let mut source = MemSource::new(bytes, 4096, Vec::new(alloc));
@@ -312,7 +312,7 @@ const LATER: &str = r#"{"receiver":{"name":"r3","user":"ann","queue":1,"take":"c
 // The status that tells a receiver.
 fn manual(alloc: Global, name: &str) -> Result<Status, NoMemory> {
     Ok(Status::Manual {
-        receiver: Txt::from_string(String::from_str(alloc, name)?),
+        receiver: text_of(alloc, name)?,
     })
 }
 
@@ -352,7 +352,7 @@ fn the_first_receiver_that_takes_by_command_is_told_where_threads_were_to_run(
     let mut source = MemSource::new(text.into_bytes(), 4096, vec![in alloc; 2u64]?);
     let mut sink = MemSink::with_room(alloc, 0, 10, Vec::new(alloc))?;
     let mut words = Vec::new(alloc);
-    words.push(Txt::from_string(String::from_str(alloc, "live")?))?;
+    words.push(text_of(alloc, "live")?)?;
     let status = push_main(
         &rt,
         alloc,

@@ -1,5 +1,5 @@
 //! The text of each job.
-ghost use Rattle.std.specs.Prelude.{◌≡◌, ◌<◌, ◌≤◌, ℕ, List, Ok, IfOk, IfErr, false, length};
+ghost use Rattle.std.specs.Prelude.{◌≡◌, ◌<◌, ◌≤◌, ℕ, List, Ok, IfOk, IfErr, false, length, string_bytes};
 ghost use Rattle.yp_gen.specs.Scripts.{script_text};
 ghost use Rattle.yp_script.specs.Lines.{line_limit};
 ghost use Rattle.yp_script.specs.Script.{AreReceivers, MayRun, count_commands, script_in};
@@ -26,13 +26,27 @@ use yp_script::fault::ScriptFault;
 use yp_script::reading::read_script;
 use yp_script::script::Script;
 
+/// The text of a string that was made whole.
+fn whole(alloc: Global, text: String) -> Result<Txt, NoText>
+    ensures text { IfOk result (λ whole. whole ≡ string_bytes text) }
+    ensures fault { IfErr result (λ fault. fault ≡ Memory) }
+{
+    match Txt::from_string(alloc, text) {
+        Ok(text) => Ok(text),
+        Err(_) => Err(NoText::Memory),
+    }
+}
+
 /// The report of the script that bytes are, or its first fault.
 fn run_text(alloc: Global, bytes: &[u8]) -> Result<Txt, NoText>
     ensures { Makes Run bytes.now result }
 {
     match read_script(alloc, bytes) {
         Ok(script) => match report_of_script(alloc, script) {
-            Ok(text) => Ok(Txt::from_string(text)),
+            Ok(text) => {
+                let report = whole(alloc, text)?;
+                Ok(report)
+            }
             Err(_) => Err(NoText::Memory),
         },
         Err(ScriptFault::At { line, kind: flaw }) => Err(NoText::Script {
@@ -61,7 +75,10 @@ fn threads_text<T: Threads + Wait + Sync, G: Gate>(
     match first_manual(alloc, &script.receivers) {
         Ok(Some(receiver)) => Err(NoText::Manual { receiver }),
         Ok(None) => match report_beside(rt, alloc, gate, script, workers) {
-            Ok(text) => Ok(Txt::from_string(text)),
+            Ok(text) => {
+                let report = whole(alloc, text)?;
+                Ok(report)
+            }
             Err(_) => Err(NoText::Memory),
         },
         Err(_) => Err(NoText::Memory),
@@ -95,7 +112,10 @@ fn stream_text(alloc: Global, bytes: &[u8]) -> Result<Txt, NoText>
     ensures { Makes Replay bytes.now result }
 {
     match replay_text(alloc, bytes) {
-        Ok(text) => Ok(Txt::from_string(text)),
+        Ok(text) => {
+            let trees = whole(alloc, text)?;
+            Ok(trees)
+        }
         Err(ReplayFault::Script { line, kind }) => Err(NoText::Script { line, kind }),
         Err(ReplayFault::Stream { line, kind }) => Err(NoText::Stream { line, kind }),
         Err(ReplayFault::Memory) => Err(NoText::Memory),
@@ -125,7 +145,10 @@ fn trial_text(alloc: Global, seed: u32, size: u32) -> Result<Txt, NoText>
     let text = drawn_text(alloc, seed, size)?;
     match read_script(alloc, text.as_str().as_bytes()) {
         Ok(script) => match summary_of_script(alloc, script) {
-            Ok(text) => Ok(Txt::from_string(text)),
+            Ok(text) => {
+                let report = whole(alloc, text)?;
+                Ok(report)
+            }
             Err(_) => Err(NoText::Memory),
         },
         Err(ScriptFault::At { .. }) => unreachable!(),

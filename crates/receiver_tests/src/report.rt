@@ -17,7 +17,7 @@ use yp_edit::fault::Tag;
 use yp_journal::reply::Reply;
 use yp_receiver::holdings::Holdings;
 use yp_report::replied::Replied;
-use yp_report::replies::push_replies;
+use yp_report::replies::replies_text;
 use yp_report::texts::join_texts;
 use yp_report::trees::push_trees;
 use yp_schema::schema::Schema;
@@ -35,10 +35,9 @@ fn refused_edit(alloc: Global) -> Result<Reply, NoMemory> {
     })
 }
 
-#[test]
-fn each_reply_has_its_position_and_its_lane(rt: HostRuntime) -> Result<(), Fail> {
-    let alloc = rt.alloc();
-    let replies = [
+/// Replies of two lanes, and of none.
+fn some_replies(alloc: Global) -> Result<Vec<Replied>, NoMemory> {
+    Ok(vec![in alloc;
         Replied {
             lane: 0,
             index: 1,
@@ -59,9 +58,13 @@ fn each_reply_has_its_position_and_its_lane(rt: HostRuntime) -> Result<(), Fail>
             index: 2,
             reply: Reply::Registry(Refused::InvalidId),
         },
-    ];
-    let mut text = String::new(alloc);
-    push_replies(alloc, &mut text, &replies)?;
+    ]?)
+}
+
+#[test]
+fn each_reply_has_its_position_and_its_lane(rt: HostRuntime) -> Result<(), Fail> {
+    let alloc = rt.alloc();
+    let text = replies_text(alloc, some_replies(alloc)?)?;
     assert_eq!(rt; text.as_str(), REPLIES);
     Ok(())
 }

@@ -104,7 +104,7 @@ fn place_word(place: Option<Place>) -> &'static str {
 pub fn tree_of(alloc: Global, schema: &Schema, data: &Json) -> OrFault<Tree>
     ensures { IfOk result (λ tree. IsDatastore schema.now tree) }
 {
-    let top = Path::from_vec(Vec::new(alloc));
+    let top = Path::top(alloc)?;
     let rows = or_bad(read_rows(alloc, schema, &top, data))?;
     let mut tree = Tree::new(alloc);
     tree.renew(alloc, &top, &rows)?;
@@ -181,7 +181,7 @@ fn outcome(alloc: Global, schema: &Schema, changed: &Changed, tree: Tree) -> OrF
 pub fn data_of(alloc: Global, schema: &Schema, rows: &Rows) -> OrFault<String>
     requires { AreWritable schema.now [] rows.now }
 {
-    let top = Path::from_vec(Vec::new(alloc));
+    let top = Path::top(alloc)?;
     let mut text = String::new(alloc);
     push_rows(alloc, schema, &mut text, &top, rows)?;
     Ok(text)

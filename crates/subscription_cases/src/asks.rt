@@ -11,7 +11,7 @@ use std::alloc::Global;
 use yp_base::leaf_type::Names;
 use yp_base::notice::Trigger;
 use yp_base::series::Series;
-use yp_base::txt::Txt;
+use yp_base::txt::{Txt, text_of};
 use yp_terms::ask::{Amend, Ask, FilterAsk};
 use yp_value::json::member;
 use yp_value::payload::Payload;
@@ -23,7 +23,7 @@ const LAST_TICK: u64 = 1_000_000_000_000;
 pub fn texts(alloc: Global, json: &Json) -> OrFault<Names> {
     let mut texts = Vec::new(alloc);
     for each in items(json)? {
-        texts.push(Txt::from_string(String::from_str(alloc, text(each)?)?))?;
+        texts.push(text_of(alloc, text(each)?)?)?;
     }
     Ok(Series::from_vec(texts))
 }
@@ -61,7 +61,7 @@ fn named_or(alloc: Global, json: &Json, name: &str, or: &str) -> OrFault<Txt> {
         Some(given) => text(given)?,
         None => or,
     };
-    Ok(Txt::from_string(String::from_str(alloc, text)?))
+    Ok(text_of(alloc, text)?)
 }
 
 /// The filter of an ask: of `xpath` an XPath filter, of `subtree` the JSON that stands there.

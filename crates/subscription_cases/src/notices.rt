@@ -63,7 +63,7 @@ fn notice(alloc: Global, schema: &Schema, json: &Json) -> OrFault<Notice>
 fn full(alloc: Global, schema: &Schema, body: &Json) -> OrFault<Notice>
     ensures { IfOk result (IsSendable schema.now) }
 {
-    let top = Path::from_vec(Vec::new(alloc));
+    let top = Path::top(alloc)?;
     let rows = rows(alloc, schema, &top, part(body, "data")?)?;
     let id = id(part(body, "id")?)?;
     Ok(Notice::Full { id, rows })

@@ -8,9 +8,9 @@ pub mod Order
 pub mod OrderLaws
 pub mod PathLaws
 pub mod Paths
+pub mod Places
 pub mod Prefixes
 pub mod Results
 pub mod RowLaws
 pub mod Rows
 pub mod Types
-pub mod Ways

@@ -1,5 +1,4 @@
 //! Values that stand alone.
-ghost use Rattle.std.specs.Prelude.{◌≡◌, IfOk};
 ghost use Rattle.std.specs.Ordering.{eq_by_cmp, as_partial_cmp};
 ghost use Rattle.std.specs.Cmp.{partial_equiv_from_equiv, partial_order_from_total};
 ghost use Rattle.std.proofs.lemmas.Cmp.{eq_by_cmp_equiv};
@@ -8,7 +7,6 @@ ghost use Rattle.yp_base.specs.Order.{atom_cmp};
 ghost use Rattle.yp_base.specs.OrderLaws.{atoms_total};
 
 use crate::memory::{Duplicate, NoMemory};
-use crate::series::Series;
 use crate::txt::Txt;
 use std::alloc::Global;
 use std::cmp::Ordering;
@@ -20,23 +18,8 @@ pub enum Atom {
     Bool(bool),
     Int(i64),
     Uint(u64),
-    Dec { units: i64, places: u8 },
+    Dec { places: u8, units: i64 },
     Text(Txt),
-}
-
-/// The keys of a list entry, in the order of the schema, or the one value of a leaf-list entry.
-pub type Keys = Series<Atom>;
-
-impl Atom {
-    /// The same value, whose copies take no memory.
-    pub fn share(self, alloc: Global) -> Result<Atom, NoMemory>
-        ensures { IfOk result (λ atom. atom ≡ self) }
-    {
-        match self {
-            Atom::Text(text) => Ok(Atom::Text(text.share(alloc)?)),
-            other => Ok(other),
-        }
-    }
 }
 
 impl Duplicate for Atom {

@@ -1,7 +1,7 @@
 //! What a receiver is told: updates and changes of a subscription's state.
 ghost use Rattle.std.specs.Prelude.{◌≡◌, IfOk};
 
-use crate::atom::Keys;
+use crate::keys::Keys;
 use crate::memory::{Duplicate, NoMemory};
 use crate::path::Path;
 use crate::row::Rows;

@@ -9,7 +9,7 @@ ghost use Rattle.yp_base.specs.Order.{IsPrefixOf, is_within, segment_cmp, path_c
 ghost use Rattle.yp_base.specs.OrderLaws.{paths_total, segments_total};
 ghost use Rattle.yp_base.specs.Paths.{is_covered};
 
-use crate::atom::Keys;
+use crate::keys::Keys;
 use crate::memory::{Duplicate, NoMemory};
 use crate::series::copies_of;
 use std::alloc::Global;
@@ -25,122 +25,71 @@ pub struct Seg {
     pub keys: Keys,
 }
 
-impl Seg {
-    /// The same step, whose copies share its keys.
-    pub fn share(self, alloc: Global) -> Result<Seg, NoMemory>
-        ensures { IfOk result (λ segment. segment ≡ self) }
-    {
-        let Seg { node, keys } = self;
-        if keys.items().is_empty() {
-            return Ok(Seg { node, keys });
-        }
-        Ok(Seg {
-            node,
-            keys: keys.share(alloc)?,
-        })
-    }
-}
-
-/// Where the segments of a path lie.
-#[derive(Drop)]
-enum Way {
-    Own(Vec<Seg>),
-    /// The first so many of these.
-    Shared {
-        len: u32,
-        segments: Arc<Vec<Seg>, Global>,
-    },
-}
-
-/// The way from the top to a node, an entry or a leaf. The empty path is the whole datastore. Once a path is shared, a copy
-/// of it and a path above it take no memory.
+/// The way from the top to a node, an entry or a leaf. The empty path is the whole datastore. A copy of a path and a path
+/// above it share its segments, and take no memory.
 ///
 /// Contracts see the list of its segments.
 #[derive(Drop)]
 pub struct Path {
-    way: Way,
+    len: usize,
+    /// Its segments are the first so many of these.
+    segments: Arc<Vec<Seg>, Global>,
 }
 
 impl Model for Path {
-    ghost use Rattle.std.specs.Prelude.{List};
-    ghost use Rattle.yp_base.specs.Ways.{way_segments};
+    ghost use Rattle.std.specs.Arc.{arc_value};
+    ghost use Rattle.std.specs.Prelude.{List, take};
     ghost use Rattle.yp_base.specs.declared.path.Seg.{Seg};
 
     ghost Value = { List Seg };
 
-    ghost view = { λ p. way_segments p.way };
+    ghost view = { λ p. take p.len (arc_value p.segments).items };
 }
 
 impl Path {
-    /// The path of these segments. It takes no memory.
-    pub fn from_vec(segments: Vec<Seg>) -> Path
-        ensures { result ≡ segments.items }
+    /// The path of these segments, to be shared by its copies.
+    pub fn from_vec(alloc: Global, segments: Vec<Seg>) -> Result<Path, NoMemory>
+        ensures { IfOk result (λ path. path ≡ segments.items) }
     {
-        Path {
-            way: Way::Own(segments),
-        }
+        Ok(Path {
+            len: segments.len(),
+            segments: Arc::new(alloc, segments)?,
+        })
     }
 
-    /// The same path, whose copies share its segments, and so do the paths above it. One of more segments than 32 bits count
-    /// stays as it is.
-    pub fn share(self, alloc: Global) -> Result<Path, NoMemory>
-        ensures { IfOk result (λ path. path ≡ self) }
+    /// The path of the whole datastore.
+    pub fn top(alloc: Global) -> Result<Path, NoMemory>
+        ensures { IfOk result (λ path. path ≡ []) }
     {
-        let Path { way } = self;
-        let way = match way {
-            Way::Own(segments) => match u32::try_from(segments.len()) {
-                Ok(len) => Way::Shared {
-                    len,
-                    segments: Arc::new(alloc, segments)?,
-                },
-                Err(_) => Way::Own(segments),
-            },
-            shared => shared,
-        };
-        Ok(Path { way })
+        Path::from_vec(alloc, Vec::new(alloc))
     }
 
-    /// The path of a node or an entry below this one, to be kept: its copies share its segments, and the
-    /// paths below it share its last keys.
+    /// The path of a node or an entry below this one.
     pub fn below(&self, alloc: Global, segment: Seg) -> Result<Path, NoMemory>
         ensures { IfOk result (λ path. path ≡ self.now ++ segment ∷ []) }
     {
         let mut segments = copies_of(alloc, self.items(), 1)?;
-        segments.push(segment.share(alloc)?)?;
-        Path::from_vec(segments).share(alloc)
+        segments.push(segment)?;
+        Path::from_vec(alloc, segments)
     }
 
-    /// The path of its first segments, so many or all, to be kept.
-    pub fn first(&self, alloc: Global, count: usize) -> Result<Path, NoMemory>
+    /// The path of its first segments, so many or all.
+    pub fn first(&self, count: usize) -> Result<Path, NoMemory>
         ensures { IfOk result (λ path. path ≡ take count self.now) }
     {
-        match &self.way {
-            Way::Own(segments) => {
-                let first = match segments.get(..count) {
-                    Some(first) => first,
-                    None => segments.as_slice(),
-                };
-                Path::from_vec(copies_of(alloc, first, 0)?).share(alloc)
-            }
-            Way::Shared { len, segments } => Ok(Path {
-                way: Way::Shared {
-                    len: count.min(*len as usize) as u32,
-                    segments: segments.clone()?,
-                },
-            }),
-        }
+        Ok(Path {
+            len: count.min(self.len),
+            segments: self.segments.clone()?,
+        })
     }
 
     /// Its segments.
     pub fn items(&self) -> &[Seg]
         ensures { result.now ≡ self.now }
     {
-        match &self.way {
-            Way::Own(segments) => segments.as_slice(),
-            Way::Shared { len, segments } => match segments.get(..*len as usize) {
-                Some(first) => first,
-                None => segments.as_slice(),
-            },
+        match self.segments.get(..self.len) {
+            Some(first) => first,
+            None => self.segments.as_slice(),
         }
     }
 
@@ -203,15 +152,11 @@ impl Duplicate for Seg {
 }
 
 impl Duplicate for Path {
-    fn copy(&self, alloc: Global) -> Result<Path, NoMemory> {
-        let way = match &self.way {
-            Way::Own(segments) => Way::Own(copies_of(alloc, segments.as_slice(), 0)?),
-            Way::Shared { len, segments } => Way::Shared {
-                len: *len,
-                segments: segments.clone()?,
-            },
-        };
-        Ok(Path { way })
+    fn copy(&self, _alloc: Global) -> Result<Path, NoMemory> {
+        Ok(Path {
+            len: self.len,
+            segments: self.segments.clone()?,
+        })
     }
 }
 

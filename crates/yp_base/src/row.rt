@@ -1,5 +1,5 @@
 //! What a datastore holds: rows, each a path with its value.
-ghost use Rattle.std.specs.Prelude.{◌≡◌, IfOk};
+ghost use Rattle.std.specs.Prelude.{◌≡◌};
 ghost use Rattle.yp_base.specs.Rows.{same_value};
 
 use crate::atom::Atom;
@@ -31,18 +31,6 @@ pub struct Row {
 /// Rows, in order.
 pub type Rows = Series<Row>;
 
-impl Value {
-    /// The same value, whose copies take no memory.
-    pub fn share(self, alloc: Global) -> Result<Value, NoMemory>
-        ensures { IfOk result (λ value. value ≡ self) }
-    {
-        match self {
-            Value::Atom(atom) => Ok(Value::Atom(atom.share(alloc)?)),
-            other => Ok(other),
-        }
-    }
-}
-
 /// Whether two values are one.
 pub fn same_value(one: &Value, other: &Value) -> bool
     ensures { result ≡ same_value one.now other.now }
@@ -55,19 +43,6 @@ pub fn same_value(one: &Value, other: &Value) -> bool
         Value::Member => matches!(other, Value::Member),
         Value::Empty => matches!(other, Value::Empty),
         Value::Present => matches!(other, Value::Present),
-    }
-}
-
-impl Row {
-    /// The same row, whose copies take no memory.
-    pub fn share(self, alloc: Global) -> Result<Row, NoMemory>
-        ensures { IfOk result (λ row. row ≡ self) }
-    {
-        let Row { path, value } = self;
-        Ok(Row {
-            path: path.share(alloc)?,
-            value: value.share(alloc)?,
-        })
     }
 }
 

@@ -7,62 +7,53 @@ ghost use Rattle.std.proofs.Common.{refl};
 ghost use Rattle.std.specs.String.{string_bytes};
 ghost use Rattle.yp_base.specs.Types.{are_distinct};
 
-use crate::held::Held;
 use crate::memory::{Duplicate, NoMemory};
 use std::alloc::Global;
 use std::cmp::Ordering;
 use std::collections::BTreeSet;
 use std::marker::Model;
+use std::sync::Arc;
 
-/// A text in UTF-8. Contracts see its bytes, and nothing of its spare room. Once it is shared, a copy of
-/// it takes no memory.
+/// A text in UTF-8, which its copies share: a copy takes no memory. Contracts see its bytes, and nothing of
+/// its spare room.
 #[derive(Drop)]
 pub struct Txt {
-    text: Held<String>,
+    text: Arc<String, Global>,
 }
 
 impl Model for Txt {
     ghost use Rattle.std.specs.Prelude.{List, ℕ};
+    ghost use Rattle.std.specs.Arc.{arc_value};
     ghost use Rattle.std.specs.String.{string_bytes};
 
     ghost Value = { List ℕ };
 
-    ghost view = { λ t. string_bytes t.text };
+    ghost view = { λ t. string_bytes (arc_value t.text) };
 }
 
 impl Txt {
-    /// The text of a string. It takes no memory.
-    pub fn from_string(text: String) -> Txt
-        ensures { result ≡ string_bytes text }
+    /// The text of a string, to be shared by its copies.
+    pub fn from_string(alloc: Global, text: String) -> Result<Txt, NoMemory>
+        ensures { IfOk result (λ made. made ≡ string_bytes text) }
     {
-        Txt {
-            text: Held::own(text),
-        }
+        Ok(Txt {
+            text: Arc::new(alloc, text)?,
+        })
     }
 
     /// The text.
     pub fn as_str(&self) -> &str
         ensures { result.now ≡ self.now }
     {
-        self.text.get().as_str()
-    }
-
-    /// The same text, which its copies share.
-    pub fn share(self, alloc: Global) -> Result<Txt, NoMemory>
-        ensures { IfOk result (λ text. text ≡ self) }
-    {
-        let Txt { text } = self;
-        Ok(Txt {
-            text: text.share(alloc)?,
-        })
+        self.text.as_str()
     }
 }
 
-/// A text of its own.
+/// The text of a string slice.
 pub fn text_of(alloc: Global, text: &str) -> Result<Txt, NoMemory>
     ensures { IfOk result (λ made. made ≡ text.now) }
 {
-    Ok(Txt::from_string(String::from_str(alloc, text)?))
+    Txt::from_string(alloc, String::from_str(alloc, text)?)
 }
 
 /// Whether no text stands twice.
@@ -79,11 +70,10 @@ pub fn are_distinct(alloc: Global, texts: &[Txt]) -> Result<bool, NoMemory>
 }
 
 impl Duplicate for Txt {
-    fn copy(&self, alloc: Global) -> Result<Txt, NoMemory> {
-        match self.text.shared_copy()? {
-            Some(text) => Ok(Txt { text }),
-            None => Ok(Txt::from_string(String::from_str(alloc, self.as_str())?)),
-        }
+    fn copy(&self, _alloc: Global) -> Result<Txt, NoMemory> {
+        Ok(Txt {
+            text: self.text.clone()?,
+        })
     }
 }
 
@@ -93,7 +83,7 @@ impl PartialEq for Txt {
     ghost laws = { partial_equiv_from_equiv nat_list_eq_equiv };
 
     fn eq(&self, other: &Txt) -> bool {
-        self.text.get() == other.text.get()
+        self.as_str() == other.as_str()
     }
 }
 
@@ -121,6 +111,6 @@ impl Ord for Txt {
     ghost matches_eq = { λ x y. texts_ties x y };
 
     fn cmp(&self, other: &Txt) -> Ordering {
-        self.text.get().cmp(other.text.get())
+        self.as_str().cmp(other.as_str())
     }
 }

@@ -51,7 +51,7 @@ fn keys_text(
 }
 
 /// The names of nodes, one after another.
-fn names_of(alloc: Global, schema: &Schema, nodes: &[u32]) -> Result<String, NoMemory> {
+pub(crate) fn names_of(alloc: Global, schema: &Schema, nodes: &[u32]) -> Result<String, NoMemory> {
     let mut names = String::new(alloc);
     for node in nodes {
         if let Some(name) = member_text(schema, Some(*node)) {

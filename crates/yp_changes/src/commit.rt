@@ -10,14 +10,21 @@ use crate::renewal::renewed;
 use std::alloc::Global;
 use std::sync::ledger::Ledger;
 use yp_base::memory::{Duplicate, NoMemory};
+use yp_base::path::Path;
 use yp_base::row::{Row, Rows, Value};
 use yp_base::series::Series;
 use yp_base::steps::Steps;
 use yp_tree::tree::Tree;
 
 // Where the rows of a tree are at most so many times the changes, the tree is made again; else its rows are
-// changed one by one.
+// changed one by one, each found by some forty comparisons of paths. The more keys a path has, the longer
+// a comparison takes beside a copy of a row: for each so many keys the tree is made again at one time more rows, up to
+// some times.
 const SHARE: usize = 4;
+
+const KEYS_A_SHARE: usize = 12;
+
+const MOST_SHARES: usize = 32;
 
 /// Copies of the new rows of the paths that had none.
 fn added_rows(alloc: Global, changed: &Changed) -> Result<Rows, NoMemory>
@@ -117,6 +124,23 @@ fn change_rows(alloc: Global, tree: &mut Tree, changed: &Changed) -> Result<(), 
     Ok(())
 }
 
+/// How many keys a path has.
+fn count_keys(path: &Path) -> usize {
+    let mut count: usize = 0;
+    for segment in path.items() {
+        count = count.saturating_add(segment.keys.len());
+    }
+    count
+}
+
+/// How many times the changes the rows of a tree may be where it is made again, by the keys of the first change's path.
+fn share_of(changed: &Changed) -> usize {
+    match changed.items().first() {
+        Some(change) => (SHARE + count_keys(&change.path) / KEYS_A_SHARE).min(MOST_SHARES),
+        None => SHARE,
+    }
+}
+
 /// Makes changes of a tree's rows. After `NoMemory` the tree is as it was.
 pub fn commit<L: Ledger>(
     alloc: Global,
@@ -128,7 +152,7 @@ pub fn commit<L: Ledger>(
     ensures made { OnOk result (Differ changed.now tree.old tree.new) }
     ensures unchanged { OnErr result (tree.new ≡ tree.old) }
 {
-    if tree.len() / SHARE <= changed.len() {
+    if tree.len() <= changed.len().saturating_mul(share_of(changed)) {
         *tree = renewed(alloc, tree, changed, steps)?;
         return Ok(());
     }

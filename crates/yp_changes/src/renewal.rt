@@ -117,7 +117,7 @@ pub fn renewed<L: Ledger>(
     ensures { IfOk result (λ new. Differ changed.now tree.now new) }
 {
     let _rows = tree.len();
-    let top = Path::from_vec(Vec::new(alloc));
+    let top = Path::top(alloc)?;
     let rows = tree.rows_within(alloc, &top, steps)?;
     merged(alloc, rows.items(), changed.items())
 }

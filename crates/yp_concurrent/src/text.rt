@@ -5,13 +5,12 @@ ghost use Rattle.yp_schema.specs.declared.schema.SchemaNode.{SchemaNode};
 ghost use Rattle.yp_attempt.specs.Runs.{Run};
 ghost use Rattle.yp_listeners.specs.Listeners.{IsListenerOf};
 ghost use Rattle.yp_promise.specs.Received.{CanBeShown};
-ghost use Rattle.yp_report.specs.Replies.{replied_lines};
-ghost use Rattle.yp_report.specs.Report.{receiver_text, reply_text};
+ghost use Rattle.yp_report.specs.Report.{receiver_text};
 ghost use Rattle.yp_concurrent.specs.Report.{done_for, reports_beside};
 ghost use Rattle.yp_concurrent.specs.Texts.{HaveLogs, HaveSomeLogs, count_lines, is_line, listener_text, text_beside};
 
 use crate::outside::Standing;
-use std::alloc::{AllocError, Global};
+use std::alloc::Global;
 use std::sync::ledger::Ledger;
 use yp_base::memory::NoMemory;
 use yp_base::steps::Steps;
@@ -22,7 +21,7 @@ use yp_offer_log::logged::{Logged, log_text};
 use yp_replay::laws::what_is_held_can_be_written;
 use yp_report::laws::the_lines_of_a_log_are_those_of_what_is_shown;
 use yp_report::replied::Replied;
-use yp_report::replies::push_replies;
+use yp_report::replies::replies_text;
 use yp_report::texts::join_texts;
 use yp_report::trees::push_trees;
 use yp_schema::schema::Schema;
@@ -119,16 +118,6 @@ fn push_receivers<L: Ledger>(
         number += 1;
     }
     Ok(())
-}
-
-/// The lines of replies.
-fn replies_text(alloc: Global, replies: Vec<Replied>) -> Result<String, AllocError>
-    requires { length replies.items < 2 ^ 63 }
-    ensures { IfOk result (λ text. string_bytes text ≡ flat_map reply_text (replied_lines 1 replies.items)) }
-{
-    let mut text = String::new(alloc);
-    push_replies(alloc, &mut text, replies.as_slice())?;
-    Ok(text)
 }
 
 /// The text of replies, and of what is told of each receiver.

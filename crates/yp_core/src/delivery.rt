@@ -53,25 +53,13 @@ impl Delivery {
     }
 
     /// Offers a packet to the queue, and tells its answer.
-    pub fn offer(&mut self, alloc: Global, packet: Packet) -> Result<Settled, NoMemory>
+    pub fn offer(&mut self, packet: Packet) -> Result<Settled, NoMemory>
         ensures answer { IfOk result (λ settled. (nodes : List SchemaNode) (start : ℕ) (delivery : DeliveryThere) → self.old ≡ delivered nodes start delivery → answer_of settled ≡ queue_answer delivery) }
         ensures state { OnOk result ((nodes : List SchemaNode) (start : ℕ) (delivery : DeliveryThere) (notification : Notification) → self.old ≡ delivered nodes start delivery → packet ≡ packed nodes start notification
             → self.new ≡ delivered nodes start (delivery_after (queue_answer delivery) notification delivery)) }
     {
-        // Room comes first, and the line is shared, so that a copy of it takes no memory later.
+        // Room comes first, so that nothing is lost past the answer of the queue.
         self.answers.reserve(1)?;
-        let Packet {
-            sub,
-            position,
-            kind,
-            line,
-        } = packet;
-        let packet = Packet {
-            sub,
-            position,
-            kind,
-            line: line.share(alloc)?,
-        };
         let settled = match self.queue.offer(packet) {
             Offered::Took => Settled::Took,
             Offered::Full(_) => Settled::Full,

@@ -68,7 +68,7 @@ impl World {
                 } = sent;
                 let sub = packet.sub;
                 let position = seat.position as u64;
-                let settled = self.deliveries[receiver as usize].offer(alloc, packet)?;
+                let settled = self.deliveries[receiver as usize].offer(packet)?;
                 seat.settle(alloc, schema, settled)?;
                 self.spent = false;
                 Ok(told(settled, receiver, sub, position))

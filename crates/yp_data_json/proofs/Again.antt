@@ -193,7 +193,7 @@ value_node : (ty : LeafType) (nodes : List SchemaNode) (n : ℕ) (path : List Se
 value_node ty nodes n path (Plain (Truth b)) acc kind = rw kind refl
 value_node ty nodes n path (Plain (Int i)) acc kind = number_node (has_string_numbers ty) nodes n path (atom_text (Int i)) (of_integer i) acc kind
 value_node ty nodes n path (Plain (Uint u)) acc kind = number_node (has_string_numbers ty) nodes n path (atom_text (Uint u)) (unsigned u) acc kind
-value_node ty nodes n path (Plain (Dec units places)) acc kind = rw kind refl
+value_node ty nodes n path (Plain (Dec places units)) acc kind = rw kind refl
 value_node ty nodes n path (Plain (Text s)) acc kind = rw kind refl
 value_node ty nodes n path Member acc kind = rw kind refl
 value_node ty nodes n path Empty acc kind = rw kind refl

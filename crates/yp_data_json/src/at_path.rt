@@ -7,16 +7,14 @@ ghost use Rattle.serde_json.specs.View.{view, members_view, items_view};
 ghost use Rattle.yp_schema.specs.Datastore.{is_place, AreWhole};
 ghost use Rattle.yp_schema.specs.Nodes.{node_at, qualified_name};
 ghost use Rattle.yp_data_json.specs.Reading.{Gives, Leaves};
-ghost use Rattle.yp_data_json.specs.AtPath.{leaf_row, named_entry, named_value, one_of, named_read, outer_read, has_no_members, object_read, rows_read};
+ghost use Rattle.yp_data_json.specs.AtPath.{are_keys, leaf_row, named_entry, named_value, one_of, named_read, outer_read, has_no_members, object_read, rows_read};
 
 use crate::fault::DataError;
 use crate::keys::{atom_of, read_keys, value_of};
-use crate::reading::{
-    enter, enter_entry, only_key, path_below, read_datastore, read_members, read_node,
-};
+use crate::reading::{enter, enter_entry, path_below, read_datastore, read_members, read_node};
 use serde_json::{Map, Value as Json};
 use std::alloc::Global;
-use yp_base::atom::Keys;
+use yp_base::keys::Keys;
 use yp_base::memory::{Duplicate, NoMemory};
 use yp_base::path::{Path, Seg};
 use yp_base::row::{Row, Rows, Value};
@@ -24,6 +22,13 @@ use yp_base::series::Series;
 use yp_schema::schema::{Kind, Schema};
 use yp_tree::gathering::Gathering;
 use yp_value::payload::Payload;
+
+/// Whether keys are these.
+fn are_keys(found: &Keys, keys: &Keys) -> bool
+    ensures { result ≡ are_keys found.now keys.now }
+{
+    found == keys
+}
 
 /// Puts the rows of the list entry that a path names.
 fn read_named_entry(
@@ -41,7 +46,7 @@ fn read_named_entry(
     match json {
         Json::Object(members) => {
             let found = read_keys(alloc, schema, schema.keys(node), members)?;
-            if found != *keys {
+            if !are_keys(&found, keys) {
                 return Err(DataError::invalid(node));
             }
             let path = enter_entry(alloc, above, node, found, rows)?;
@@ -65,8 +70,8 @@ fn read_named_value(
     ensures { Leaves result rows.new (named_value schema.now node above.now keys.now (view json.now) rows.old) }
 {
     let atom = atom_of(alloc, schema, node, json)?;
-    let only = only_key(alloc, atom)?;
-    if only != *keys {
+    let only = Keys::one(atom);
+    if !are_keys(&only, keys) {
         return Err(DataError::invalid(node));
     }
     let path = path_below(alloc, above, node, only)?;
@@ -228,7 +233,7 @@ fn path_of(alloc: Global, segments: &[Seg]) -> Result<Path, NoMemory>
     for segment in segments {
         copies.push(segment.copy(alloc)?)?;
     }
-    Ok(Path::from_vec(copies))
+    Path::from_vec(alloc, copies)
 }
 
 /// Whether a text is a colon and a name.

@@ -6,7 +6,7 @@ use std::alloc::{AllocError, AllocFailed, Global};
 use std::fmt;
 use std::marker::Model;
 use yp_base::memory::NoMemory;
-use yp_base::txt::Txt;
+use yp_base::txt::{Txt, text_of};
 
 /// What is wrong with data, or that memory ran out.
 #[derive(Debug, Drop, Clone, Copy, PartialEq, Eq, thiserror::Error)]
@@ -108,8 +108,7 @@ impl DataError {
 
 // A text, where there is memory for it.
 fn txt(alloc: Global, text: &str) -> Option<Txt> {
-    let text = String::from_str(alloc, text).ok()?;
-    Some(Txt::from_string(text))
+    text_of(alloc, text).ok()
 }
 
 impl From<NoMemory> for DataError {

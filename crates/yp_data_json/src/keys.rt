@@ -9,21 +9,21 @@ ghost use Rattle.yp_data_json.specs.Reading.{Gives, valid, at_key, key_in, earli
 use crate::fault::{DataError, DataFault};
 use serde_json::{Map, Value as Json};
 use std::alloc::Global;
-use yp_base::atom::{Atom, Keys};
+use yp_base::atom::Atom;
+use yp_base::keys::Keys;
 use yp_base::memory::NoMemory;
 use yp_base::row::Value;
-use yp_base::series::Series;
 use yp_schema::schema::Schema;
 use yp_value::members::member_in;
 use yp_value::text::TextFault;
 
-/// The value that JSON is read as at a node, to be kept, or the fault that it is none.
+/// The value that JSON is read as at a node, or the fault that it is none.
 pub fn value_of(alloc: Global, schema: &Schema, node: u32, json: &Json) -> Result<Value, DataError>
     requires { node < length schema.now }
     ensures { Gives result (valid (typed_value (node_at node schema.now).ty (view json.now))) }
 {
     match schema.read_value(alloc, node, json) {
-        Ok(value) => Ok(value.share(alloc)?),
+        Ok(value) => Ok(value),
         Err(TextFault::BadText) => Err(DataError::invalid(node)),
         Err(TextFault::Memory) => Err(DataError::memory()),
     }
@@ -115,6 +115,9 @@ pub fn read_keys(
     }
     match first {
         Some((node, fault)) => Err(DataError::at(fault, node)),
-        None => Ok(Series::from_vec(keys)),
+        None => {
+            let keys = Keys::from_vec(alloc, keys)?;
+            Ok(keys)
+        }
     }
 }

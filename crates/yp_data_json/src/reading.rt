@@ -9,11 +9,10 @@ use crate::fault::{DataError, DataFault};
 use crate::keys::{atom_of, read_keys, value_of};
 use serde_json::{Map, Value as Json};
 use std::alloc::Global;
-use yp_base::atom::{Atom, Keys};
+use yp_base::keys::Keys;
 use yp_base::memory::{Duplicate, NoMemory};
 use yp_base::path::{Path, Seg};
 use yp_base::row::{Row, Rows, Value};
-use yp_base::series::Series;
 use yp_schema::schema::{Kind, Schema};
 use yp_tree::gathering::Gathering;
 
@@ -22,15 +21,6 @@ pub fn path_below(alloc: Global, path: &Path, node: u32, keys: Keys) -> Result<P
     ensures { IfOk result (λ made. made ≡ below path.now node keys) }
 {
     path.below(alloc, Seg { node, keys })
-}
-
-/// The keys of a leaf-list entry: its value.
-pub fn only_key(alloc: Global, atom: Atom) -> Result<Keys, NoMemory>
-    ensures { IfOk result (λ keys. keys ≡ atom ∷ []) }
-{
-    let mut keys = Vec::with_capacity(alloc, 1)?;
-    keys.push(atom)?;
-    Ok(Series::from_vec(keys))
 }
 
 /// Puts the row of a leaf.
@@ -46,7 +36,7 @@ fn read_leaf(
     ensures { Leaves result rows.new (leaf_read schema.now node path.now (view json.now) rows.old) }
 {
     let value = value_of(alloc, schema, node, json)?;
-    let path = path_below(alloc, path, node, Series::from_vec(Vec::new(alloc)))?;
+    let path = path_below(alloc, path, node, Keys::none())?;
     rows.put(alloc, Row { path, value })?;
     Ok(())
 }
@@ -105,7 +95,7 @@ fn read_entry_value(
     ensures { Leaves result rows.new (value_read schema.now node path.now (view json.now) rows.old) }
 {
     let atom = atom_of(alloc, schema, node, json)?;
-    let path = path_below(alloc, path, node, only_key(alloc, atom)?)?;
+    let path = path_below(alloc, path, node, Keys::one(atom))?;
     enter(alloc, node, path, Value::Member, rows)
 }
 
@@ -168,11 +158,11 @@ pub fn read_node(
     match json {
         Json::Object(members) => match schema.kind(node) {
             Kind::Container => {
-                let path = path_below(alloc, path, node, Series::from_vec(Vec::new(alloc)))?;
+                let path = path_below(alloc, path, node, Keys::none())?;
                 read_members(alloc, schema, Some(node), &path, members, rows)
             }
             Kind::Presence => {
-                let path = path_below(alloc, path, node, Series::from_vec(Vec::new(alloc)))?;
+                let path = path_below(alloc, path, node, Keys::none())?;
                 put_presence(alloc, &path, rows)?;
                 read_members(alloc, schema, Some(node), &path, members, rows)
             }
@@ -240,7 +230,7 @@ pub fn read_datastore(alloc: Global, schema: &Schema, json: &Json) -> Result<Row
     match json {
         Json::Object(members) => {
             let mut rows = Gathering::new(alloc);
-            let top = Path::from_vec(Vec::new(alloc));
+            let top = Path::top(alloc)?;
             read_members(alloc, schema, None, &top, members, &mut rows)?;
             Ok(rows.into_rows(alloc)?)
         }

@@ -44,7 +44,7 @@ pub fn read_contents(alloc: Global, schema: &Schema, json: &Json) -> Result<Rows
     ensures read { Gives result (rows_in schema.now [] (view json.now)) }
     ensures rows { IfOk result (λ rows. IsDatastore schema.now rows) }
 {
-    let top = Path::from_vec(Vec::new(alloc));
+    let top = Path::top(alloc)?;
     read_rows(alloc, schema, &top, json)
 }
 

@@ -14,7 +14,7 @@ use crate::places::read_places;
 use serde_json::{Map, Value as Json};
 use std::alloc::Global;
 use yp_base::notice::Notice;
-use yp_base::txt::Txt;
+use yp_base::txt::{Txt, text_of};
 use yp_schema::schema::Schema;
 
 /// What a line tells: its event time as it is written, and the notice.
@@ -125,7 +125,7 @@ fn read_told(alloc: Global, schema: &Schema, json: &Json) -> Result<Heard, Strea
     match envelope_in(json) {
         Some(envelope) => {
             let notice = read_notice(alloc, schema, &envelope)?;
-            let time = Txt::from_string(String::from_str(alloc, envelope.time)?);
+            let time = text_of(alloc, envelope.time)?;
             Ok(Heard { time, notice })
         }
         None => Err(StreamFault::Envelope),

@@ -3,6 +3,7 @@ pub mod Bases
 pub mod Differing
 pub mod Drafts
 pub mod Ends
+pub mod Gaps
 pub mod Keeping
 pub mod Refusals
 pub mod Taking

@@ -15,7 +15,8 @@ use Rattle.yp_base.specs.Order.{path_cmp, is_within}
 use Rattle.yp_base.specs.Rows.{path_of, value_at, put_row, next_row, has_within, rows_within, rows_without, AreInOrder}
 use Rattle.yp_base.specs.RowLaws.{all_past as rows_past, none_past, first_order, rest_order, value_at_put, value_at_without, without_keeps_order}
 use Rattle.yp_tree.specs.Listed.{row_of, without_row}
-use Rattle.yp_edit.specs.Bases.{Touched, IsBase, IsSwept, KeepsValues, left, Touches, StaysGone, TouchesWithin}
+use Rattle.yp_edit.specs.declared.base.Gap.{Gap}
+use Rattle.yp_edit.specs.Bases.{Touched, IsBase, IsSwept, LeaveGap, KeepsValues, left, Touches, StaysGone, TouchesWithin}
 use Rattle.yp_changes.specs.Among.{is_listed}
 use Rattle.yp_base.specs.PathLaws.{are_one, tie_turned, ties_itself, within_itself, within_not_after, IsBefore}
 use Rattle.yp_base.specs.Paths.{is_covered}
@@ -87,16 +88,16 @@ none_swept None path rows none covered = absurd (true≢false (sym covered))
 none_swept (Some above) path rows none covered = none_there above path rows none covered
 
 -- a base with one more row touched
-abbrev pub Holds : List Row → List Row → List (List Seg) → ℕ → Option (List Seg) → Option (List Seg) → Type 0
-Holds rows taken bare count swept missing = IsBase rows (map path_of taken) bare count × KeepsValues rows taken × IsSwept swept (left (map path_of taken) rows) × IsSwept missing (left (map path_of taken) rows)
+abbrev pub Holds : List Row → List Row → List (List Seg) → ℕ → Option (List Seg) → Option Gap → Type 0
+Holds rows taken bare count swept gap = IsBase rows (map path_of taken) bare count × KeepsValues rows taken × IsSwept swept (left (map path_of taken) rows) × LeaveGap gap rows
 
-pub one_more_row : (row : Row) (rows taken : List Row) (bare : List (List Seg)) (count : ℕ) (swept missing : Option (List Seg)) → is_listed row.path (map path_of taken) ≡ false → value_at row.path rows ≡ Some row.value → Holds rows taken bare count swept missing → Holds rows (put_row row taken) bare (count - 1) swept missing
-one_more_row row rows taken bare count swept missing unlisted there base =
+pub one_more_row : (row : Row) (rows taken : List Row) (bare : List (List Seg)) (count : ℕ) (swept : Option (List Seg)) (gap : Option Gap) → is_listed row.path (map path_of taken) ≡ false → value_at row.path rows ≡ Some row.value → Holds rows taken bare count swept gap → Holds rows (put_row row taken) bare (count - 1) swept gap
+one_more_row row rows taken bare count swept gap unlisted there base =
     let less : left (map path_of (put_row row taken)) rows ≡ without_row row.path (left (map path_of taken) rows) = touched_left row.path (map path_of taken) (map path_of (put_row row taken)) rows base.0.in_order (one_more_path row taken) in (
       one_fewer row.path rows (map path_of taken) (map path_of (put_row row taken)) bare count base.0 (one_more_path row taken) (ap is_some (other_there row.path (map path_of taken) rows unlisted ∙ there)),
       one_more_value row rows taken there base.1,
       subst (IsSwept swept) (sym less) (still_swept swept row.path (left (map path_of taken) rows) base.2),
-      subst (IsSwept missing) (sym less) (still_swept missing row.path (left (map path_of taken) rows) base.3),
+      base.3,
     )
 
 -- where a row is there, it is counted

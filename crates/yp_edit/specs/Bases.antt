@@ -1,11 +1,13 @@
 -- The tree that a patch is applied to, with the paths that its edits touch.
-use Rattle.std.specs.Prelude.{◌≡◌, ℕ, List, length, map, true, false, not, ◌||◌, filter, Option, Some, None, is_some}
-use Rattle.std.specs.Ordering.{is_eq}
+use Rattle.std.specs.Prelude.{◌≡◌, ℕ, List, length, map, Bool, true, false, not, ◌||◌, ◌&&◌, filter, Option, Some, None, is_some}
+use Rattle.std.specs.Ordering.{is_eq, is_le}
 use Rattle.yp_base.specs.declared.path.Seg.{Seg}
 use Rattle.yp_base.specs.declared.row.Row.{Row}
 use Rattle.yp_base.specs.Order.{path_cmp}
 use Rattle.yp_base.specs.Rows.{path_of, value_at, has_within, rows_without, AreInOrder}
 use Rattle.yp_changes.specs.Among.{is_listed}
+use Rattle.yp_edit.specs.declared.base.Gap.{Gap}
+use Rattle.yp_tree.specs.Gaps.{is_before, IsGap}
 use Rattle.yp_tree.specs.Listed.{without_row}
 
 -- the rows of a tree, and the paths that are touched
@@ -31,6 +33,16 @@ pub record IsBase (rows : List Row) (paths bare : List (List Seg)) (count : ℕ)
 abbrev pub IsSwept : Option (List Seg) → List Row → Type 0
 IsSwept None rows = Unit {0}
 IsSwept (Some path) rows = has_within path rows ≡ false
+
+-- whether a path lies in a gap, where there is one
+abbrev pub is_in_gap : Option Gap → List Seg → Bool
+is_in_gap None path = false
+is_in_gap (Some gap) path = is_le (path_cmp gap.from path) && is_before path gap.end
+
+-- no row has a path in a gap, where there is one
+abbrev pub LeaveGap : Option Gap → List Row → Type 0
+LeaveGap None rows = Unit {0}
+LeaveGap (Some gap) rows = IsGap gap.from gap.end rows
 
 -- rows that are among others: each has the value that its path has there
 abbrev pub KeepsValues : List Row → List Row → Type 0

@@ -1,10 +1,11 @@
 //! The tree that a patch is applied to, and what its edits touch.
 ghost use Rattle.std.specs.Prelude.{◌≡◌, ◌<◌, ◌^◌, [], Some, None, true, false, length, map, slice_get, is_some, option_map, option_copied, IfOk, OnOk, OnErr};
 ghost use Rattle.yp_base.specs.Rows.{path_of, value_at, next_row, has_within, rows_within, AreInOrder};
+ghost use Rattle.yp_tree.specs.Gaps.{is_before, IsGap};
 ghost use Rattle.yp_tree.specs.Listed.{row_of};
 ghost use Rattle.yp_base.specs.Paths.{is_covered};
 ghost use Rattle.yp_changes.specs.Among.{is_listed};
-ghost use Rattle.yp_edit.specs.Bases.{untouched, Touches, Loses, TouchesWithin, StaysGone, AreTouched};
+ghost use Rattle.yp_edit.specs.Bases.{is_in_gap, untouched, Touches, Loses, TouchesWithin, StaysGone, AreTouched};
 
 use std::alloc::Global;
 use std::collections::BTreeSet;
@@ -17,30 +18,37 @@ use yp_base::steps::Steps;
 use yp_tree::rising::Rising;
 use yp_tree::tree::Tree;
 
+/// Paths from one on that a tree has no row of, up to the path of its next row, where there is one.
+#[derive(Drop)]
+struct Gap {
+    from: Path,
+    end: Option<Path>,
+}
+
 /// A tree, which stays as it is, with those of its rows that edits touch: they count no more. At or below a
 /// bare path each row is touched, so that no edit walks over them again. The last path at or below which
-/// edits left or found none is swept, and the last one at or below which a touch found none is missing: no row
-/// put there is looked up.
+/// edits left or found none is swept, and where a row that was put last had no row in the tree there is a gap: no
+/// row put there is looked up.
 #[derive(Drop)]
 pub struct Base<'a> {
     tree: &'a Tree,
     touched: Rising,
     bare: BTreeSet<Path>,
     swept: Option<Path>,
-    missing: Option<Path>,
+    gap: Option<Gap>,
     count: usize,
 }
 
 impl<'a> Model for Base<'a> {
     ghost use Rattle.std.specs.Prelude.{map};
     ghost use Rattle.yp_base.specs.Rows.{path_of};
-    ghost use Rattle.yp_edit.specs.Bases.{Touched, IsBase, IsSwept, KeepsValues, left};
+    ghost use Rattle.yp_edit.specs.Bases.{Touched, IsBase, IsSwept, LeaveGap, KeepsValues, left};
 
     ghost Value = { Touched };
 
     ghost view = { λ b. record { rows = b.tree.now; paths = map path_of b.touched } };
 
-    ghost invariant = { λ b. IsBase b.tree.now (map path_of b.touched) b.bare.keys b.count × KeepsValues b.tree.now b.touched × IsSwept b.swept (left (map path_of b.touched) b.tree.now) × IsSwept b.missing (left (map path_of b.touched) b.tree.now) };
+    ghost invariant = { λ b. IsBase b.tree.now (map path_of b.touched) b.bare.keys b.count × KeepsValues b.tree.now b.touched × IsSwept b.swept (left (map path_of b.touched) b.tree.now) × LeaveGap b.gap b.tree.now };
 }
 
 /// Whether a path is at or below another, where there is one.
@@ -49,6 +57,26 @@ pub fn is_covered(above: &Option<Path>, path: &Path) -> bool
 {
     match above {
         Some(above) => is_prefix(above, path),
+        None => false,
+    }
+}
+
+/// Whether a path comes before another, where there is one.
+fn is_before(path: &Path, end: &Option<Path>) -> bool
+    ensures { result ≡ is_before path.now end.now }
+{
+    match end {
+        Some(end) => path.cmp(end).is_lt(),
+        None => true,
+    }
+}
+
+/// Whether a path lies in a gap, where there is one.
+fn is_in_gap(gap: &Option<Gap>, path: &Path) -> bool
+    ensures { result ≡ is_in_gap gap.now path.now }
+{
+    match gap {
+        Some(gap) => gap.from.cmp(path).is_le() && is_before(path, &gap.end),
         None => false,
     }
 }
@@ -63,7 +91,7 @@ impl<'a> Base<'a> {
             touched: Rising::new(alloc),
             bare: BTreeSet::new(alloc),
             swept: None,
-            missing: None,
+            gap: None,
             count: tree.len(),
         }
     }
@@ -172,16 +200,18 @@ impl<'a> Base<'a> {
         Ok(())
     }
 
-    /// Makes a path the one that is missing.
-    fn miss(&mut self, alloc: Global, path: &Path) -> Result<(), NoMemory>
-        requires { has_within path.now (untouched self.old) ≡ false }
+    /// Keeps that the tree has no row of a path from one on, up to another where there is one.
+    fn keep_gap(&mut self, alloc: Global, from: &Path, end: Option<Path>) -> Result<(), NoMemory>
+        requires { IsGap from.now end self.old.rows }
         ensures same { self.new ≡ self.old }
     {
-        self.missing = Some(path.copy(alloc)?);
+        let from = from.copy(alloc)?;
+        self.gap = Some(Gap { from, end });
         Ok(())
     }
 
-    /// The value of the tree's row of a path. Where the tree has no row at or below it, the path is missing.
+    /// The value of the tree's row of a path. Where the tree has none, it has none from the path on up to its next
+    /// row.
     fn find<L: Ledger>(
         &mut self,
         alloc: Global,
@@ -191,25 +221,27 @@ impl<'a> Base<'a> {
         ensures found { IfOk result (λ found. option_copied found ≡ value_at path.now self.old.rows) }
         ensures same { self.new ≡ self.old }
     {
-        match self.tree.first_within(path, steps) {
+        match self.tree.first_from(path, steps) {
             Some((first, value)) => {
                 if path.cmp(first).is_eq() {
                     return Ok(Some(value));
                 }
+                let end = first.copy(alloc)?;
+                self.keep_gap(alloc, path, Some(end))?;
                 Ok(None)
             }
             None => {
-                self.miss(alloc, path)?;
+                self.keep_gap(alloc, path, None)?;
                 Ok(None)
             }
         }
     }
 
-    /// Whether a path lies at or below the one that is swept or the one that is missing.
+    /// Whether a path lies at or below the one that is swept, or in the gap.
     fn is_clear(&self, path: &Path) -> bool
         ensures { result ≡ true → value_at path.now (untouched self.now) ≡ None }
     {
-        is_covered(&self.swept, path) || is_covered(&self.missing, path)
+        is_covered(&self.swept, path) || is_in_gap(&self.gap, path)
     }
 
     /// Touches the row of a path, where there is one that isn't touched.

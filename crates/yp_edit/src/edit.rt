@@ -60,7 +60,7 @@ fn stands_above<L: Ledger>(
     requires { is_path_of schema.now target.now ≡ true }
     ensures { IfOk result (λ stands. stands ≡ stand_above schema.now target.now trial.now.after) }
 {
-    let mut above = Path::from_vec(Vec::new(alloc));
+    let mut above = Path::top(alloc)?;
     let mut rest = target.items();
     while let Some((segment, more)) = rest.split_first() {
         if more.is_empty() {

@@ -40,7 +40,7 @@ atom : (ty : LeafType) (a : Atom) → has_float (atom_data ty a) ≡ false
 atom ty (Truth b) = refl
 atom ty (Int n) = chosen (has_string_numbers ty) (atom_text (Int n)) (of_integer n) (integer n)
 atom ty (Uint n) = chosen (has_string_numbers ty) (atom_text (Uint n)) (unsigned n) refl
-atom ty (Dec units places) = refl
+atom ty (Dec places units) = refl
 atom ty (Text text) = refl
 
 value : (ty : LeafType) (v : Value) → has_float (value_data ty v) ≡ false

@@ -138,10 +138,11 @@ pub fn contents_text(alloc: Global, schema: &Schema, rows: &Rows) -> Result<Txt,
     requires { AreWritable schema.now [] rows.now }
     ensures { IfOk result (λ text. text ≡ compact_text (rows_json schema.now [] rows.now)) }
 {
-    let top = Path::from_vec(Vec::new(alloc));
+    let top = Path::top(alloc)?;
     let mut text = String::with_capacity(alloc, 256)?;
     push_rows(alloc, schema, &mut text, &top, rows)?;
-    Ok(Txt::from_string(text))
+    let contents = Txt::from_string(alloc, text)?;
+    Ok(contents)
 }
 
 /// What a change update carries: the patch of its changes, with this id, as JSON without white space (RFC
@@ -157,5 +158,5 @@ pub fn patch_text(
 {
     let mut text = String::with_capacity(alloc, 256)?;
     push_patch(alloc, schema, &mut text, patch_id, changes)?;
-    Ok(Txt::from_string(text))
+    Txt::from_string(alloc, text)
 }

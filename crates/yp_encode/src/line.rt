@@ -266,5 +266,5 @@ pub fn line(
 {
     let mut text = String::with_capacity(alloc, 256)?;
     push_line(alloc, schema, &mut text, start, tick, notice)?;
-    Ok(Txt::from_string(text))
+    Txt::from_string(alloc, text)
 }

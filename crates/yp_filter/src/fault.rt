@@ -6,7 +6,7 @@ use std::alloc::{AllocFailed, Global};
 use std::error::Error;
 use std::fmt;
 use std::marker::Model;
-use yp_base::txt::Txt;
+use yp_base::txt::{Txt, text_of};
 
 /// The first fault of a filter, or that memory ran out.
 #[derive(Debug, Drop, Clone, Copy, PartialEq, Eq, thiserror::Error)]
@@ -92,7 +92,7 @@ impl FilterError {
         FilterError {
             fault: self.fault,
             member: Some(FilterMember {
-                name: String::from_str(alloc, name).ok().map(Txt::from_string),
+                name: text_of(alloc, name).ok(),
                 parent: place.parent(),
             }),
         }

@@ -50,5 +50,5 @@ pub fn generate(alloc: Global, seed: u32, size: u32) -> Result<Txt, NoMemory>
     text.push_str(head())?;
     push_drawn(&mut text, seed, size)?;
     push_tick(&mut text, 10 * (size + 10))?;
-    Ok(Txt::from_string(text))
+    Txt::from_string(alloc, text)
 }

@@ -45,7 +45,7 @@ atom_flat : (ty : LeafType) (atom : Atom) → depth (atom_data ty atom) ≤ 1
 atom_flat ty (Truth truth) = omega arith
 atom_flat ty (Int n) = either_flat (has_string_numbers ty) (atom_text (Int n)) (of_integer n)
 atom_flat ty (Uint n) = either_flat (has_string_numbers ty) (atom_text (Uint n)) (unsigned n)
-atom_flat ty (Dec units places) = omega arith
+atom_flat ty (Dec places units) = omega arith
 atom_flat ty (Text text) = omega arith
 
 value_flat : (ty : LeafType) (value : Value) → depth (value_data ty value) ≤ 1

@@ -179,7 +179,7 @@ pub(crate) fn enters<R: Readable, L: Ledger>(
     match visible.schema.kind(node) {
         Kind::Container | Kind::Presence => Ok(true),
         Kind::List => {
-            let entry = path.first(alloc, depth)?;
+            let entry = path.first(depth)?;
             Ok(visible.value_at(&entry, steps).is_some())
         }
         Kind::Leaf | Kind::LeafList => Ok(false),

@@ -9,11 +9,11 @@ ghost use Rattle.yp_kept.specs.Matches.{atom_in, same_atom, key_among, key_at, k
 use crate::visible::Visible;
 use std::alloc::Global;
 use std::sync::ledger::Ledger;
-use yp_base::atom::{Atom, Keys};
+use yp_base::atom::Atom;
+use yp_base::keys::Keys;
 use yp_base::memory::{Duplicate, NoMemory};
 use yp_base::path::{Path, Seg};
 use yp_base::row::Value;
-use yp_base::series::Series;
 use yp_base::steps::Steps;
 use yp_nacm::readable::Readable;
 use yp_schema::schema::{Kind, Schema};
@@ -27,7 +27,7 @@ fn path_below(alloc: Global, at: &[Seg], last: Seg) -> Result<Path, NoMemory>
         segments.push(segment.copy(alloc)?)?;
     }
     segments.push(last)?;
-    Ok(Path::from_vec(segments))
+    Path::from_vec(alloc, segments)
 }
 
 /// The atom that stands for a key among the keys of an entry.
@@ -91,11 +91,10 @@ fn is_asked(atom: Option<&Atom>, value: &Value) -> bool
 fn entry_keys(alloc: Global, value: &Value) -> Result<Keys, NoMemory>
     ensures { IfOk result (λ keys. keys ≡ keys_asked LeafList value.now) }
 {
-    let mut keys = Vec::new(alloc);
-    if let Value::Atom(atom) = value {
-        keys.push(atom.copy(alloc)?)?;
+    match value {
+        Value::Atom(atom) => Ok(Keys::one(atom.copy(alloc)?)),
+        _ => Ok(Keys::none()),
     }
-    Ok(Series::from_vec(keys))
 }
 
 /// Whether an instance has that leaf with that value, or that key. It counts at most one visit.
@@ -116,7 +115,7 @@ fn leaf_holds<R: Readable, L: Ledger>(
     if let Some(key) = key_at(visible.schema, at, node) {
         return Ok(is_asked(Some(key), value));
     }
-    let keys = Series::from_vec(Vec::new(alloc));
+    let keys = Keys::none();
     let path = path_below(alloc, at, Seg { node, keys })?;
     let found = visible.value_at(&path, steps);
     Ok(is_asked(atom_in(found), value))

@@ -303,13 +303,13 @@ pub struct Way<'f> {
 
 impl<'f> Way<'f> {
     /// The way to the top, before anything was tested.
-    pub fn new(alloc: Global) -> Way<'f>
-        ensures { (nodes : List SchemaNode) (rows : List Row) (set : Nodes) → IsWay nodes rows set result }
+    pub fn new(alloc: Global) -> Result<Way<'f>, NoMemory>
+        ensures { IfOk result (λ way. (nodes : List SchemaNode) (rows : List Row) (set : Nodes) → IsWay nodes rows set way) }
     {
-        Way {
-            path: Path::from_vec(Vec::new(alloc)),
+        Ok(Way {
+            path: Path::top(alloc)?,
             standings: Vec::new(alloc),
-        }
+        })
     }
 
     /// Whether a filter's set keeps the row at a path. Of the way before, what the way to this path shares is

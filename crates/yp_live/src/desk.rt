@@ -156,7 +156,6 @@ impl Desk {
         } = packet;
         // The queue and the log share one text. Room in the log comes first, so that nothing is lost past the
         // answer of the queue.
-        let line = line.share(alloc)?;
         let packet = Packet {
             sub,
             position,

@@ -1,30 +1,18 @@
 //! The text of a run.
 ghost use Rattle.std.specs.Prelude.{◌≡◌, ◌^◌, ◌<◌, ◌++◌, length, IfOk, OnOk, codes, string_bytes};
 ghost use Rattle.std.specs.List.{flat_map};
-ghost use Rattle.yp_report.specs.Replies.{replied_lines};
-ghost use Rattle.yp_report.specs.Report.{reply_text};
 ghost use Rattle.yp_live.specs.Desks.{desk_text};
 ghost use Rattle.yp_live.specs.Runs.{CanBeWritten, text_from};
 
 use crate::desk::Desk;
-use std::alloc::{AllocError, Global};
+use std::alloc::Global;
 use std::sync::ledger::Ledger;
 use yp_base::memory::NoMemory;
 use yp_base::steps::Steps;
 use yp_report::replied::Replied;
-use yp_report::replies::push_replies;
+use yp_report::replies::replies_text;
 use yp_report::texts::join_texts;
 use yp_schema::schema::Schema;
-
-/// The lines of replies.
-fn replies_text(alloc: Global, replies: Vec<Replied>) -> Result<String, AllocError>
-    requires { length replies.items < 2 ^ 63 }
-    ensures { IfOk result (λ text. string_bytes text ≡ flat_map reply_text (replied_lines 1 replies.items)) }
-{
-    let mut text = String::new(alloc);
-    push_replies(alloc, &mut text, replies.as_slice())?;
-    Ok(text)
-}
 
 /// Adds the lines of each desk.
 fn push_desks<L: Ledger>(

@@ -2,7 +2,7 @@
 ghost use Rattle.std.specs.Prelude.{◌≡◌, ◌+◌, ◌<◌, ◌≤◌, ◌^◌, ◌++◌, ◌∷◌, [], true, false, length, IfOk, IfErr, OnErr, None};
 ghost use Rattle.yp_journal.specs.History.{MayCome};
 ghost use Rattle.yp_published.specs.Histories.{after_op};
-ghost use Rattle.yp_log_share.specs.Seats.{with_call, AreOfLanesFrom, IsEntered};
+ghost use Rattle.yp_log_share.specs.Seats.{with_call, call_of, AreOfLanesFrom, IsEntered};
 
 use crate::finished::Finished;
 use crate::seat::{Call, LaneSeat, Receipt};
@@ -14,6 +14,7 @@ use std::sync::ledger::{Book, Share};
 use yp_base::memory::{Duplicate, NoMemory};
 use yp_journal::command::Command;
 use yp_journal::entry::Entry;
+use yp_journal::reply::Reply;
 use yp_journal::state::{Outcome, State};
 use yp_published::board::Board;
 use yp_published::history::Naming;
@@ -54,6 +55,43 @@ where
     ghost invariant = { λ d. (d.spent ≡ false → (d.board.spent ≡ false) × (d.state ≡ state_of J.nodes J.opening d.board.known.entries)) × (d.calls.total ≡ length d.board.known.entries) × (d.state.receivers ≡ J.opening.receivers) × (d.rest.parts ≡ 0) × (d.rest.amount ≡ 0) };
 }
 
+/// What is kept of a command that was accepted: its entry, and the call of its lane.
+#[derive(Drop)]
+struct Noted {
+    entry: Entry,
+    call: Call,
+}
+
+/// Copies of a command and its reply for the journal and for the lane.
+fn copied(
+    alloc: Global,
+    lane: u32,
+    index: u32,
+    position: u64,
+    stamp: u64,
+    command: &Command,
+    reply: &Reply,
+) -> Result<Noted, NoMemory>
+    ensures entry { IfOk result (λ noted. noted.entry ≡ record { lane = lane; index = index; stamp = stamp; command = command.now; reply = reply.now }) }
+    ensures call { IfOk result (λ noted. noted.call ≡ call_of position noted.entry) }
+{
+    Ok(Noted {
+        entry: Entry {
+            lane,
+            index,
+            stamp,
+            command: command.copy(alloc)?,
+            reply: reply.copy(alloc)?,
+        },
+        call: Call {
+            index,
+            position,
+            command: command.copy(alloc)?,
+            reply: reply.copy(alloc)?,
+        },
+    })
+}
+
 impl<J: Naming> Desk<J> {
     /// Takes a command of a seat's lane. The seat has one more call then, and what is published one more entry. After
     /// `NoMemory` both are as they were, and the desk may be spent: then it publishes nothing more.
@@ -78,8 +116,6 @@ impl<J: Naming> Desk<J> {
         }
         seat.calls.reserve(1)?;
         let index = seat.calls.len() as u32 + 1;
-        let told = command.copy(alloc)?;
-        let kept = command.copy(alloc)?;
         let Outcome {
             stamp,
             reply,
@@ -87,25 +123,18 @@ impl<J: Naming> Desk<J> {
         } = self.state.accept(alloc, schema, command)?;
         self.spent = true;
         let position = self.state.position();
-        let entry = Entry {
-            lane: seat.lane,
-            index,
-            stamp,
-            command: kept,
-            reply: reply.copy(alloc)?,
-        };
-        let answer = reply.copy(alloc)?;
+        let Noted { entry, call } = copied(
+            alloc, seat.lane, index, position, stamp, command, &reply,
+        )?;
         let front = match self.board.add(rt, entry, &seat.front) {
             Some(front) => front,
-            None => return Err(NoMemory),
+            None => {
+                drop(call);
+                return Err(NoMemory);
+            }
         };
         self.calls.add(&mut seat.share, 1);
-        seat.calls.push_reserved(Call {
-            index,
-            position,
-            command: told,
-            reply: answer,
-        });
+        seat.calls.push_reserved(call);
         seat.front = front;
         self.spent = false;
         Ok(Receipt { position, reply })

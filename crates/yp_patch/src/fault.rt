@@ -7,7 +7,7 @@ use std::error::Error;
 use std::fmt;
 use std::marker::Model;
 use yp_base::memory::NoMemory;
-use yp_base::txt::Txt;
+use yp_base::txt::{Txt, text_of};
 
 /// What is wrong with the JSON of a patch, or that memory ran out.
 #[derive(Debug, Drop, Clone, Copy, PartialEq, Eq, thiserror::Error)]
@@ -68,9 +68,7 @@ impl PatchError {
         PatchError {
             fault: PatchFault::Shape,
             edit: None,
-            member: member
-                .and_then(|name| String::from_str(alloc, name).ok())
-                .map(Txt::from_string),
+            member: member.and_then(|name| text_of(alloc, name).ok()),
         }
     }
 

@@ -7,7 +7,7 @@ ghost use Rattle.yp_patch.specs.Shapes.{ReadsAs, some_text, one_if, sole};
 use crate::fault::PatchError;
 use serde_json::{Map, Value as Json};
 use std::alloc::Global;
-use yp_base::txt::Txt;
+use yp_base::txt::{Txt, text_of};
 use yp_value::members::{count, member_in, text_in};
 
 /// The text of a member.
@@ -15,7 +15,7 @@ pub fn read_text(alloc: Global, members: &Map<String, Json>, name: &str) -> Resu
     ensures { ReadsAs result (text_member name.now (members_view members.now.entries)) }
 {
     match text_in(members, name) {
-        Some(text) => Ok(Txt::from_string(String::from_str(alloc, text)?)),
+        Some(text) => Ok(text_of(alloc, text)?),
         None => Err(PatchError::shape(alloc, Some(name))),
     }
 }
@@ -30,7 +30,7 @@ pub fn read_some_text(
 {
     match member_in(members, name) {
         Some(json) => match json.as_str() {
-            Some(text) => Ok(Some(Txt::from_string(String::from_str(alloc, text)?))),
+            Some(text) => Ok(Some(text_of(alloc, text)?)),
             None => Err(PatchError::shape(alloc, Some(name))),
         },
         None => Ok(None),

@@ -7,7 +7,7 @@ use std::alloc::Global;
 use yp_base::leaf_type::Names;
 use yp_base::memory::NoMemory;
 use yp_base::series::Series;
-use yp_base::txt::Txt;
+use yp_base::txt::text_of;
 
 /// Where the first such byte stands. Most marks come within a few bytes, where a search by words costs
 /// more than one by bytes.
@@ -46,9 +46,9 @@ pub fn cut_all(alloc: Global, text: &str, mark: char) -> Result<Names, NoMemory>
     let mut parts = Vec::new(alloc);
     let mut rest = text;
     while let Some((part, more)) = cut_once(rest, mark) {
-        parts.push(Txt::from_string(String::from_str(alloc, part)?))?;
+        parts.push(text_of(alloc, part)?)?;
         rest = more;
     }
-    parts.push(Txt::from_string(String::from_str(alloc, rest)?))?;
+    parts.push(text_of(alloc, rest)?)?;
     Ok(Series::from_vec(parts))
 }

@@ -62,12 +62,15 @@ fn has_whole_escapes(key: &[u8]) -> bool
 }
 
 /// The text of these bytes, if they are UTF-8.
-fn text_of(bytes: Vec<u8>) -> Option<Txt>
-    ensures { result ≡ (if is_utf8 bytes.items then Some bytes.items else None) }
+fn text_of(alloc: Global, bytes: Vec<u8>) -> Result<Option<Txt>, NoMemory>
+    ensures { IfOk result (λ text. text ≡ (if is_utf8 bytes.items then Some bytes.items else None)) }
 {
     match String::from_utf8(bytes) {
-        Ok(text) => Some(Txt::from_string(text)),
-        Err(_) => None,
+        Ok(text) => {
+            let text = Txt::from_string(alloc, text)?;
+            Ok(Some(text))
+        }
+        Err(_) => Ok(None),
     }
 }
 
@@ -81,7 +84,7 @@ pub fn read_key(alloc: Global, key: &str) -> Result<Option<Txt>, NoMemory>
     }
     let mut bytes = Vec::new(alloc);
     percent_decode(key.as_bytes()).append_to(&mut bytes)?;
-    Ok(text_of(bytes))
+    text_of(alloc, bytes)
 }
 
 /// The texts that keys stand for; none where one has none.

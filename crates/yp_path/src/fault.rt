@@ -7,7 +7,7 @@ use std::error::Error;
 use std::fmt;
 use std::marker::Model;
 use yp_base::memory::NoMemory;
-use yp_base::txt::Txt;
+use yp_base::txt::{Txt, text_of};
 
 /// What is wrong with the leftmost segment that has a fault; of its faults the first in this order.
 #[derive(Debug, Drop, Clone, Copy, PartialEq, Eq, thiserror::Error)]
@@ -120,7 +120,7 @@ impl PathError {
             _ => PathError {
                 fault,
                 segment: Some(before.saturating_add(1)),
-                name: String::from_str(alloc, name).ok().map(Txt::from_string),
+                name: text_of(alloc, name).ok(),
                 node,
             },
         }

@@ -9,7 +9,7 @@ use crate::mark::{Place, cut_bare};
 use std::alloc::Global;
 use yp_base::memory::NoMemory;
 use yp_base::series::Series;
-use yp_base::txt::Txt;
+use yp_base::txt::{Txt, text_of};
 
 /// A predicate: the name of a key, and its value's text.
 #[derive(Drop)]
@@ -89,8 +89,8 @@ fn make_predicate(alloc: Global, name: &str, value: &str) -> Result<Predicate, N
     ensures { IfOk result (λ made. (made.name ≡ name.now) × (made.value ≡ value.now)) }
 {
     Ok(Predicate {
-        name: Txt::from_string(String::from_str(alloc, name)?),
-        value: Txt::from_string(String::from_str(alloc, value)?),
+        name: text_of(alloc, name)?,
+        value: text_of(alloc, value)?,
     })
 }
 

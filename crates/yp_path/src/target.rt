@@ -13,7 +13,8 @@ use crate::fault::{PathError, PathFault};
 use crate::name::child_named;
 use crate::texts::{Texts, count, read_texts};
 use std::alloc::Global;
-use yp_base::atom::{Atom, Keys};
+use yp_base::atom::Atom;
+use yp_base::keys::Keys;
 use yp_base::memory::NoMemory;
 use yp_base::path::{Path, Seg};
 use yp_base::series::Series;
@@ -68,10 +69,14 @@ fn read_values(
                 }
                 None => return Ok(None),
             },
-            None => return Ok(Some(Series::from_vec(values))),
+            None => {
+                let keys = Keys::from_vec(alloc, values)?;
+                return Ok(Some(keys));
+            }
         }
     }
-    Ok(Some(Series::from_vec(values)))
+    let keys = Keys::from_vec(alloc, values)?;
+    Ok(Some(keys))
 }
 
 /// The values read earlier, and that of the last text.
@@ -88,7 +93,8 @@ fn read_last(
     match read_value(alloc, schema, node, text)? {
         Some(value) => {
             earlier.push(value)?;
-            Ok(Some(Series::from_vec(earlier)))
+            let keys = Keys::from_vec(alloc, earlier)?;
+            Ok(Some(keys))
         }
         None => Ok(None),
     }
@@ -118,7 +124,8 @@ fn read_bare_values(
             None => return read_last(alloc, schema, *node, rest, values),
         }
     }
-    Ok(Some(Series::from_vec(values)))
+    let keys = Keys::from_vec(alloc, values)?;
+    Ok(Some(keys))
 }
 
 /// The values of the keys of a segment, each by the type of its node.
@@ -225,7 +232,7 @@ fn read_segment(
     }
 }
 
-/// The segment that comes after so many others, below a node or at the top. Its copies share its keys.
+/// The segment that comes after so many others, below a node or at the top.
 fn read_next(
     alloc: Global,
     schema: &Schema,
@@ -238,7 +245,7 @@ fn read_next(
     ensures node { IfOk result (λ segment. segment.node < length schema.now) }
 {
     match read_segment(alloc, schema, parent, part) {
-        Ok(segment) => Ok(segment.share(alloc)?),
+        Ok(segment) => Ok(segment),
         Err(fault) => {
             let (name, _keys) = split_part(part);
             let node = child_named(schema, parent, name);
@@ -263,12 +270,15 @@ fn read_segments(alloc: Global, schema: &Schema, text: &str) -> Result<Path, Pat
     }
     let last = read_next(alloc, schema, parent, rest, segments.len())?;
     segments.push(last)?;
-    Ok(Path::from_vec(segments))
+    let path = Path::from_vec(alloc, segments)?;
+    Ok(path)
 }
 
-/// The path that a text is.
+/// The path that a text is. Names are in member form or
+/// qualified, keys percent-decoded and read by their types. The fault is the first of the leftmost
+/// segment that has one, which the error names.
 #[tactic(auto, using(crate::proofs::Segments::rooted, crate::proofs::Segments::unrooted, crate::proofs::Segments::rootless))]
-fn read_own(alloc: Global, schema: &Schema, text: &str) -> Result<Path, PathError>
+pub fn read_target(alloc: Global, schema: &Schema, text: &str) -> Result<Path, PathError>
     ensures read { Gives result (target_in schema.now text.now) }
     ensures path { IfOk result (λ path. is_path_of schema.now path ≡ true) }
 {
@@ -284,16 +294,6 @@ fn read_own(alloc: Global, schema: &Schema, text: &str) -> Result<Path, PathErro
         }
         None => Err(PathError::rootless()),
     }
-}
-
-/// The path that a text is; its copies share its segments and their keys. Names are in member form or
-/// qualified, keys percent-decoded and read by their types. The fault is the first of the leftmost
-/// segment that has one, which the error names.
-pub fn read_target(alloc: Global, schema: &Schema, text: &str) -> Result<Path, PathError>
-    ensures read { Gives result (target_in schema.now text.now) }
-    ensures path { IfOk result (λ path. is_path_of schema.now path ≡ true) }
-{
-    Ok(read_own(alloc, schema, text)?.share(alloc)?)
 }
 
 /// Writes keys, the first after this mark and each other after a comma.
@@ -341,5 +341,6 @@ pub fn write_target(alloc: Global, schema: &Schema, path: &Path) -> Result<Txt, 
     for segment in path.items() {
         push_segment(alloc, schema, &mut text, segment)?;
     }
-    Ok(Txt::from_string(text))
+    let written = Txt::from_string(alloc, text)?;
+    Ok(written)
 }

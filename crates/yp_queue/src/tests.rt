@@ -4,7 +4,7 @@ use crate::packet::{Offered, Packet, PacketKind};
 use std::alloc::Global;
 use std::test::Fail;
 use yp_base::memory::{Duplicate, NoMemory};
-use yp_base::txt::Txt;
+use yp_base::txt::text_of;
 
 // A packet that was made at this position.
 fn packet(alloc: Global, position: u64) -> Result<Packet, NoMemory> {
@@ -12,7 +12,7 @@ fn packet(alloc: Global, position: u64) -> Result<Packet, NoMemory> {
         sub: 2_147_483_648,
         position,
         kind: PacketKind::Changes,
-        line: Txt::from_string(String::from_str(alloc, "{}")?),
+        line: text_of(alloc, "{}")?,
     })
 }
 

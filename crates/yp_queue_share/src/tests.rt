@@ -8,7 +8,7 @@ use std::sync::Wait;
 use std::test::Fail;
 use std::thread::{self, Threads};
 use yp_base::memory::NoMemory;
-use yp_base::txt::Txt;
+use yp_base::txt::text_of;
 use yp_queue::packet::{Offered, Packet, PacketKind};
 
 // A packet that was made at this position.
@@ -17,7 +17,7 @@ fn packet(alloc: Global, position: u64) -> Result<Packet, NoMemory> {
         sub: 2_147_483_648,
         position,
         kind: PacketKind::Changes,
-        line: Txt::from_string(String::from_str(alloc, "{}")?),
+        line: text_of(alloc, "{}")?,
     })
 }
 

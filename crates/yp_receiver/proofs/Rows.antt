@@ -87,7 +87,7 @@ atom_readable ty (Truth truth) t h u = tt
 atom_readable ty (Int z) t h u = either (has_string_numbers ty) (string (atom_text (Int z))) (number (of_integer z)) (IsUtf8-from_is_utf8 (atom_text (Int z)) u) (int_readable ty z t h)
 atom_readable ty (Uint n) t h u =
     either (has_string_numbers ty) (string (atom_text (Uint n))) (number (unsigned n)) (IsUtf8-from_is_utf8 (atom_text (Uint n)) u) (uint_readable ty n t h)
-atom_readable ty (Dec units places) t h u = IsUtf8-from_is_utf8 (atom_text (Dec units places)) u
+atom_readable ty (Dec places units) t h u = IsUtf8-from_is_utf8 (atom_text (Dec places units)) u
 atom_readable ty (Text text) t h u = IsUtf8-from_is_utf8 text u
 
 -- ---- members put in their places

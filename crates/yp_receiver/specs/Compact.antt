@@ -17,7 +17,7 @@ abbrev pub value_of : CompactValue → Value
 value_of (Bool b) = Plain (Truth b)
 value_of (Int n) = Plain (Signed n)
 value_of (Uint n) = Plain (Unsigned n)
-value_of (Dec units places) = Plain (Decimal units places)
+value_of (Dec places units) = Plain (Decimal places units)
 value_of (Text text) = Plain (Words (string_bytes text))
 value_of Member = MemberValue
 value_of Empty = EmptyValue

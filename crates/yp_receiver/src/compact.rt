@@ -5,12 +5,13 @@ ghost use Rattle.yp_receiver.specs.Compact.{value_of, below, leaf_row, entry_row
 
 use std::alloc::Global;
 use std::marker::Model;
-use yp_base::atom::{Atom, Keys};
+use yp_base::atom::Atom;
+use yp_base::keys::Keys;
 use yp_base::memory::{Duplicate, NoMemory};
 use yp_base::path::{Path, Seg, is_prefix};
 use yp_base::row::{Row, Rows, Value};
 use yp_base::series::Series;
-use yp_base::txt::Txt;
+use yp_base::txt::{Txt, text_of};
 
 /// A value, of which a text is kept without spare room and without a count of those that share it.
 #[derive(Drop)]
@@ -18,7 +19,7 @@ enum CompactValue {
     Bool(bool),
     Int(i64),
     Uint(u64),
-    Dec { units: i64, places: u8 },
+    Dec { places: u8, units: i64 },
     Text(String),
     Member,
     Empty,
@@ -98,10 +99,7 @@ impl CompactValue {
                 units: *units,
                 places: *places,
             }),
-            CompactValue::Text(text) => {
-                let text = String::from_str(alloc, text.as_str())?;
-                Value::Atom(Atom::Text(Txt::from_string(text)))
-            }
+            CompactValue::Text(text) => { Value::Atom(Atom::Text(text_of(alloc, text.as_str())?)) }
             CompactValue::Member => Value::Member,
             CompactValue::Empty => Value::Empty,
             CompactValue::Present => Value::Present,
@@ -114,7 +112,7 @@ fn own_atom(alloc: Global, atom: &Atom) -> Result<Atom, NoMemory>
     ensures { IfOk result (λ own. own ≡ atom.now) }
 {
     match atom {
-        Atom::Text(text) => Ok(Atom::Text(Txt::from_string(own_text(alloc, text)?))),
+        Atom::Text(text) => Ok(Atom::Text(text_of(alloc, text.as_str())?)),
         other => Ok(other.copy(alloc)?),
     }
 }
@@ -127,7 +125,7 @@ fn own_keys(alloc: Global, keys: &Keys) -> Result<Keys, NoMemory>
     for key in keys.items() {
         own.push(own_atom(alloc, key)?)?;
     }
-    Ok(Series::from_vec(own))
+    Keys::from_vec(alloc, own)
 }
 
 /// A path that shares nothing.
@@ -142,18 +140,7 @@ fn own_path(alloc: Global, path: &Path) -> Result<Path, NoMemory>
             keys,
         })?;
     }
-    Ok(Path::from_vec(own))
-}
-
-/// The same path again, to be kept: the paths below it share its keys.
-fn shared_path(alloc: Global, path: &Path) -> Result<Path, NoMemory>
-    ensures { IfOk result (λ shared. shared ≡ path.now) }
-{
-    let mut shared = Vec::with_capacity(alloc, path.len())?;
-    for segment in path.items() {
-        shared.push(segment.copy(alloc)?.share(alloc)?)?;
-    }
-    Path::from_vec(shared).share(alloc)
+    Path::from_vec(alloc, own)
 }
 
 /// The last node of a path, where it is right below another and has no keys.
@@ -198,7 +185,7 @@ fn leaves_below(alloc: Global, path: &Path, rows: &[Row]) -> Result<Vec<CompactL
 fn leaf_row(alloc: Global, path: &Path, leaf: &CompactLeaf) -> Result<Row, NoMemory>
     ensures { IfOk result (λ row. row ≡ leaf_row path.now leaf.now) }
 {
-    let keys = Series::from_vec(Vec::new(alloc));
+    let keys = Keys::none();
     let node = leaf.node;
     Ok(Row {
         path: path.below(alloc, Seg { node, keys })?,
@@ -210,13 +197,12 @@ fn leaf_row(alloc: Global, path: &Path, leaf: &CompactLeaf) -> Result<Row, NoMem
 fn add_rows(alloc: Global, entry: &CompactEntry, rows: &mut Vec<Row>) -> Result<(), NoMemory>
     ensures { OnOk result (rows.new.items ≡ rows.old.items ++ entry_rows entry.now) }
 {
-    let path = shared_path(alloc, &entry.path)?;
     rows.push(Row {
-        path: path.copy(alloc)?,
+        path: entry.path.copy(alloc)?,
         value: entry.value.value(alloc)?,
     })?;
     for leaf in &entry.leaves {
-        rows.push(leaf_row(alloc, &path, leaf)?)?;
+        rows.push(leaf_row(alloc, &entry.path, leaf)?)?;
     }
     Ok(())
 }

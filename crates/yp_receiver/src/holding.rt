@@ -47,7 +47,7 @@ impl Model for Holding {
 fn all_rows<L: Ledger>(alloc: Global, tree: &Tree, steps: &mut Steps<L>) -> Result<Rows, NoMemory>
     ensures { IfOk result (λ rows. rows ≡ tree.now) }
 {
-    let top = Path::from_vec(Vec::new(alloc));
+    let top = Path::top(alloc)?;
     let rows = tree.rows_within(alloc, &top, steps)?;
     Ok(rows)
 }

@@ -11,7 +11,7 @@ use yp_base::leaf_type::Names;
 use yp_base::memory::{Duplicate, NoMemory};
 use yp_base::notice::{Kinds, Trigger};
 use yp_base::series::Series;
-use yp_base::txt::Txt;
+use yp_base::txt::{Txt, text_of};
 use yp_nacm::policy::Policy;
 use yp_schema::schema::Schema;
 use yp_terms::ask::{Amend, Ask, FilterAsk};
@@ -24,7 +24,7 @@ const LAST_ID: u32 = 4294967295;
 const GIVEN: u32 = 2147483646;
 
 fn txt(alloc: Global, text: &str) -> Result<Txt, NoMemory> {
-    Ok(Txt::from_string(String::from_str(alloc, text)?))
+    text_of(alloc, text)
 }
 
 // The one receiver ann.

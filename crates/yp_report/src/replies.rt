@@ -160,7 +160,7 @@ fn push_reply(
 }
 
 /// Adds the lines of replies, by position.
-pub fn push_replies(alloc: Global, text: &mut String, replies: &[Replied]) -> Result<(), AllocError>
+fn push_replies(alloc: Global, text: &mut String, replies: &[Replied]) -> Result<(), AllocError>
     requires { length replies.now < 2 ^ 63 }
     ensures { OnOk result (string_bytes text.new ≡ string_bytes text.old ++ flat_map reply_text (replied_lines 1 replies.now)) }
 {
@@ -170,4 +170,14 @@ pub fn push_replies(alloc: Global, text: &mut String, replies: &[Replied]) -> Re
         position += 1;
     }
     Ok(())
+}
+
+/// The lines of replies, by position. They are let go.
+pub fn replies_text(alloc: Global, replies: Vec<Replied>) -> Result<String, AllocError>
+    requires { length replies.items < 2 ^ 63 }
+    ensures { IfOk result (λ text. string_bytes text ≡ flat_map reply_text (replied_lines 1 replies.items)) }
+{
+    let mut text = String::new(alloc);
+    push_replies(alloc, &mut text, replies.as_slice())?;
+    Ok(text)
 }

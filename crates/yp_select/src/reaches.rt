@@ -4,7 +4,8 @@ ghost use Rattle.yp_filter.specs.View.{node_view, set_view, nodes_of};
 ghost use Rattle.yp_select.specs.Reaches.{node_key, key_asked, asks_keys, entry_keys, names_one, is_narrow, are_narrow, own_of_node, own_reached, below_of_node, below_reached, node_stands, set_stands};
 
 use std::alloc::Global;
-use yp_base::atom::{Atom, Keys};
+use yp_base::atom::Atom;
+use yp_base::keys::Keys;
 use yp_base::memory::{Duplicate, NoMemory};
 use yp_base::path::{Path, Seg};
 use yp_base::series::Series;
@@ -69,7 +70,7 @@ fn entry_keys(alloc: Global, keys: &[u32], set: &[FilterNode]) -> Result<Keys, N
             atoms.push(atom.copy(alloc)?)?;
         }
     }
-    Ok(Series::from_vec(atoms))
+    Keys::from_vec(alloc, atoms)
 }
 
 /// Whether a containment node is of one instance: of a container, or of the list entry whose keys its set
@@ -167,7 +168,7 @@ pub fn reaches_of(alloc: Global, schema: &Schema, set: &FilterSet) -> Result<Rea
         own: Vec::new(alloc),
         below: Vec::new(alloc),
     };
-    let top = Path::from_vec(Vec::new(alloc));
+    let top = Path::top(alloc)?;
     add_set(alloc, schema, set, top, &mut reaches)?;
     Ok(reaches)
 }

@@ -92,7 +92,7 @@ fn keep_kept<R: Readable, L: Ledger>(
     ensures visits { OnOk result (steps.new ≤ steps.old + length rows * set_size (set_view set.now)) }
 {
     let mut seen = Vec::new(alloc);
-    let mut way = Way::new(alloc);
+    let mut way = Way::new(alloc)?;
     for row in rows.into_vec(alloc)? {
         if way.keeps(alloc, visible, set, &row.path, steps)? {
             seen.push(row)?;
@@ -240,7 +240,7 @@ fn rows_for<L: Ledger>(
 {
     match filter {
         Filter::All => {
-            let top = Path::from_vec(Vec::new(alloc));
+            let top = Path::top(alloc)?;
             let all = tree.rows_within(alloc, &top, steps)?;
             Ok(all)
         }

@@ -53,7 +53,7 @@ pub fn with_text(
     let text = patch_text(alloc, present.schema, present.state.position(), &changes)?;
     Ok(Some(Record {
         changes: changes.share(alloc)?,
-        text: text.share(alloc)?,
+        text,
     }))
 }
 

@@ -52,7 +52,7 @@ abbrev pub TextIsUtf8 : Atom → Type 0
 TextIsUtf8 (Truth truth) = Unit {0}
 TextIsUtf8 (Int n) = Unit {0}
 TextIsUtf8 (Uint n) = Unit {0}
-TextIsUtf8 (Dec units places) = Unit {0}
+TextIsUtf8 (Dec places units) = Unit {0}
 TextIsUtf8 (Text text) = is_utf8 text ≡ true
 
 int_utf8 : (ty : LeafType) (z : ℤ) → is_type ty ≡ true → fits ty (Int z) ≡ true → is_utf8 (signed_decimal z) ≡ true
@@ -73,12 +73,12 @@ uint_utf8 TextType n t h = absurd (true≢false (sym h))
 uint_utf8 (Names names) n t h = absurd (true≢false (sym h))
 uint_utf8 EmptyType n t h = absurd (true≢false (sym h))
 
-dec_utf8 : (ty : LeafType) (units : ℤ) (own : ℕ) → fits ty (Dec units own) ≡ true → is_utf8 (atom_text (Dec units own)) ≡ true
+dec_utf8 : (ty : LeafType) (units : ℤ) (own : ℕ) → fits ty (Dec own units) ≡ true → is_utf8 (atom_text (Dec own units)) ≡ true
 dec_utf8 TruthType units own h = absurd (true≢false (sym h))
 dec_utf8 (IntType bits) units own h = absurd (true≢false (sym h))
 dec_utf8 (UintType bits) units own h = absurd (true≢false (sym h))
 dec_utf8 (DecType places) units own h =
-    plain (atom_text (Dec units own)) (ascii_decimal units own (units_low units (and_parts (own == places) (is_between (2 ^ 63) (2 ^ 63 - 1) units) h).1))
+    plain (atom_text (Dec own units)) (ascii_decimal units own (units_low units (and_parts (own == places) (is_between (2 ^ 63) (2 ^ 63 - 1) units) h).1))
 dec_utf8 TextType units own h = absurd (true≢false (sym h))
 dec_utf8 (Names names) units own h = absurd (true≢false (sym h))
 dec_utf8 EmptyType units own h = absurd (true≢false (sym h))
@@ -88,7 +88,7 @@ atom_utf8 ty (Truth true) t h u = is_utf8-from_IsUtf8 (codes "true") (IsUtf8-are
 atom_utf8 ty (Truth false) t h u = is_utf8-from_IsUtf8 (codes "false") (IsUtf8-are_ascii (codes "false") refl)
 atom_utf8 ty (Int z) t h u = int_utf8 ty z t h
 atom_utf8 ty (Uint n) t h u = uint_utf8 ty n t h
-atom_utf8 ty (Dec units places) t h u = dec_utf8 ty units places h
+atom_utf8 ty (Dec places units) t h u = dec_utf8 ty units places h
 atom_utf8 ty (Text text) t h u = u
 
 -- ---- atoms of texts
@@ -105,7 +105,7 @@ text_read : (ty : LeafType) (text : List ℕ) → is_utf8 text ≡ true → IfSo
 text_read TruthType text u = no_text (λ truth. Truth truth) (truth_in text) (λ truth. tt)
 text_read (IntType bits) text u = no_text (λ n. Int n) (number_in (2 ^ (bits - 1)) (2 ^ (bits - 1) - 1) text) (λ n. tt)
 text_read (UintType bits) text u = no_text (λ n. Uint (unsigned_abs n)) (number_in 0 (2 ^ bits - 1) text) (λ n. tt)
-text_read (DecType places) text u = no_text (λ units. Dec units places) (decimal_in places text) (λ n. tt)
+text_read (DecType places) text u = no_text (λ units. Dec places units) (decimal_in places text) (λ n. tt)
 text_read TextType text u = kept_text (is_short text) text u
 text_read (Names names) text u = kept_text (is_among text names) text u
 text_read EmptyType text u = tt

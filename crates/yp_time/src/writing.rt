@@ -32,7 +32,7 @@ pub fn event_time(alloc: Global, start: &Start, tick: u64) -> Result<Txt, NoMemo
     text.push('.')?;
     push_pair(&mut text, (hundredths % 100) as u16)?;
     text.push('Z')?;
-    Ok(Txt::from_string(text))
+    Txt::from_string(alloc, text)
 }
 
 // Appends a date.

@@ -234,7 +234,7 @@ fn look_for<R: Readable, L: Ledger>(
     if !is_compared(sides.schema, sides.filter, &row.path) {
         return look_at_changed(alloc, sides, row, found, steps);
     }
-    let above = row.path.first(alloc, row.path.len().saturating_sub(1))?;
+    let above = row.path.first(row.path.len().saturating_sub(1))?;
     let old = sides.before.within(alloc, &above, steps)?;
     look_at_rows(alloc, sides, old, found, steps)?;
     let new = sides.after.within(alloc, &above, steps)?;

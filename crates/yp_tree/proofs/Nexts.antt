@@ -1,6 +1,7 @@
 -- The row that is next, and where it is found.
-use Rattle.std.proofs.Common.{◌≡◌, List, [], ◌∷◌, map, refl, sym, ap, ◌∙◌, cond, Bool, true, false, ◌&&◌, Some, None}
-use Rattle.std.specs.Prelude.{Option, filter}
+use Rattle.std.proofs.Common.{◌≡◌, List, [], ◌∷◌, map, refl, sym, ap, ◌∙◌, cond, Bool, true, false, ◌&&◌, Some, None, slice_get}
+use Rattle.std.specs.Borrow.{Bor}
+use Rattle.std.specs.Prelude.{Option, MatchOption, option_map, filter}
 use Rattle.std.specs.List.{AllByRecursion}
 use Rattle.std.specs.List.Sorted.{IsStrictlySortedBy}
 use Rattle.std.specs.Ordering.{is_lt, is_gt, is_le, ordering_reverse}
@@ -17,6 +18,7 @@ use Rattle.yp_base.specs.Order.{path_cmp, is_within, segment_cmp}
 use Rattle.yp_base.specs.OrderLaws.{segments_total, paths_total}
 use Rattle.yp_base.specs.Prefixes.{front_not_after, fronts_together}
 use Rattle.yp_tree.specs.Begins.{Begins}
+use Rattle.yp_tree.specs.Gaps.{rows_from}
 use Rattle.yp_base.specs.Rows.{path_of, next_row, row_of, rows_of}
 use Rattle.yp_base.specs.PathLaws.{less_told}
 
@@ -123,3 +125,23 @@ next_from_range after under start es found rows begins order same range =
     ap (first_row under) range
     ∙ sym (first_within (range_contains path_cmp start Unbounded) after under begins.from_under begins.past_after es order)
     ∙ ap (next_row after under) same
+
+-- the rows from a path on are those of the range that begins there
+picked_from : (from : List Seg) (es : List (List Seg × Value)) → rows_of (entries_between path_cmp (Included from) Unbounded es) ≡ rows_from from (rows_of es)
+picked_from from [] = refl
+picked_from from (e ∷ es) =
+    let rest = entries_between path_cmp (Included from) Unbounded es in
+    elim (is_le (path_cmp from e.0)) as (λ b. rows_of (cond (b && true) (e ∷ rest) rest) ≡ cond b (row_of e ∷ rows_from from (rows_of es)) (rows_from from (rows_of es))) [
+      | true ↦ ap (λ (rows : List Row). row_of e ∷ rows) (picked_from from es)
+      | false ↦ picked_from from es
+    ]
+
+-- what a range gives first is the first row from a path on
+pub first_of_range : (from : List Seg) (es found : List (List Seg × Value)) (rows : List Row) → rows_of es ≡ rows → found ≡ entries_between path_cmp (Included from) Unbounded es → slice_get (rows_of found) 0 ≡ slice_get (rows_from from rows) 0
+first_of_range from es found rows same range = ap (λ rest. slice_get (rows_of rest) 0) range ∙ ap (λ rest. slice_get rest 0) (picked_from from es ∙ ap (rows_from from) same)
+
+-- the first of what is left, where there is one
+pub first_of_rest : (first : Option (Bor (List Seg) × Bor Value)) (found rest : List (List Seg × Value)) → MatchOption first ((found ≡ []) × (rest ≡ [])) (λ x. found ≡ (x.0.now, x.1.now) ∷ rest)
+    → option_map (λ x. row_of (x.0.now, x.1.now)) first ≡ slice_get (rows_of found) 0
+first_of_rest None found rest steps = sym (ap (λ left. slice_get (rows_of left) 0) steps.0)
+first_of_rest (Some x) found rest steps = sym (ap (λ left. slice_get (rows_of left) 0) steps)

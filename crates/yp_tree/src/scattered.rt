@@ -164,9 +164,10 @@ fn taken_at(alloc: Global, rows: &mut Vec<Row>, places: &[usize]) -> Result<Vec<
     ensures { IfOk result (λ taken. taken.items ≡ rows_at rows.old.items places.now) }
 {
     let mut taken = Vec::with_capacity(alloc, places.len())?;
+    let top = Path::top(alloc)?;
     for place in places {
         let nothing = Row {
-            path: Path::from_vec(Vec::new(alloc)),
+            path: top.copy(alloc)?,
             value: Value::Empty,
         };
         taken.push(replace(&mut rows[*place], nothing))?;

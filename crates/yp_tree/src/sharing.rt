@@ -7,11 +7,11 @@ use yp_base::path::{Path, is_prefix};
 use yp_base::row::Row;
 
 /// Has the path of a row share the segments of another path, where that lies below it.
-fn share(alloc: Global, row: &mut Row, other: &Path) -> Result<(), NoMemory>
+fn share(row: &mut Row, other: &Path) -> Result<(), NoMemory>
     ensures { OnOk result (row.new ≡ row.old) }
 {
     if is_prefix(&row.path, other) {
-        row.path = other.first(alloc, row.path.len())?;
+        row.path = other.first(row.path.len())?;
     }
     Ok(())
 }
@@ -24,7 +24,7 @@ pub(crate) fn share_paths(alloc: Global, rows: &mut Vec<Row>) -> Result<(), NoMe
     while place > 1 {
         place -= 1;
         let next = rows[place].path.copy(alloc)?;
-        share(alloc, &mut rows[place - 1], &next)?;
+        share(&mut rows[place - 1], &next)?;
     }
     Ok(())
 }

@@ -3,6 +3,7 @@ ghost use Rattle.std.specs.Prelude.{◌≡◌, ◌+◌, ◌^◌, ◌<◌, ◌≤
 ghost use Rattle.std.specs.Bound.{bound_map};
 ghost use Rattle.yp_base.specs.Rows.{path_of, value_at, put_row, put_rows, next_row, has_within, rows_within, rows_without, AreInOrder, row_of, rows_of};
 ghost use Rattle.yp_tree.specs.Begins.{Begins};
+ghost use Rattle.yp_tree.specs.Gaps.{rows_from};
 ghost use Rattle.yp_tree.specs.Listed.{given_back, set_row, undone, without_others, without_row};
 
 use std::alloc::Global;
@@ -80,7 +81,7 @@ impl Tree {
         ensures visits { steps.new ≡ steps.old + 1 }
     {
         steps.tick();
-        self.first_from(after, under)
+        self.next_from(after, under)
     }
 
     /// The first row at or below a path, and `None` exactly where there is no such row. It counts one
@@ -107,6 +108,22 @@ impl Tree {
             }
             None => None,
         }
+    }
+
+    /// The first row that has a path or comes past it, and `None` exactly where there is no such row. It counts
+    /// one visit.
+    pub fn first_from<L: Ledger>(
+        &self,
+        path: &Path,
+        steps: &mut Steps<L>,
+    ) -> Option<(&Path, &Value)>
+        ensures found { option_map (λ found. row_of (found.0.now, found.1.now)) result
+            ≡ slice_get (rows_from path.now self.now) 0 }
+        ensures visits { steps.new ≡ steps.old + 1 }
+    {
+        steps.tick();
+        let mut rows = self.kept.range((Bound::Included(path), Bound::Unbounded));
+        rows.next()
     }
 
     /// The rows at or below a path, in order. It counts a visit for each of them, and one more.
@@ -143,7 +160,9 @@ impl Tree {
         ensures rows { IfOk result (λ rows. rows ≡ rows_within under.now self.now) }
         ensures visits { IfOk result (λ rows. steps.new ≤ steps.old + length rows + 1) }
     {
-        let mut found = Vec::new(alloc);
+        // The whole tree has just its room.
+        let room = if under.len() == 0 { self.len() } else { 0 };
+        let mut found = Vec::with_capacity(alloc, room)?;
         let mut rows = self.kept.range((Bound::Included(under), Bound::Unbounded));
         while let Some(row) = rows.next() {
             steps.tick();
@@ -447,7 +466,7 @@ impl Tree {
         Ok(paths)
     }
 
-    fn first_from(&self, after: &Path, under: &Path) -> Option<(&Path, &Value)>
+    fn next_from(&self, after: &Path, under: &Path) -> Option<(&Path, &Value)>
         ensures { option_map (λ found. row_of (found.0.now, found.1.now)) result
             ≡ next_row after.now under.now self.now }
     {

@@ -80,7 +80,7 @@ abbrev pub atom_data : LeafType → Atom → Data
 atom_data ty (Truth truth) = boolean truth
 atom_data ty (Int n) = if has_string_numbers ty then string (atom_text (Int n)) else number (of_integer n)
 atom_data ty (Uint n) = if has_string_numbers ty then string (atom_text (Uint n)) else number (unsigned n)
-atom_data ty (Dec units places) = string (atom_text (Dec units places))
+atom_data ty (Dec places units) = string (atom_text (Dec places units))
 atom_data ty (Text text) = string text
 
 -- the JSON of a value; a row of a list entry or of a presence container has none of its own

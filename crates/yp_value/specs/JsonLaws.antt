@@ -86,32 +86,32 @@ atom_again : (ty : LeafType) (a : Atom) → is_type ty ≡ true → fits ty a �
 atom_again TruthType (Truth b) t e = refl
 atom_again TruthType (Int n) t e = cc
 atom_again TruthType (Uint n) t e = cc
-atom_again TruthType (Dec u p) t e = cc
+atom_again TruthType (Dec p u) t e = cc
 atom_again TruthType (Text s) t e = cc
 atom_again (IntType bits) (Truth b) t e = cc
 atom_again (IntType bits) (Int n) t e = int_again (bits == 64) bits n e (text_again (IntType bits) (Int n) t e)
 atom_again (IntType bits) (Uint n) t e = cc
-atom_again (IntType bits) (Dec u p) t e = cc
+atom_again (IntType bits) (Dec p u) t e = cc
 atom_again (IntType bits) (Text s) t e = cc
 atom_again (UintType bits) (Truth b) t e = cc
 atom_again (UintType bits) (Int n) t e = cc
 atom_again (UintType bits) (Uint n) t e = uint_again (bits == 64) bits n e (text_again (UintType bits) (Uint n) t e)
-atom_again (UintType bits) (Dec u p) t e = cc
+atom_again (UintType bits) (Dec p u) t e = cc
 atom_again (UintType bits) (Text s) t e = cc
 atom_again (DecType places) (Truth b) t e = cc
 atom_again (DecType places) (Int n) t e = cc
 atom_again (DecType places) (Uint n) t e = cc
-atom_again (DecType places) (Dec u p) t e = text_again (DecType places) (Dec u p) t e
+atom_again (DecType places) (Dec p u) t e = text_again (DecType places) (Dec p u) t e
 atom_again (DecType places) (Text s) t e = cc
 atom_again TextType (Truth b) t e = cc
 atom_again TextType (Int n) t e = cc
 atom_again TextType (Uint n) t e = cc
-atom_again TextType (Dec u p) t e = cc
+atom_again TextType (Dec p u) t e = cc
 atom_again TextType (Text s) t e = text_again TextType (Text s) t e
 atom_again (Names names) (Truth b) t e = cc
 atom_again (Names names) (Int n) t e = cc
 atom_again (Names names) (Uint n) t e = cc
-atom_again (Names names) (Dec u p) t e = cc
+atom_again (Names names) (Dec p u) t e = cc
 atom_again (Names names) (Text s) t e = text_again (Names names) (Text s) t e
 atom_again EmptyType a t e = cc
 

@@ -52,7 +52,7 @@ read_fits TruthType text a e = made_of (λ b. Truth b) fits_bool (truth_in text)
 read_fits (IntType bits) text a e = made_of (λ n. Int n) (fits_int bits) (number_in (2 ^ (bits - 1)) (2 ^ (bits - 1) - 1) text) a (λ z is. between_read (2 ^ (bits - 1)) (2 ^ (bits - 1) - 1) (cut_sign text).0 (magnitude_in (cut_sign text).1) z is) e
 read_fits (UintType bits) text a e = made_of (λ n. Uint (unsigned_abs n)) (fits_uint bits) (number_in 0 (2 ^ bits - 1) text) a (λ z is. size_between (2 ^ bits - 1) z (between_read 0 (2 ^ bits - 1) (cut_sign text).0 (magnitude_in (cut_sign text).1) z is)) e
 read_fits (DecType places) text a e =
-    made_of (λ units. Dec units places) (fits_dec places) (decimal_in places text) a
+    made_of (λ units. Dec places units) (fits_dec places) (decimal_in places text) a
     (λ z is. ap (λ t. t && is_between (2 ^ 63) (2 ^ 63 - 1) z) (same_places places) ∙ between_read (2 ^ 63) (2 ^ 63 - 1) (cut_sign (around_point text).0).0 (units_around places ((cut_sign (around_point text).0).1, (around_point text).1)) z is) e
 read_fits TextType text a e = kept_text (is_short text) fits_text text a refl e
 read_fits (Names names) text a e = kept_text (is_among text names) (fits_names names) text a refl e
@@ -86,40 +86,40 @@ text_again TruthType (Truth true) t e = refl
 text_again TruthType (Truth false) t e = refl
 text_again TruthType (Int n) t e = cc
 text_again TruthType (Uint n) t e = cc
-text_again TruthType (Dec u p) t e = cc
+text_again TruthType (Dec p u) t e = cc
 text_again TruthType (Text s) t e = cc
 text_again (IntType bits) (Truth b) t e = cc
 text_again (IntType bits) (Int n) t e =
     let range = width_fits bits t in
     ap (option_map (λ n. Int n)) (number_again (2 ^ (bits - 1)) (2 ^ (bits - 1) - 1) n range.0 (omega (arith, range.0)) e)
 text_again (IntType bits) (Uint n) t e = cc
-text_again (IntType bits) (Dec u p) t e = cc
+text_again (IntType bits) (Dec p u) t e = cc
 text_again (IntType bits) (Text s) t e = cc
 text_again (UintType bits) (Truth b) t e = cc
 text_again (UintType bits) (Int n) t e = cc
 text_again (UintType bits) (Uint n) t e =
     let range = width_fits bits t in
     ap (option_map (λ n. Uint (unsigned_abs n))) (number_again 0 (2 ^ bits - 1) (pos n) (omega arith) range.1 e)
-text_again (UintType bits) (Dec u p) t e = cc
+text_again (UintType bits) (Dec p u) t e = cc
 text_again (UintType bits) (Text s) t e = cc
 text_again (DecType places) (Truth b) t e = cc
 text_again (DecType places) (Int n) t e = cc
 text_again (DecType places) (Uint n) t e = cc
-text_again (DecType places) (Dec u p) t e =
+text_again (DecType places) (Dec p u) t e =
     let ends = and_parts (nat_le 1 places) (nat_le places 18) t in
     let parts = and_parts (p == places) (is_between (2 ^ 63) (2 ^ 63 - 1) u) e in
     let same : p ≡ places = eqb-true p places parts.0 in
     let some : 1 ≤ p = omega (arith, leb-true 1 places ends.0) in
-    ap (λ k. option_map (λ units. Dec units k) (decimal_in k (atom_text (Dec u p)))) (sym same) ∙ ap (option_map (λ units. Dec units p)) (decimal_again p u some parts.1)
+    ap (λ k. option_map (λ units. Dec k units) (decimal_in k (atom_text (Dec p u)))) (sym same) ∙ ap (option_map (λ units. Dec p units)) (decimal_again p u some parts.1)
 text_again (DecType places) (Text s) t e = cc
 text_again TextType (Truth b) t e = cc
 text_again TextType (Int n) t e = cc
 text_again TextType (Uint n) t e = cc
-text_again TextType (Dec u p) t e = cc
+text_again TextType (Dec p u) t e = cc
 text_again TextType (Text s) t e = ap (λ b. cond b (Some (Text s)) None) e
 text_again (Names names) (Truth b) t e = cc
 text_again (Names names) (Int n) t e = cc
 text_again (Names names) (Uint n) t e = cc
-text_again (Names names) (Dec u p) t e = cc
+text_again (Names names) (Dec p u) t e = cc
 text_again (Names names) (Text s) t e = ap (λ b. cond b (Some (Text s)) None) e
 text_again Empty a t e = cc

@@ -77,7 +77,7 @@ abbrev pub atom_in : LeafType → List ℕ → Option Atom
 atom_in TruthType text = option_map (λ truth. Truth truth) (truth_in text)
 atom_in (IntType bits) text = option_map (λ n. Int n) (number_in (2 ^ (bits - 1)) (2 ^ (bits - 1) - 1) text)
 atom_in (UintType bits) text = option_map (λ n. Uint (unsigned_abs n)) (number_in 0 (2 ^ bits - 1) text)
-atom_in (DecType places) text = option_map (λ units. Dec units places) (decimal_in places text)
+atom_in (DecType places) text = option_map (λ units. Dec places units) (decimal_in places text)
 atom_in TextType text = if is_short text then Some (Text text) else None
 atom_in (Names names) text = if is_among text names then Some (Text text) else None
 atom_in Empty text = None
@@ -119,7 +119,7 @@ atom_text (Truth true) = codes "true"
 atom_text (Truth false) = codes "false"
 atom_text (Int n) = signed_decimal n
 atom_text (Uint n) = decimal n
-atom_text (Dec units places) = decimal_text units places
+atom_text (Dec places units) = decimal_text units places
 atom_text (Text text) = text
 
 -- whether a number lies from -low to high
@@ -140,7 +140,7 @@ fits_uint bits (Uint n) = nat_le n (2 ^ bits - 1)
 fits_uint bits other = false
 
 abbrev pub fits_dec : ℕ → Atom → Bool
-fits_dec places (Dec units own) = own == places && is_between (2 ^ 63) (2 ^ 63 - 1) units
+fits_dec places (Dec own units) = own == places && is_between (2 ^ 63) (2 ^ 63 - 1) units
 fits_dec places other = false
 
 abbrev pub fits_text : Atom → Bool
@@ -163,6 +163,6 @@ fits Empty atom = false
 
 -- whether an atom can be written: a decimal has 1 to 18 places, a text at most 256 bytes
 abbrev pub is_writable : Atom → Bool
-is_writable (Dec units places) = nat_le 1 places && nat_le places 18
+is_writable (Dec places units) = nat_le 1 places && nat_le places 18
 is_writable (Text text) = is_short text
 is_writable other = true

@@ -29,16 +29,16 @@ pub fits_writable : (ty : LeafType) (a : Atom) → is_type ty ≡ true → fits 
 fits_writable ty (Truth b) t e = refl
 fits_writable ty (Int n) t e = refl
 fits_writable ty (Uint n) t e = refl
-fits_writable TruthType (Dec u p) t e = cc
-fits_writable (IntType bits) (Dec u p) t e = cc
-fits_writable (UintType bits) (Dec u p) t e = cc
-fits_writable (DecType places) (Dec u p) t e =
+fits_writable TruthType (Dec p u) t e = cc
+fits_writable (IntType bits) (Dec p u) t e = cc
+fits_writable (UintType bits) (Dec p u) t e = cc
+fits_writable (DecType places) (Dec p u) t e =
     let parts = and_parts (p == places) (is_between (2 ^ 63) (2 ^ 63 - 1) u) e in
     let same : p ≡ places = eqb-true p places parts.0 in
     ap (λ k. nat_le 1 k && nat_le k 18) same ∙ t
-fits_writable TextType (Dec u p) t e = cc
-fits_writable (Names names) (Dec u p) t e = cc
-fits_writable Empty (Dec u p) t e = cc
+fits_writable TextType (Dec p u) t e = cc
+fits_writable (Names names) (Dec p u) t e = cc
+fits_writable Empty (Dec p u) t e = cc
 fits_writable TruthType (Text s) t e = cc
 fits_writable (IntType bits) (Text s) t e = cc
 fits_writable (UintType bits) (Text s) t e = cc

@@ -9,7 +9,7 @@ use serde_json::{Category, Value as Json};
 use std::alloc::Global;
 use std::marker::Model;
 use yp_base::memory::{Duplicate, NoMemory};
-use yp_base::txt::Txt;
+use yp_base::txt::{self, Txt};
 
 /// How deep arrays and objects may nest in a text that is read again.
 const MAX_DEPTH: u32 = 127;
@@ -68,7 +68,7 @@ fn text_of(alloc: Global, json: &Json) -> Result<Txt, NoMemory>
     ensures { IfOk result (λ text. depth (data_of json.now) ≤ max_depth → read text ≡ Some (data_of json.now)) }
 {
     let written = json.to_string(alloc)?;
-    Ok(Txt::from_string(String::from_str(alloc, written.as_str())?))
+    txt::text_of(alloc, written.as_str())
 }
 
 impl Duplicate for Payload {

@@ -11,7 +11,7 @@ use std::alloc::{AllocError, Global};
 use yp_base::atom::Atom;
 use yp_base::leaf_type::{LeafType, Names};
 use yp_base::memory::NoMemory;
-use yp_base::txt::Txt;
+use yp_base::txt::{Txt, text_of};
 
 /// Why a value isn't read.
 #[derive(Debug, Drop, Clone, Copy, PartialEq, Eq, thiserror::Error)]
@@ -24,10 +24,10 @@ pub enum TextFault {
     Memory,
 }
 
-impl From<AllocError> for TextFault {
+impl From<NoMemory> for TextFault {
     ghost from_gives = { λ _ fault. fault ≡ Memory };
 
-    fn from(_error: AllocError) -> TextFault {
+    fn from(_error: NoMemory) -> TextFault {
         TextFault::Memory
     }
 }
@@ -44,14 +44,14 @@ pub fn read_text(alloc: Global, ty: &LeafType, text: &str) -> Result<Atom, TextF
         LeafType::Dec { places } => answer(read_dec(*places, text)),
         LeafType::Text => {
             if text.len() <= 256 {
-                Ok(Atom::Text(copied(alloc, text)?))
+                Ok(Atom::Text(text_of(alloc, text)?))
             } else {
                 Err(TextFault::BadText)
             }
         }
         LeafType::Names(names) => {
             if is_named(names, text) {
-                Ok(Atom::Text(copied(alloc, text)?))
+                Ok(Atom::Text(text_of(alloc, text)?))
             } else {
                 Err(TextFault::BadText)
             }
@@ -68,12 +68,6 @@ fn answer(read: Option<Atom>) -> Result<Atom, TextFault>
         Some(atom) => Ok(atom),
         None => Err(TextFault::BadText),
     }
-}
-
-fn copied(alloc: Global, text: &str) -> Result<Txt, AllocError>
-    ensures { IfOk result (λ copy. copy ≡ text.now) }
-{
-    Ok(Txt::from_string(String::from_str(alloc, text)?))
 }
 
 fn read_truth(text: &str) -> Option<Atom>
@@ -152,7 +146,8 @@ fn is_named(names: &Names, text: &str) -> bool
 pub fn write_text(alloc: Global, atom: &Atom) -> Result<Txt, NoMemory>
     ensures { IfOk result (λ text. text ≡ atom_text atom.now) }
 {
-    Ok(Txt::from_string(string_of(alloc, atom)?))
+    let text = string_of(alloc, atom)?;
+    Txt::from_string(alloc, text)
 }
 
 /// The canonical text of a value.

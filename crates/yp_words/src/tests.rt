@@ -2,15 +2,16 @@
 use crate::help::help_text;
 use crate::laws::{bad_words_by_example, good_words_by_example};
 use crate::words::{Mode, Words, WordsFault, read_words};
-use std::alloc::{AllocError, Global};
+use std::alloc::Global;
 use std::test::Fail;
-use yp_base::txt::Txt;
+use yp_base::memory::NoMemory;
+use yp_base::txt::{Txt, text_of};
 
 // The words of a line, one after each space.
-fn words_of(alloc: Global, line: &str) -> Result<Vec<Txt>, AllocError> {
+fn words_of(alloc: Global, line: &str) -> Result<Vec<Txt>, NoMemory> {
     let mut words = Vec::new(alloc);
     for word in line.split(' ') {
-        words.push(Txt::from_string(String::from_str(alloc, word)?))?;
+        words.push(text_of(alloc, word)?)?;
     }
     Ok(words)
 }

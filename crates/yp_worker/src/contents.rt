@@ -90,7 +90,7 @@ fn select<L: Ledger>(
     let text = contents_text(alloc, present.schema, &rows)?;
     Ok(Content {
         rows: rows.share(alloc)?,
-        text: text.share(alloc)?,
+        text,
     })
 }
 

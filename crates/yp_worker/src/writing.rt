@@ -37,7 +37,7 @@ fn full_line(
     let contents = contents.as_str();
     let mut text = String::with_capacity(alloc, contents.len().saturating_add(ROOM))?;
     push_full_line(alloc, &mut text, start, tick, id, contents)?;
-    Ok(Txt::from_string(text))
+    Txt::from_string(alloc, text)
 }
 
 /// The line of a change update that carries this text. An incomplete one lacks some changes.
@@ -56,7 +56,7 @@ fn changes_line(
     let patch = patch.as_str();
     let mut text = String::with_capacity(alloc, patch.len().saturating_add(ROOM))?;
     push_changes_line(alloc, &mut text, start, tick, id, patch, incomplete)?;
-    Ok(Txt::from_string(text))
+    Txt::from_string(alloc, text)
 }
 
 /// The line of a notification: around the text of what it carries, where there is one.

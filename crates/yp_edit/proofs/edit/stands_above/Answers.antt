@@ -9,7 +9,7 @@ use Rattle.yp_edit.proofs.edit.stands_above.Goals as goal
 
 pub loop-segment-init : goal.loop-segment-init
 loop-segment-init g c =
-    let top : c.from_vec-above.result ≡ [] = c.from_vec-above.ensures ∙ c.new.ensures.items in
+    let top : c.in_ok-above.above ≡ [] = c.in_ok-above.ensures in
     let test : List Seg → Bool = has_its_row c.args.schema.now c.args.trial.now.after in
     record {
       nodes = subst (λ (path : List Seg). AllByRecursion (λ segment. segment.node < length c.args.schema.now) path) (sym c.items-rest.ensures) (each_within c.args.schema.now c.args.target.now c.requires);

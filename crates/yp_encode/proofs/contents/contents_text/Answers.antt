@@ -5,6 +5,6 @@ use Rattle.yp_encode.proofs.contents.contents_text.Goals as goal
 
 pub returns : goal.returns
 returns c =
-    c.from_string.ensures ∙ c.in_ok-push_rows.ensures
-    ∙ ap (λ old. old ++ compact_text (rows_json c.args.schema.now c.from_vec-top.result c.args.rows.now)) c.in_ok-text.ensures.bytes
-    ∙ ap compact_text (ap (λ p. rows_json c.args.schema.now p c.args.rows.now) (c.from_vec-top.ensures ∙ c.new.ensures.items))
+    c.in_ok-contents.ensures ∙ c.in_ok-push_rows.ensures
+    ∙ ap (λ old. old ++ compact_text (rows_json c.args.schema.now c.in_ok-top.top c.args.rows.now)) c.in_ok-text.ensures.bytes
+    ∙ ap compact_text (ap (λ p. rows_json c.args.schema.now p c.args.rows.now) c.in_ok-top.ensures)

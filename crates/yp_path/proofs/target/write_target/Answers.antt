@@ -13,4 +13,4 @@ push_segment-requires-clause-keys c =
 
 pub returns-clause-again : goal.returns-clause-again
 returns-clause-again c =
-    all_again c.args.schema.now c.args.path.now _ c.loop-segment.segment-index _ _ c.count-count.ensures.schema c.requires c.items-segment-items.ensures c.loop-segment-test.false c.loop-segment.invariant c.from_string.ensures
+    all_again c.args.schema.now c.args.path.now _ c.loop-segment.segment-index _ _ c.count-count.ensures.schema c.requires c.items-segment-items.ensures c.loop-segment-test.false c.loop-segment.invariant c.in_ok-written.ensures

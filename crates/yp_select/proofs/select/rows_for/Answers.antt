@@ -34,22 +34,22 @@ reaches_of-requires g c =
 
 pub returns-in_ok-all-in-All-clause-schema : goal.returns-in_ok-all-in-All-clause-schema
 returns-in_ok-all-in-All-clause-schema g c =
-    let is = all_are c.in_ok-all-in-All.all c.args.tree.now c.from_vec-top.result c.in_ok-all-in-All.ensures.rows (c.from_vec-top.ensures ∙ c.new.ensures.items) in
+    let is = all_are c.in_ok-all-in-All.all c.args.tree.now c.in_ok-top-in-All.top c.in_ok-all-in-All.ensures.rows c.in_ok-top-in-All.ensures in
     subst (λ (rows : List Row). AllByRecursion (IsRowOf c.args.schema.now) rows) (sym is) c.requires.schema
 
 pub returns-in_ok-all-in-All-clause-few : goal.returns-in_ok-all-in-All-clause-few
 returns-in_ok-all-in-All-clause-few g c =
-    let is = all_are c.in_ok-all-in-All.all c.args.tree.now c.from_vec-top.result c.in_ok-all-in-All.ensures.rows (c.from_vec-top.ensures ∙ c.new.ensures.items) in
+    let is = all_are c.in_ok-all-in-All.all c.args.tree.now c.in_ok-top-in-All.top c.in_ok-all-in-All.ensures.rows c.in_ok-top-in-All.ensures in
     omega (arith, ap (λ rows. length rows) is)
 
 pub returns-in_ok-all-in-All-clause-enough : goal.returns-in_ok-all-in-All-clause-enough
 returns-in_ok-all-in-All-clause-enough g c = λ readable seen.
-    let is = all_are c.in_ok-all-in-All.all c.args.tree.now c.from_vec-top.result c.in_ok-all-in-All.ensures.rows (c.from_vec-top.ensures ∙ c.new.ensures.items) in
+    let is = all_are c.in_ok-all-in-All.all c.args.tree.now c.in_ok-top-in-All.top c.in_ok-all-in-All.ensures.rows c.in_ok-top-in-All.ensures in
     ap (λ rows. picked (kept c.args.schema.now (filter_view c.args.filter.now) seen) (visible_rows readable rows)) is
 
 pub returns-in_ok-all-in-All-clause-visits : goal.returns-in_ok-all-in-All-clause-visits
 returns-in_ok-all-in-All-clause-visits g c =
-    let is = all_are c.in_ok-all-in-All.all c.args.tree.now c.from_vec-top.result c.in_ok-all-in-All.ensures.rows (c.from_vec-top.ensures ∙ c.new.ensures.items) in
+    let is = all_are c.in_ok-all-in-All.all c.args.tree.now c.in_ok-top-in-All.top c.in_ok-all-in-All.ensures.rows c.in_ok-top-in-All.ensures in
     omega (arith, c.in_ok-all-in-All.ensures.visits, ap (λ rows. length rows) is)
 
 pub returns-in_ok-reached-in-Set-clause-schema : goal.returns-in_ok-reached-in-Set-clause-schema

@@ -18,5 +18,5 @@ returns g c =
     c.in_ok-rows.ensures.rows ∙ (λ i. selection nodes asked (λ path. is_readable nodes (c.rules_of-rules.ensures i) path) (c.tree-tree.ensures.rows i)) in
     record {
       rows = c.in_ok-share.ensures ∙ rows;
-      text = c.in_ok-share-2.ensures ∙ c.in_ok-text.ensures ∙ ap (λ (those : List Row). compact_text (rows_json nodes [] those)) (sym c.in_ok-share.ensures);
+      text = c.in_ok-text.ensures ∙ ap (λ (those : List Row). compact_text (rows_json nodes [] those)) (sym c.in_ok-share.ensures);
     }

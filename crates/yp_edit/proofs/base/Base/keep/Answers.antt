@@ -27,8 +27,8 @@ invariant_of-self-2 c =
     let unlisted : is_listed row.path paths ≡ false = ap (λ p. is_listed p paths) c.in_ok-copy.ensures ∙ ap (λ (b : Touched). is_listed c.args.path.now b.paths) c.self.view_is ∙ c.requires.untouched in
     let there : value_at row.path rows ≡ Some row.value =
     ap (λ p. value_at p rows) c.in_ok-copy.ensures ∙ ap (λ (b : Touched). value_at c.args.path.now b.rows) c.self.view_is ∙ c.requires.there ∙ ap (λ (v : Value). Some v) (sym c.in_ok-copy-2.ensures) in
-    subst (λ (some : List Row). Holds rows some c.self.inside.bare.keys (c.self.inside.count - 1) c.self.inside.swept c.self.inside.missing) (sym c.in_ok-put.ensures.rows)
-    (one_more_row row rows c.self.inside.touched c.self.inside.bare.keys c.self.inside.count c.self.inside.swept c.self.inside.missing unlisted there c.self.invariant)
+    subst (λ (some : List Row). Holds rows some c.self.inside.bare.keys (c.self.inside.count - 1) c.self.inside.swept c.self.inside.gap) (sym c.in_ok-put.ensures.rows)
+    (one_more_row row rows c.self.inside.touched c.self.inside.bare.keys c.self.inside.count c.self.inside.swept c.self.inside.gap unlisted there c.self.invariant)
 
 pub returns-clause-touched : goal.returns-clause-touched
 returns-clause-touched c =

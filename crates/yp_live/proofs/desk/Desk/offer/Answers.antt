@@ -11,9 +11,9 @@ returns-in_ok-take_one-in-Took-clause-state c =
     let desk : DeskState = the_view c.self.inside in
     let sent = c.args.sent in
     let given : Packet = record { sub = sent.packet.sub; position = sent.packet.position; kind = sent.packet.kind; line = c.in_ok-copy.field-0 } in
-    let same : given ≡ sent.packet = λ i. record { sub = sent.packet.sub; position = sent.packet.position; kind = sent.packet.kind; line = (c.in_ok-copy.ensures ∙ c.in_ok-line.ensures) i } in
+    let same : given ≡ sent.packet = λ i. record { sub = sent.packet.sub; position = sent.packet.position; kind = sent.packet.kind; line = c.in_ok-copy.ensures i } in
     let log : c.push.new.self.items ≡ desk.log ++ logs.Line sent.packet.kind sent.packet.line ∷ [] =
-    c.in_ok-push-in-Took.ensures.items ∙ (λ i. c.reserve.ensures.items i ++ logs.Line sent.packet.kind (c.in_ok-line.ensures i) ∷ []) in
+    c.in_ok-push-in-Took.ensures.items ∙ (λ i. c.reserve.ensures.items i ++ logs.Line sent.packet.kind sent.packet.line ∷ []) in
     let left : DeskState = record desk { log = c.push.new.self.items; queue = c.offer.new.self; waiting = c.push_back.new.self.items } in
     c.in_ok-take_one-in-Took.ensures
     ∙ (ap (λ (b : Bool). desk_served b left) (sym c.if-self.true)
@@ -26,9 +26,9 @@ returns-else-self-clause-state c =
     let desk : DeskState = the_view c.self.inside in
     let sent = c.args.sent in
     let given : Packet = record { sub = sent.packet.sub; position = sent.packet.position; kind = sent.packet.kind; line = c.in_ok-copy.field-0 } in
-    let same : given ≡ sent.packet = λ i. record { sub = sent.packet.sub; position = sent.packet.position; kind = sent.packet.kind; line = (c.in_ok-copy.ensures ∙ c.in_ok-line.ensures) i } in
+    let same : given ≡ sent.packet = λ i. record { sub = sent.packet.sub; position = sent.packet.position; kind = sent.packet.kind; line = c.in_ok-copy.ensures i } in
     let log : c.push.new.self.items ≡ desk.log ++ logs.Line sent.packet.kind sent.packet.line ∷ [] =
-    c.in_ok-push-in-Took.ensures.items ∙ (λ i. c.reserve.ensures.items i ++ logs.Line sent.packet.kind (c.in_ok-line.ensures i) ∷ []) in
+    c.in_ok-push-in-Took.ensures.items ∙ (λ i. c.reserve.ensures.items i ++ logs.Line sent.packet.kind sent.packet.line ∷ []) in
     let left : DeskState = record desk { log = c.push.new.self.items; queue = c.offer.new.self; waiting = c.push_back.new.self.items } in
     ap (λ (b : Bool). desk_served b left) (sym c.if-self.false)
     ∙ (accepted desk given sent.packet sent.notice c.args.at c.self.inside.waiting.capacity c.push.new.self.items c.offer.new.self c.push_back.new.self.items same c.in-Took.ensures.answer

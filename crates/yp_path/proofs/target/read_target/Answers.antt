@@ -1,5 +1,5 @@
 use Rattle.yp_path.specs.TargetLaws.{path_answered}
-use Rattle.yp_path.proofs.target.read_own.Goals as goal
+use Rattle.yp_path.proofs.target.read_target.Goals as goal
 
 pub returns-then-is_empty-clause-path : goal.returns-then-is_empty-clause-path
 returns-then-is_empty-clause-path c =
