@@ -5,13 +5,10 @@ ghost use Rattle.yp_schema.specs.declared.schema.SchemaNode.{SchemaNode};
 ghost use Rattle.yp_schema.specs.Datastore.{AreWritable};
 
 use std::alloc::Global;
-use std::marker::Brand;
-use std::sync::ledger::{Blank, Ledger};
 use std::test::Fail;
 use yp_base::memory::NoMemory;
 use yp_base::notice::Notice;
 use yp_base::series::Series;
-use yp_base::steps::Steps;
 use yp_base::txt::text_of;
 use yp_edit::fault::Tag;
 use yp_journal::reply::Reply;
@@ -80,20 +77,11 @@ fn no_rows_held(alloc: Global) -> Result<Holdings, NoMemory>
 }
 
 // The lines of what the receiver noc holds.
-fn lines_of<L: Ledger>(
-    alloc: Global,
-    schema: &Schema,
-    trees: &Holdings,
-    blank: Blank,
-) -> Result<String, NoMemory>
-    requires name { blank.name ≡ L.name }
-    requires parts { blank.parts ≡ L.parts }
-    requires some { 0 < L.parts }
-    requires can { AllByRecursion (λ tree. AreWritable schema.now [] tree.1) trees.now }
+fn lines_of(alloc: Global, schema: &Schema, trees: Holdings) -> Result<String, NoMemory>
+    requires { AllByRecursion (λ tree. AreWritable schema.now [] tree.1) trees }
 {
-    let mut steps = Steps::<L>::open(blank);
     let mut text = String::new(alloc);
-    push_trees(alloc, &mut text, schema, "noc", trees, &mut steps)?;
+    push_trees(alloc, &mut text, schema, "noc", trees)?;
     Ok(text)
 }
 
@@ -102,7 +90,7 @@ fn a_tree_without_rows_is_an_empty_object(rt: HostRuntime) -> Result<(), Fail> {
     let alloc = rt.alloc();
     let schema = Schema::read(alloc, &[])?;
     let trees = no_rows_held(alloc)?;
-    let text = lines_of::<Brand>(alloc, &schema, &trees, Blank::new(1))?;
+    let text = lines_of(alloc, &schema, trees)?;
     assert_eq!(rt; text.as_str(), "tree noc 9 {}\n");
     Ok(())
 }

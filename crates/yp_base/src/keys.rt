@@ -99,6 +99,16 @@ impl Keys {
     }
 }
 
+/// The order of two keys. Most keys are texts, so these come first.
+fn order_of(one: &Atom, other: &Atom) -> Ordering
+    ensures { result ≡ atom_cmp one.now other.now }
+{
+    match (one, other) {
+        (Atom::Text(text), Atom::Text(other_text)) => text.cmp(other_text),
+        _ => one.cmp(other),
+    }
+}
+
 /// Whether two keys are seen at once to be one. `false` leaves it open.
 fn is_same(one: &Atom, other: &Atom) -> bool
     ensures { result ≡ true → atom_cmp one.now other.now ≡ Equal }
@@ -176,11 +186,15 @@ impl Ord for Keys {
     fn cmp(&self, other: &Keys) -> Ordering {
         match &self.place {
             Place::One(one) => match &other.place {
-                Place::One(two) => one.cmp(two),
+                Place::One(two) => order_of(one, two),
                 _ => self.items().cmp(other.items()),
             },
-            _ => {
-                let (rest, other_rest) = without_same(self.items(), other.items());
+            Place::Nowhere => match &other.place {
+                Place::Nowhere => Ordering::Equal,
+                _ => self.items().cmp(other.items()),
+            },
+            Place::Several(keys) => {
+                let (rest, other_rest) = without_same(keys.as_slice(), other.items());
                 rest.cmp(other_rest)
             }
         }

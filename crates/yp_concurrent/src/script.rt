@@ -11,12 +11,9 @@ use crate::run::run_all;
 use crate::setting::Setting;
 use crate::text::text_of;
 use std::alloc::Global;
-use std::marker::Brand;
 use std::sync::Wait;
-use std::sync::ledger::{Blank, Ledger};
 use std::thread::Threads;
 use yp_base::memory::NoMemory;
-use yp_base::steps::Steps;
 use yp_gate::Gate;
 use yp_journal::receiver::Receivers;
 use yp_report::laws::the_lines_of_replies_are_those_of_entries;
@@ -71,36 +68,6 @@ fn run_script<T: Threads + Wait + Sync, G: Gate>(
     })
 }
 
-/// The report of a script's run, of which it counts the steps of the trees that receivers hold.
-fn report_by<T: Threads + Wait + Sync, G: Gate, L: Ledger>(
-    rt: &T,
-    alloc: Global,
-    gate: &G,
-    script: Script,
-    workers: u32,
-    blank: Blank,
-) -> Result<String, NoMemory>
-    requires name { blank.name ≡ L.name }
-    requires parts { blank.parts ≡ L.parts }
-    requires some { 0 < L.parts }
-    requires receivers { AreReceivers script.receivers }
-    requires commands { MayRun script }
-    requires lanes { length script.lanes ≤ 64 }
-    requires count { count_commands script ≤ line_limit }
-    requires workers { (0 < workers) × (workers < 2 ^ 32) }
-    ensures { IfOk result (λ text. (bytes : List ℕ) → script_in bytes ≡ Ok script → TellsBeside workers bytes (string_bytes text)) }
-{
-    a_run_by_threads_serves_each_receiver();
-    the_lines_of_replies_are_those_of_entries();
-    let mut steps = Steps::<L>::open(blank);
-    let Ran {
-        schema,
-        receivers,
-        standing,
-    } = run_script(rt, alloc, gate, script, workers)?;
-    text_of(alloc, &schema, receivers.items(), standing, &mut steps)
-}
-
 /// The text of the report of a script's run, in which each lane, each of so many workers and each receiver is a thread of its
 /// own, where there is one: the replies by position, then for each receiver what it took, where its queue was full, and what
 /// it holds, then `end`. For whatever bytes the script was read from, the text tells of its run (`TellsBeside`). In which
@@ -120,5 +87,12 @@ pub fn report_beside<T: Threads + Wait + Sync, G: Gate>(
     requires workers { (0 < workers) × (workers < 2 ^ 32) }
     ensures { IfOk result (λ text. (bytes : List ℕ) → script_in bytes ≡ Ok script → TellsBeside workers bytes (string_bytes text)) }
 {
-    report_by::<T, G, Brand>(rt, alloc, gate, script, workers, Blank::new(1))
+    a_run_by_threads_serves_each_receiver();
+    the_lines_of_replies_are_those_of_entries();
+    let Ran {
+        schema,
+        receivers,
+        standing,
+    } = run_script(rt, alloc, gate, script, workers)?;
+    text_of(alloc, &schema, receivers.items(), standing)
 }

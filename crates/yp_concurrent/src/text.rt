@@ -11,9 +11,7 @@ ghost use Rattle.yp_concurrent.specs.Texts.{HaveLogs, HaveSomeLogs, count_lines,
 
 use crate::outside::Standing;
 use std::alloc::Global;
-use std::sync::ledger::Ledger;
 use yp_base::memory::NoMemory;
-use yp_base::steps::Steps;
 use yp_crews::crew::Crew;
 use yp_journal::receiver::ReceiverInfo;
 use yp_listeners::listener::Listener;
@@ -44,12 +42,11 @@ fn count_lines(log: &[Logged]) -> usize
 }
 
 /// The lines of a listener: those of its log, and after them those of what it holds.
-fn listener_text<L: Ledger>(
+fn listener_text(
     alloc: Global,
     schema: &Schema,
     name: &str,
     listener: Listener,
-    steps: &mut Steps<L>,
 ) -> Result<String, NoMemory>
     requires { CanBeShown schema.now listener.heard }
     ensures { IfOk result (λ text. string_bytes text ≡ listener_text schema.now name.now listener) }
@@ -57,8 +54,7 @@ fn listener_text<L: Ledger>(
     let Listener { log, heard, .. } = listener;
     let taken = count_lines(log.as_slice());
     let mut text = log_text(alloc, name, log, taken)?;
-    let trees = heard.into_holdings();
-    push_trees(alloc, &mut text, schema, name, &trees, steps)?;
+    push_trees(alloc, &mut text, schema, name, heard.into_holdings())?;
     Ok(text)
 }
 
@@ -93,13 +89,12 @@ fn take_next(listeners: &mut Vec<Vec<Listener>>, number: u32) -> Result<Listener
 }
 
 /// Adds the lines of each receiver.
-fn push_receivers<L: Ledger>(
+fn push_receivers(
     alloc: Global,
     schema: &Schema,
     receivers: &[ReceiverInfo],
     listeners: Vec<Vec<Listener>>,
     parts: &mut Vec<String>,
-    steps: &mut Steps<L>,
 ) -> Result<(), NoMemory>
     requires some { 0 < length listeners.items }
     requires few { length receivers.now < 2 ^ 32 }
@@ -114,20 +109,19 @@ fn push_receivers<L: Ledger>(
     for receiver in receivers {
         let listener = take_next(&mut listeners, number)?;
         let name = receiver.name.as_str();
-        parts.push(listener_text(alloc, schema, name, listener, steps)?)?;
+        parts.push(listener_text(alloc, schema, name, listener)?)?;
         number += 1;
     }
     Ok(())
 }
 
 /// The text of replies, and of what is told of each receiver.
-fn whole_text<L: Ledger>(
+fn whole_text(
     alloc: Global,
     schema: &Schema,
     receivers: &[ReceiverInfo],
     replies: Vec<Replied>,
     listeners: Vec<Vec<Listener>>,
-    steps: &mut Steps<L>,
 ) -> Result<String, NoMemory>
     requires replies { length replies.items < 2 ^ 63 }
     requires some { 0 < length listeners.items }
@@ -138,7 +132,7 @@ fn whole_text<L: Ledger>(
 {
     let mut parts = Vec::new(alloc);
     parts.push(replies_text(alloc, replies)?)?;
-    push_receivers(alloc, schema, receivers, listeners, &mut parts, steps)?;
+    push_receivers(alloc, schema, receivers, listeners, &mut parts)?;
     parts.push(String::from_str(alloc, "end\n")?)?;
     let text = join_texts(alloc, parts)?;
     Ok(text)
@@ -158,12 +152,11 @@ fn listeners_of(alloc: Global, crews: Vec<Crew>) -> Result<Vec<Vec<Listener>>, N
 }
 
 /// The text of a run that stands here: of its replies, and of what its crews have of each receiver.
-pub fn text_of<L: Ledger>(
+pub fn text_of(
     alloc: Global,
     schema: &Schema,
     receivers: &[ReceiverInfo],
     standing: Standing,
-    steps: &mut Steps<L>,
 ) -> Result<String, NoMemory>
     requires replies { length standing.replies.items < 2 ^ 63 }
     requires some { 0 < length standing.crews.items }
@@ -180,5 +173,5 @@ pub fn text_of<L: Ledger>(
     // The datastore goes before the report is written, and so do those of the workers.
     drop(state);
     let listeners = listeners_of(alloc, crews)?;
-    whole_text(alloc, schema, receivers, replies, listeners, steps)
+    whole_text(alloc, schema, receivers, replies, listeners)
 }

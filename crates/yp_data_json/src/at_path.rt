@@ -1,6 +1,6 @@
 //! Data at a path: what stands at one node, in an object with the node's qualified name.
 ghost use Rattle.std.specs.Cmp.Lexicographic.{pointwise};
-ghost use Rattle.std.specs.Prelude.{◌≡◌, ◌<◌, ◌∷◌, ◌++◌, [], true, length, nat_eq, IfOk, IfSome, Ok};
+ghost use Rattle.std.specs.Prelude.{◌≡◌, ◌<◌, ◌∷◌, ◌++◌, [], true, length, nat_eq, IfOk, Ok};
 ghost use Rattle.std.specs.String.{string_bytes};
 ghost use Rattle.serde_json.specs.Data.{object, member, no_members};
 ghost use Rattle.serde_json.specs.View.{view, members_view, items_view};
@@ -21,6 +21,7 @@ use yp_base::row::{Row, Rows, Value};
 use yp_base::series::Series;
 use yp_schema::schema::{Kind, Schema};
 use yp_tree::gathering::Gathering;
+use yp_value::members::only_member;
 use yp_value::payload::Payload;
 
 /// Whether keys are these.
@@ -321,19 +322,6 @@ fn read_member(
     match schema.kind(last.node) {
         Kind::Leaf => read_leaf_row(alloc, schema, last.node, at, json),
         _ => read_node_rows(alloc, schema, last, above, json),
-    }
-}
-
-/// The name and the value of an object of one member.
-fn only_member(json: &Json) -> Option<(&str, &Json)>
-    ensures { IfSome result (λ only. view json.now ≡ object (member only.0.now (view only.1.now) no_members)) }
-{
-    match json {
-        Json::Object(members) if members.len() == 1 => {
-            let (name, value) = members.iter().next()?;
-            Some((name.as_str(), value))
-        }
-        _ => None,
     }
 }
 

@@ -1,7 +1,8 @@
 -- The end of a path.
-use Rattle.std.proofs.Common.{◌≡◌, ℕ, ◌<◌, ◌==◌, Bool, true, false, true≢false, not, ◌&&◌, List, [], ◌∷◌, ◌++◌, length, map, append-nil, append_assoc, Option, Some, None, refl, sym, ap, subst, ◌∙◌, IfSome}
+use Rattle.std.proofs.Common.{◌≡◌, ℕ, ◌<◌, ◌==◌, Bool, true, false, true≢false, not, ◌&&◌, List, [], ◌∷◌, ◌++◌, length, map, take, append-nil, append_assoc, arith, suc, ◌+◌, ◌-◌, Option, Some, None, refl, sym, ap, subst, ◌∙◌, IfSome}
 use Rattle.std.specs.List.{AllByRecursion, list_all}
 use Rattle.std.proofs.lemmas.Bool.{and_parts}
+use Rattle.std.proofs.lemmas.List.{length-append}
 use Rattle.std.proofs.lemmas.List.Folds.{list_all-map}
 use Rattle.yp_base.specs.declared.path.Seg.{Seg}
 use Rattle.yp_schema.specs.declared.schema.SchemaNode.{SchemaNode}
@@ -11,9 +12,17 @@ use Rattle.yp_schema.specs.SchemaLaws.{segment_within, path_end}
 use Rattle.yp_schema.specs.Datastore.{is_segment, goes_down, is_path_of, is_place, ends_in_key}
 use Rattle.yp_edit.specs.Patches.{paths_above}
 
--- a list with a copy behind it is the list with the value itself behind it
-pub with_copy : (front longer : List Seg) (copy seg : Seg) → longer ≡ front ++ copy ∷ [] → copy ≡ seg → longer ≡ front ++ seg ∷ []
-with_copy front longer copy seg is same = is ∙ ap (λ (s : Seg). front ++ s ∷ []) same
+cut_behind : (above : List Seg) (seg : Seg) (more : List Seg) → take (suc (length above)) (above ++ seg ∷ more) ≡ above ++ seg ∷ []
+cut_behind [] seg more = refl
+cut_behind (first ∷ above) seg more = ap (λ (path : List Seg). first ∷ path) (cut_behind above seg more)
+
+-- the first segments of a path, without those that are left after one, are those before it and itself
+pub first_to : (above : List Seg) (seg : Seg) (more target rest longer : List Seg) (all left : ℕ) → above ++ rest ≡ target → rest ≡ seg ∷ more → all ≡ length target → left ≡ length more → longer ≡ take (all - left) target → longer ≡ above ++ seg ∷ []
+first_to above seg more target rest longer all left whole split all_are left_are is =
+    let both : above ++ seg ∷ more ≡ target = ap (λ (path : List Seg). above ++ path) (sym split) ∙ whole in
+    let count : all ≡ length above + suc (length more) = all_are ∙ ap length (sym both) ∙ length-append above (seg ∷ more) in
+    let here : all - left ≡ suc (length above) = omega (arith, count, left_are) in
+    is ∙ (λ i. take (here i) (sym both i)) ∙ cut_behind above seg more
 
 -- the node that a path of a schema ends in is one of the schema's
 pub end_within : (nodes : List SchemaNode) (path : List Seg) (n : ℕ) → is_path_of nodes path ≡ true → last_node path ≡ Some n → n < length nodes

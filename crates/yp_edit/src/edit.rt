@@ -51,7 +51,6 @@ fn has_its_row<L: Ledger>(
 
 /// Whether each list entry and presence container above a target is to have its row.
 fn stands_above<L: Ledger>(
-    alloc: Global,
     schema: &Schema,
     trial: &Trial,
     target: &Path,
@@ -60,13 +59,13 @@ fn stands_above<L: Ledger>(
     requires { is_path_of schema.now target.now ≡ true }
     ensures { IfOk result (λ stands. stands ≡ stand_above schema.now target.now trial.now.after) }
 {
-    let mut above = Path::top(alloc)?;
+    let mut above = target.first(0)?;
     let mut rest = target.items();
     while let Some((segment, more)) = rest.split_first() {
         if more.is_empty() {
             return Ok(true);
         }
-        let longer = above.below(alloc, segment.copy(alloc)?)?;
+        let longer = target.first(target.len() - more.len())?;
         if !has_its_row(schema, trial, segment.node, &longer, steps) {
             return Ok(false);
         }
@@ -105,7 +104,7 @@ fn new_rows<L: Ledger>(
     ensures { Says result (new_rows schema.now target.now value.now trial.now.after) }
 {
     let rows = read_value(alloc, schema, target, value)?;
-    if !stands_above(alloc, schema, trial, target, steps)? {
+    if !stands_above(schema, trial, target, steps)? {
         return Err(refused(Tag::DataMissing));
     }
     Ok(rows)

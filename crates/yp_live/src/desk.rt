@@ -198,12 +198,7 @@ impl Desk {
     }
 
     /// What is told of the offers to it, and after that the lines of what it holds.
-    pub fn into_text<L: Ledger>(
-        self,
-        alloc: Global,
-        schema: &Schema,
-        steps: &mut Steps<L>,
-    ) -> Result<String, NoMemory>
+    pub fn into_text(self, alloc: Global, schema: &Schema) -> Result<String, NoMemory>
         requires { CanBeShown schema.now self.trees }
         ensures { IfOk result (λ text. string_bytes text ≡ desk_text schema.now self) }
     {
@@ -215,7 +210,7 @@ impl Desk {
             ..
         } = self;
         let mut text = log_text(alloc, name.as_str(), log, taken)?;
-        push_trees(alloc, &mut text, schema, name.as_str(), &trees, steps)?;
+        push_trees(alloc, &mut text, schema, name.as_str(), trees)?;
         Ok(text)
     }
 }

@@ -76,45 +76,6 @@ fn run_script(alloc: Global, script: Script) -> Result<Ran, NoMemory>
     Ok(Ran { schema, run })
 }
 
-/// The report of a script's run, of which it counts the steps of the trees that receivers hold.
-fn report_by<L: Ledger>(alloc: Global, script: Script, blank: Blank) -> Result<String, NoMemory>
-    requires name { blank.name ≡ L.name }
-    requires parts { blank.parts ≡ L.parts }
-    requires some { 0 < L.parts }
-    requires receivers { AreReceivers script.receivers }
-    requires commands { MayRun script }
-    requires lanes { length script.lanes ≤ 64 }
-    requires count { count_commands script ≤ line_limit }
-    ensures { IfOk result (λ text. (bytes : List ℕ) → script_in bytes ≡ Ok script → Tells bytes (string_bytes text)) }
-{
-    what_a_serial_run_makes_serves();
-    every_interleaving_serves_each_receiver();
-    an_interleaving_is_the_serial_run();
-    what_receivers_hold_can_be_shown();
-    a_scripts_commands_have_utf8();
-    a_receiver_holds_what_its_lines_tell();
-    the_trees_of_lines_mirror();
-    a_serial_run_is_complete();
-    queues_hold_what_was_not_taken();
-    each_line_is_heard_as_its_notification();
-    every_interleaving_is_heard();
-    the_serial_turns_make_a_journal_of_the_script();
-    a_legal_journal_is_that_of_its_turns();
-    a_journal_of_a_script_has_as_many_entries();
-    the_lines_of_a_log_are_those_of_what_is_shown();
-    the_lines_of_replies_are_those_of_entries();
-    let mut steps = Steps::<L>::open(blank);
-    let Ran { schema, run } = run_script(alloc, script)?;
-    let Run {
-        worker,
-        replies,
-        desks,
-    } = run;
-    // The datastore goes before the report is written.
-    drop(worker);
-    text_of(alloc, &schema, replies, desks, &mut steps)
-}
-
 /// What the report of a script's run comes to, of which it counts the same steps.
 fn summary_by<L: Ledger>(alloc: Global, script: Script, blank: Blank) -> Result<String, NoMemory>
     requires name { blank.name ≡ L.name }
@@ -155,7 +116,31 @@ pub fn report_of_script(alloc: Global, script: Script) -> Result<String, NoMemor
     requires count { count_commands script ≤ line_limit }
     ensures { IfOk result (λ text. (bytes : List ℕ) → script_in bytes ≡ Ok script → Tells bytes (string_bytes text)) }
 {
-    report_by::<Brand>(alloc, script, Blank::new(1))
+    what_a_serial_run_makes_serves();
+    every_interleaving_serves_each_receiver();
+    an_interleaving_is_the_serial_run();
+    what_receivers_hold_can_be_shown();
+    a_scripts_commands_have_utf8();
+    a_receiver_holds_what_its_lines_tell();
+    the_trees_of_lines_mirror();
+    a_serial_run_is_complete();
+    queues_hold_what_was_not_taken();
+    each_line_is_heard_as_its_notification();
+    every_interleaving_is_heard();
+    the_serial_turns_make_a_journal_of_the_script();
+    a_legal_journal_is_that_of_its_turns();
+    a_journal_of_a_script_has_as_many_entries();
+    the_lines_of_a_log_are_those_of_what_is_shown();
+    the_lines_of_replies_are_those_of_entries();
+    let Ran { schema, run } = run_script(alloc, script)?;
+    let Run {
+        worker,
+        replies,
+        desks,
+    } = run;
+    // The datastore goes before the report is written.
+    drop(worker);
+    text_of(alloc, &schema, replies, desks)
 }
 
 /// What the report of a script's run comes to, a line for each number: its commands and the refused ones,

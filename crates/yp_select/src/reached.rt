@@ -45,16 +45,6 @@ fn tops_of(alloc: Global, paths: Vec<Path>) -> Result<Vec<Path>, NoMemory>
     Ok(tops)
 }
 
-/// Puts rows, one after another.
-fn put_all(alloc: Global, rows: Rows, into: &mut Rising) -> Result<(), NoMemory>
-    ensures { OnOk result (into.new ≡ put_rows rows into.old) }
-{
-    for row in rows.into_vec(alloc)? {
-        into.put(alloc, row)?;
-    }
-    Ok(())
-}
-
 /// Adds the row of a path, where there is one. It counts a visit.
 #[tactic(auto, using(yp_base::specs::RowLaws::put_keeps_order))]
 fn add_own<L: Ledger>(
@@ -78,7 +68,7 @@ fn add_own<L: Ledger>(
 }
 
 /// Adds the rows at or below a path. It counts a visit for each of them, and one more.
-#[tactic(auto, using(yp_base::specs::RowLaws::puts_order, crate::proofs::Those::below_added))]
+#[tactic(auto, using(yp_base::specs::RowLaws::puts_order, yp_base::specs::RowLaws::within_keeps_order, crate::proofs::Those::below_added))]
 fn add_below<L: Ledger>(
     alloc: Global,
     tree: &Tree,
@@ -93,7 +83,7 @@ fn add_below<L: Ledger>(
 {
     let _count = tree.len();
     let found = tree.rows_within(alloc, path, steps)?;
-    put_all(alloc, found, rows)
+    rows.put_all(alloc, found)
 }
 
 /// The rows of these paths. It counts a visit for each of them.

@@ -36,6 +36,11 @@ pub puts_joined : (olds news rows : List Row) → put_rows (olds ++ news) rows �
 puts_joined [] news rows = refl
 puts_joined (old ∷ olds) news rows = puts_joined olds news (put_row old rows)
 
+-- rows that come past others in order go behind them
+pub puts_past : (rows news : List Row) → AreInOrder rows → AreInOrder (rows ++ news) → put_rows news rows ≡ rows ++ news
+puts_past rows news order all =
+    ap (put_rows news) (sym (put_to_none rows order)) ∙ sym (puts_joined rows news []) ∙ put_to_none (rows ++ news) all
+
 -- rows behind those that aren't at or below a path
 pub puts_behind : (under : List Seg) (rows news : List Row) → AreInOrder rows → put_rows (rows_without under rows ++ news) [] ≡ put_rows news (rows_without under rows)
 puts_behind under rows news order =

@@ -17,3 +17,8 @@ abbrev pub is_past : List Seg → List Row → Bool
 is_past path [] = true
 is_past path (row ∷ []) = is_lt (path_cmp row.path path)
 is_past path (row ∷ next ∷ rows) = is_past path (next ∷ rows)
+
+-- whether the first of some rows comes past the last of others
+abbrev pub starts_past : List Row → List Row → Bool
+starts_past [] rows = true
+starts_past (new ∷ news) rows = is_past new.path rows

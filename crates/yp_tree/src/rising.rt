@@ -1,7 +1,7 @@
 //! Rows while they are put, mostly in the order of their paths.
-ghost use Rattle.std.specs.Prelude.{◌≡◌, ◌<◌, ◌^◌, [], true, false, is_some, length, None, OnOk, OnErr, IfOk, IfErr, IfSome};
-ghost use Rattle.yp_base.specs.Rows.{AreInOrder, has_within, put_row, rows_without, value_at};
-ghost use Rattle.yp_tree.specs.Risen.{is_past, kept_rows};
+ghost use Rattle.std.specs.Prelude.{◌≡◌, ◌<◌, ◌^◌, ◌++◌, [], true, false, is_some, length, None, OnOk, OnErr, IfOk, IfErr, IfSome};
+ghost use Rattle.yp_base.specs.Rows.{AreInOrder, has_within, put_row, put_rows, rows_without, value_at};
+ghost use Rattle.yp_tree.specs.Risen.{is_past, kept_rows, starts_past};
 
 use crate::tree::Tree;
 use std::alloc::Global;
@@ -54,6 +54,40 @@ pub(crate) fn is_past(path: &Path, rows: &[Row]) -> bool
     }
 }
 
+/// Whether rows in order come past others.
+fn starts_past(news: &[Row], rows: &[Row]) -> bool
+    ensures { result ≡ starts_past news.now rows.now }
+{
+    match news.split_first() {
+        Some((first, _)) => is_past(&first.path, rows),
+        None => true,
+    }
+}
+
+/// Rows and those behind them.
+fn joined(rows: Vec<Row>, news: Vec<Row>) -> Result<Vec<Row>, NoMemory>
+    ensures { IfOk result (λ all. all.items ≡ rows.items ++ news.items) }
+{
+    if rows.is_empty() {
+        return Ok(news);
+    }
+    let mut all = rows;
+    for row in news {
+        all.push(row)?;
+    }
+    Ok(all)
+}
+
+/// Puts rows into a tree, one after another.
+fn put_each(alloc: Global, tree: &mut Tree, news: Vec<Row>) -> Result<(), NoMemory>
+    ensures { OnOk result (tree.new ≡ put_rows news.items tree.old) }
+{
+    for row in news {
+        tree.put(alloc, row)?;
+    }
+    Ok(())
+}
+
 /// Whether one of rows in order has this path. Half of them are left out at each step.
 fn has_path(rows: &[Row], path: &Path) -> bool
     requires { AreInOrder rows.now }
@@ -83,6 +117,25 @@ impl Kept {
             Kept::Appended(rows) => tree_of(alloc, rows),
             Kept::Sorted(tree) => Ok(tree),
         }
+    }
+
+    /// The rows, and others in order that are put.
+    fn with_all(self, alloc: Global, news: Vec<Row>) -> Result<Kept, NoMemory>
+        requires order { AreInOrder (kept_rows self) }
+        requires news { AreInOrder news.items }
+        ensures { IfOk result (λ kept. kept_rows kept ≡ put_rows news.items (kept_rows self)) }
+    {
+        let mut tree = match self {
+            Kept::Appended(rows) => {
+                if starts_past(news.as_slice(), rows.as_slice()) {
+                    return Ok(Kept::Appended(joined(rows, news)?));
+                }
+                tree_of(alloc, rows)?
+            }
+            Kept::Sorted(tree) => tree,
+        };
+        put_each(alloc, &mut tree, news)?;
+        Ok(Kept::Sorted(tree))
     }
 }
 
@@ -117,6 +170,18 @@ impl Rising {
         ensures unchanged { OnErr result (self.new ≡ self.old) }
     {
         self.replace(alloc, row)?;
+        Ok(())
+    }
+
+    /// Adds rows in order, or gives their values to the rows that have their paths. Where the first of them comes past all
+    /// that were appended, the others' paths are not compared. After `NoMemory` the rows may be gone.
+    pub fn put_all(&mut self, alloc: Global, news: Rows) -> Result<(), NoMemory>
+        requires { AreInOrder news }
+        ensures { OnOk result (self.new ≡ put_rows news self.old) }
+    {
+        let news = news.into_vec(alloc)?;
+        let Rising { kept } = replace(self, Rising::new(alloc));
+        self.kept = kept.with_all(alloc, news)?;
         Ok(())
     }
 

@@ -1,5 +1,6 @@
 //! The members of JSON objects, and texts in JSON.
-ghost use Rattle.std.specs.Prelude.{◌≡◌, IfOk, option_map};
+ghost use Rattle.std.specs.Prelude.{◌≡◌, IfOk, IfSome, option_map};
+ghost use Rattle.serde_json.specs.Data.{member, no_members, object};
 ghost use Rattle.serde_json.specs.Events.{members_len};
 ghost use Rattle.serde_json.specs.Find.{get_member};
 ghost use Rattle.serde_json.specs.View.{view, items_view, members_view};
@@ -17,6 +18,19 @@ pub fn count(members: &Map<String, Json>) -> usize
     ensures { result ≡ members_len (members_view members.now.entries) }
 {
     members.len()
+}
+
+/// The name and the value of an object of one member.
+pub fn only_member(json: &Json) -> Option<(&str, &Json)>
+    ensures { IfSome result (λ only. view json.now ≡ object (member only.0.now (view only.1.now) no_members)) }
+{
+    match json {
+        Json::Object(members) if members.len() == 1 => {
+            let (name, value) = members.iter().next()?;
+            Some((name.as_str(), value))
+        }
+        _ => None,
+    }
 }
 
 /// The member of an object that has this name.

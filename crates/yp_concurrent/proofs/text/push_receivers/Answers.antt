@@ -9,13 +9,13 @@ use Rattle.yp_concurrent.proofs.Told.{can_be_shown, one_told, told}
 use Rattle.yp_concurrent.proofs.text.push_receivers.Goals as goal
 
 pub listener_text-requires : goal.listener_text-requires
-listener_text-requires g c =
+listener_text-requires c =
     let here = c.requires.logs in
     can_be_shown c.what_is_held_can_be_written.ensures c.args.schema.now here.start (done_for c.loop-receiver.number here.runs) c.in_ok-listener.listener
     (c.in_ok-listener.ensures.its c.args.schema.now here.start here.runs (c.loop-receiver.invariant.have here.start here.runs here.have))
 
 pub loop-receiver-preserved : goal.loop-receiver-preserved
-loop-receiver-preserved g c =
+loop-receiver-preserved c =
     let inv = c.loop-receiver.invariant in
     let nodes = c.args.schema.now in
     let receivers : List ReceiverInfo = c.args.receivers.now in
@@ -37,7 +37,7 @@ loop-receiver-preserved g c =
     }
 
 pub returns : goal.returns
-returns g c = λ start runs have.
+returns c = λ start runs have.
     let inv = c.loop-receiver.invariant in
     let nodes = c.args.schema.now in
     let receivers : List ReceiverInfo = c.args.receivers.now in

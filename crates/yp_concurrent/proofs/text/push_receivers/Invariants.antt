@@ -8,7 +8,7 @@ use Rattle.yp_concurrent.proofs.text.push_receivers.Given as goal
 
 -- the lines so far and those of the receivers that are left are all
 abbrev pub invariant-loop-receiver : goal.invariant-loop-receiver
-invariant-loop-receiver g l = record {
+invariant-loop-receiver l = record {
   number : l.number ≡ l.receiver-index;
   count : length l.listeners.items ≡ length l.fn.listeners.items;
   have : (start : ℕ) (runs : List Run) → HaveLogs l.schema start runs l.fn.listeners.items → HaveLogs l.schema start runs l.listeners.items;

@@ -5,6 +5,7 @@ use Rattle.yp_edit.proofs.edit.stands_above.Given as goal
 
 abbrev pub invariant-loop-segment : goal.invariant-loop-segment
 invariant-loop-segment g l = record {
+  whole : l.above ++ l.rest ≡ l.target;
   nodes : AllByRecursion (λ segment. segment.node < length l.schema) l.rest;
   passed : has_its_row l.schema l.trial.after l.above ≡ true;
   so_far : list_all (λ above. has_its_row l.schema l.trial.after (l.above ++ above)) (paths_above l.rest) ≡ stand_above l.schema l.target l.trial.after;

@@ -7,7 +7,7 @@ use Rattle.yp_live.proofs.text.push_desks.Given as goal
 
 -- the lines so far and those of the desks that are left are all
 abbrev pub invariant-loop-desk : goal.invariant-loop-desk
-invariant-loop-desk g l = record {
+invariant-loop-desk l = record {
   can : CanBeWritten l.schema (into_iter_items l.desk-iterator);
   text : flat_map string_bytes l.parts.items ++ flat_map (desk_text l.schema) (into_iter_items l.desk-iterator) ≡ flat_map string_bytes l.fn.parts.items ++ flat_map (desk_text l.schema) l.fn.desks.items;
 }

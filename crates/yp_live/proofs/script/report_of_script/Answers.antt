@@ -4,10 +4,10 @@ use Rattle.yp_schema.specs.declared.schema.SchemaNode.{SchemaNode}
 use Rattle.yp_live.specs.declared.script.Ran.{Ran}
 use Rattle.yp_live.specs.Runs.{CanBeWritten, IsRunOf, text_from}
 use Rattle.yp_live.proofs.Promises.{run_writable, tells}
-use Rattle.yp_live.proofs.script.report_by.Goals as goal
+use Rattle.yp_live.proofs.script.report_of_script.Goals as goal
 
 pub text_of-requires-clause-desks : goal.text_of-requires-clause-desks
-text_of-requires-clause-desks g c =
+text_of-requires-clause-desks c =
     let script = c.args.script in
     let ran : Ran = c.in_ok-schema.field-0 in
     let is : IsRunOf script ran = c.in_ok-schema.ensures in
@@ -15,7 +15,7 @@ text_of-requires-clause-desks g c =
     (run_writable c.what_receivers_hold_can_be_shown.ensures script.schema script.start script.receivers is.entries ran.run is.is)
 
 pub returns : goal.returns
-returns g c =
+returns c =
     let script = c.args.script in
     let ran : Ran = c.in_ok-schema.field-0 in
     let is : IsRunOf script ran = c.in_ok-schema.ensures in

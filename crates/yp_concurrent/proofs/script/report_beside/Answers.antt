@@ -10,7 +10,7 @@ use Rattle.yp_concurrent.specs.Texts.{HaveLogs, text_beside}
 use Rattle.yp_concurrent.proofs.Going.{replies_count, workers_are}
 use Rattle.yp_concurrent.proofs.Promises.{tells}
 use Rattle.yp_concurrent.proofs.Told.{crews_have}
-use Rattle.yp_concurrent.proofs.script.report_by.Goals as goal
+use Rattle.yp_concurrent.proofs.script.report_beside.Goals as goal
 
 pub text_of-requires-clause-replies : goal.text_of-requires-clause-replies
 text_of-requires-clause-replies g c =
