@@ -91,6 +91,20 @@ impl Keys {
         }
     }
 
+    /// The order of keys, key by key.
+    #[inline(never)]
+    fn order(&self, other: &Keys) -> Ordering
+        ensures { result ≡ slice_cmp atom_cmp self.now other.now }
+    {
+        match &self.place {
+            Place::Several(keys) => {
+                let (rest, other_rest) = without_same(keys.as_slice(), other.items());
+                rest.cmp(other_rest)
+            }
+            _ => self.items().cmp(other.items()),
+        }
+    }
+
     /// How many keys there are.
     pub fn len(&self) -> usize
         ensures { result ≡ length self.now }
@@ -100,6 +114,7 @@ impl Keys {
 }
 
 /// The order of two keys. Most keys are texts, so these come first.
+#[inline(always)]
 fn order_of(one: &Atom, other: &Atom) -> Ordering
     ensures { result ≡ atom_cmp one.now other.now }
 {
@@ -183,20 +198,12 @@ impl Ord for Keys {
 
     ghost matches_eq = { λ x y. lists_ties atom_cmp (λ a b. refl) x y };
 
+    #[inline(always)]
     fn cmp(&self, other: &Keys) -> Ordering {
-        match &self.place {
-            Place::One(one) => match &other.place {
-                Place::One(two) => order_of(one, two),
-                _ => self.items().cmp(other.items()),
-            },
-            Place::Nowhere => match &other.place {
-                Place::Nowhere => Ordering::Equal,
-                _ => self.items().cmp(other.items()),
-            },
-            Place::Several(keys) => {
-                let (rest, other_rest) = without_same(keys.as_slice(), other.items());
-                rest.cmp(other_rest)
-            }
+        match (&self.place, &other.place) {
+            (Place::Nowhere, Place::Nowhere) => Ordering::Equal,
+            (Place::One(one), Place::One(two)) => order_of(one, two),
+            _ => self.order(other),
         }
     }
 }

@@ -134,6 +134,7 @@ impl Ord for Seg {
 
     ghost matches_eq = { λ x y. refl };
 
+    #[inline(always)]
     fn cmp(&self, other: &Seg) -> Ordering {
         match self.node.cmp(&other.node) {
             Ordering::Equal => self.keys.cmp(&other.keys),

@@ -156,7 +156,9 @@ pub fn patch_text(
     requires { AllByRecursion (IsSendableChange schema.now) changes.now }
     ensures { IfOk result (λ text. text ≡ compact_text (patch_data schema.now patch_id changes.now)) }
 {
-    let mut text = String::with_capacity(alloc, 256)?;
+    let room = changes.len().saturating_mul(160).saturating_add(256);
+    let mut text = String::with_capacity(alloc, room)?;
     push_patch(alloc, schema, &mut text, patch_id, changes)?;
+    text.shrink_to_fit();
     Txt::from_string(alloc, text)
 }

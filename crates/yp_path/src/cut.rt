@@ -1,13 +1,7 @@
 //! Texts cut at a mark.
-ghost use Rattle.std.specs.Prelude.{◌≡◌, ◌<◌, ◌==◌, ◌∷◌, false, length, IfOk, MatchOption, position};
+ghost use Rattle.std.specs.Prelude.{◌≡◌, ◌<◌, ◌==◌, ◌∷◌, false, length, MatchOption, position};
 ghost use Rattle.std.specs.List.{position_or_len, before_first, after_first};
-ghost use Rattle.yp_base.specs.Cuts.{begins, cut};
-
-use std::alloc::Global;
-use yp_base::leaf_type::Names;
-use yp_base::memory::NoMemory;
-use yp_base::series::Series;
-use yp_base::txt::text_of;
+ghost use Rattle.yp_base.specs.Cuts.{begins};
 
 /// Where the first such byte stands. Most marks come within a few bytes, where a search by words costs
 /// more than one by bytes.
@@ -35,20 +29,4 @@ pub fn behind(text: &str, mark: char) -> Option<&str>
     ensures { MatchOption result (begins mark text.now ≡ false) (λ x. text.now ≡ mark ∷ x.now) }
 {
     text.strip_prefix(mark)
-}
-
-/// A text cut at each mark.
-#[tactic(auto, using(crate::proofs::Cuts::cut_found, crate::proofs::Cuts::cut_none, crate::proofs::Cuts::put_between))]
-pub fn cut_all(alloc: Global, text: &str, mark: char) -> Result<Names, NoMemory>
-    requires { mark < 128 }
-    ensures { IfOk result (λ parts. parts ≡ cut mark text.now) }
-{
-    let mut parts = Vec::new(alloc);
-    let mut rest = text;
-    while let Some((part, more)) = cut_once(rest, mark) {
-        parts.push(text_of(alloc, part)?)?;
-        rest = more;
-    }
-    parts.push(text_of(alloc, rest)?)?;
-    Ok(Series::from_vec(parts))
 }

@@ -1,9 +1,11 @@
 //! Keys as they stand in a path.
 ghost use Rattle.std.specs.Prelude.{◌≡◌, ◌++◌, IfOk, OnOk, Some, None, true, if◌then◌else◌, string_bytes};
 ghost use Rattle.std.specs.Str.{is_utf8};
+ghost use Rattle.yp_base.specs.Cuts.{cut};
 ghost use Rattle.yp_path.specs.Targets.{keys_read};
 ghost use Rattle.yp_path.specs.Escapes.{escaped, key_read, has_whole_escapes, begins_with_digits, is_hexadecimal};
 
+use crate::cut::cut_once;
 use percent_encoding::{AsciiSet, NON_ALPHANUMERIC, ascii_set, percent_decode, percent_encode};
 use std::alloc::Global;
 use yp_base::leaf_type::Names;
@@ -82,22 +84,28 @@ pub fn read_key(alloc: Global, key: &str) -> Result<Option<Txt>, NoMemory>
     if !has_whole_escapes(key.as_bytes()) {
         return Ok(None);
     }
-    let mut bytes = Vec::new(alloc);
+    let mut bytes = Vec::with_capacity(alloc, key.len())?;
     percent_decode(key.as_bytes()).append_to(&mut bytes)?;
     text_of(alloc, bytes)
 }
 
 /// The texts that keys stand for; none where one has none.
-#[tactic(auto, using(crate::proofs::Cuts::put_between))]
-pub fn read_keys(alloc: Global, keys: &Names) -> Result<Option<Names>, NoMemory>
-    ensures { IfOk result (λ texts. texts ≡ keys_read keys.now) }
+#[tactic(auto, using(crate::proofs::Cuts::cut_found, crate::proofs::Cuts::cut_none, crate::proofs::Cuts::put_between))]
+pub fn read_keys(alloc: Global, keys: &str) -> Result<Option<Names>, NoMemory>
+    ensures { IfOk result (λ texts. texts ≡ keys_read (cut 44 keys.now)) }
 {
     let mut texts = Vec::new(alloc);
-    for key in keys.items() {
-        match read_key(alloc, key.as_str())? {
+    let mut rest = keys;
+    while let Some((key, more)) = cut_once(rest, ',') {
+        match read_key(alloc, key)? {
             Some(text) => texts.push(text)?,
             None => return Ok(None),
         }
+        rest = more;
+    }
+    match read_key(alloc, rest)? {
+        Some(text) => texts.push(text)?,
+        None => return Ok(None),
     }
     Ok(Some(Series::from_vec(texts)))
 }

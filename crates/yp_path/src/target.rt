@@ -337,7 +337,7 @@ pub fn write_target(alloc: Global, schema: &Schema, path: &Path) -> Result<Txt, 
 {
     // What each schema keeps: its types are types.
     let _count = schema.count();
-    let mut text = String::new(alloc);
+    let mut text = String::with_capacity(alloc, 64)?;
     for segment in path.items() {
         push_segment(alloc, schema, &mut text, segment)?;
     }

@@ -4,7 +4,7 @@ ghost use Rattle.yp_base.specs.Cuts.{cut};
 ghost use Rattle.yp_path.specs.Targets.{keys_read};
 ghost use Rattle.yp_path.specs.Texts.{texts_of};
 
-use crate::cut::{cut_all, cut_once};
+use crate::cut::cut_once;
 use crate::escape::read_keys;
 use std::alloc::Global;
 use yp_base::leaf_type::Names;
@@ -21,8 +21,7 @@ pub enum Texts<'a> {
 fn read_escaped<'a>(alloc: Global, keys: &str) -> Result<Option<Texts<'a>>, NoMemory>
     ensures { IfOk result (λ texts. option_map texts_of texts ≡ keys_read (cut 44 keys.now)) }
 {
-    let parts = cut_all(alloc, keys, ',')?;
-    match read_keys(alloc, &parts)? {
+    match read_keys(alloc, keys)? {
         Some(texts) => Ok(Some(Texts::Read(texts))),
         None => Ok(None),
     }
